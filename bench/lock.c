@@ -1,4 +1,4 @@
-/* What lock_bench does, as plain threads that add one to a counter under a plain mutex: lock THREADS TURNS. Standard output has
+/* What the part lock of bench_parts does, as plain threads that add one to a counter under a plain mutex: lock THREADS TURNS. Standard output has
    the counter, standard error how many microseconds it took. */
 #include <pthread.h>
 #include <stdio.h>

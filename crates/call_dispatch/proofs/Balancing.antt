@@ -15,9 +15,10 @@ use Rattle.history.specs.declared.replies.Refused.{Refused}
 use Rattle.history.specs.declared.replies.Refused.TheVariants.{HistoryFull, Full, OutOfMemory}
 use Rattle.space.specs.declared.asked.Asked.{Asked}
 use Rattle.space.specs.Entries.{entry_of}
-use Rattle.space.specs.Ports.{begins, ends, Shows, is_finished, is_started, IsReplyTo, abandoned_at}
-use Rattle.space.specs.Balance.{calls_begun, calls_ended, Balanced}
-use Rattle.call_dispatch.specs.Acts.{entries, acts_of, tells_of, abandoned}
+use Rattle.space.specs.TurnAnswers.{IsReplyTo}
+use Rattle.ports.specs.Ports.{begins, ends, Shows, is_finished, is_started, abandoned_at}
+use Rattle.ports.specs.Balance.{calls_begun, calls_ended, Balanced}
+use Rattle.call_dispatch.specs.Acts.{entries, acts_of, tells_of, abandon_act}
 use Rattle.call_dispatch.specs.Served.{IsFinished}
 use Rattle.call_dispatch.specs.Serving.{RunsOne}
 
@@ -105,7 +106,7 @@ finish_balances object made listed uid moment turn xs runs is =
     (λ o. filter_one (ends o) (entry_of moment (Finish object made listed uid) (Ok turn)) (same_id object o) (and-true (same_id object o) (is_finished turn.reply) (finished_is made turn.reply is))))
 
 -- A call was given up: none runs then.
-pub give_up_balances : (object : ObjId) (moment place : ℕ) (xs : List Asked) → RunsOne object xs → Balanced (xs ++ flat_map entries (abandoned moment object place ∷ []))
+pub give_up_balances : (object : ObjId) (moment place : ℕ) (xs : List Asked) → RunsOne object xs → Balanced (xs ++ flat_map entries (abandon_act moment object place ∷ []))
 give_up_balances object moment place xs runs =
     even_more object xs (abandoned_at moment object place ∷ []) runs (λ o. refl) (λ o. filter_one (ends o) (abandoned_at moment object place) (same_id object o) refl)
 

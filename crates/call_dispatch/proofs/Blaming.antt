@@ -16,13 +16,13 @@ use Rattle.call_dispatch.specs.declared.end.ConnEnd.TheVariants as ends
 use Rattle.call_dispatch.specs.declared.outcome.Invocation.{Invocation}
 use Rattle.call_dispatch.specs.declared.outcome.Outcome.{Outcome}
 use Rattle.call_dispatch.specs.declared.returns.Answer.{Answer}
-use Rattle.call_dispatch.specs.Acts.{Call, States, Side}
+use Rattle.call_dispatch.specs.Acts.{Call, States, Observed}
 use Rattle.call_dispatch.specs.End.{IsWriteFault}
 use Rattle.call_dispatch.specs.Faults.{FaultCounts, Blames, BlamesIn}
 use Rattle.call_dispatch.specs.Served.{AtHead, absent, refused, begun, unknown, ran, served_closes}
 use Rattle.call_dispatch.specs.Progress.{Writes, end_from}
-use Rattle.call_dispatch.specs.Terms.{Terms}
-use Rattle.call_dispatch.specs.Serving.{Answers, closing, Sends}
+use Rattle.system_objects.specs.Terms.{Terms}
+use Rattle.call_dispatch.specs.Serving.{Answers, result_or_close, Sends}
 
 -- the counts of a source and a sink
 abbrev pub counts : ℕ → ℕ → FaultCounts
@@ -67,7 +67,7 @@ memory_blames f f2 k end le memory =
     subst P (sym memory) (blameless f f2 k ends.OutOfMemory le ((λ same. cc), (λ w. w)))
 
 -- The connection ended in a Call whose head was read behind these counts.
-pub ended_blames : (may : Invocation → Outcome → Type 0) (moves : States → Call → States → Type 0) (terms : Terms) (uid : Uid) (head : CallHead) (first now : PullState) (a b : Side) (drawn drew k : ℕ) (end : ConnEnd)
+pub ended_blames : (may : Invocation → Outcome → Type 0) (moves : States → Call → States → Type 0) (terms : Terms) (uid : Uid) (head : CallHead) (first now : PullState) (a b : Observed) (drawn drew k : ℕ) (end : ConnEnd)
     → Answers may moves terms uid head first now a b drawn drew (Err end) → Blames (counts first.faults k) (counts now.faults k) end
 ended_blames may moves terms uid head first now a b drawn drew k end how = elim how [
   | inl (memory, (s, bytes, takes, is, (acts, led, cut))) ↦ memory_blames first.faults now.faults k end takes.faults memory
@@ -91,7 +91,7 @@ write_is : (sent : ℕ) (end : ConnEnd) → end ≡ ends.WriteFault sent → end
 write_is sent end how same = cc
 
 pub sent_blames : (f g k l sent : ℕ) (held held2 : Option (List ℕ)) (bytes : List ℕ) (written : Result ℕ ConnEnd) (close : Option ConnEnd) → f ≤ g → AreBlameless close
-    → Writes held held2 sent bytes written → OnErr written (Rose k l) → k ≤ l → BlamesIn (counts f k) (counts g l) (closing written close)
+    → Writes held held2 sent bytes written → OnErr written (Rose k l) → k ≤ l → BlamesIn (counts f k) (counts g l) (result_or_close written close)
 sent_blames f g k l sent held held2 bytes (Ok sent2) None le none writes rose kept = record { source = le; sink = kept }
 sent_blames f g k l sent held held2 bytes (Ok sent2) (Some end) le none writes rose kept =
     record { read_fault = (λ same. absurd (none.0 same)); write_fault = (λ w. absurd (none.1 w)); source = le; sink = kept }
@@ -106,7 +106,7 @@ sends_blame f g k l sent held held2 head s answer result le closes sends =
     subst P (sym sends.is) (sent_blames f g k l sent held held2 answer.bytes sends.written answer.close le (subst (λ (c : Option ConnEnd). AreBlameless c) (sym closes) (closes_blameless head s)) sends.writes sends.rose sends.kept)
 
 -- A Call was answered, and its answer sent.
-pub call_blames : (may : Invocation → Outcome → Type 0) (moves : States → Call → States → Type 0) (terms : Terms) (uid : Uid) (head : CallHead) (first now : PullState) (a b : Side) (drawn drew k l sent : ℕ) (held held2 : Option (List ℕ)) (answer : Answer) (result : Result ℕ ConnEnd)
+pub call_blames : (may : Invocation → Outcome → Type 0) (moves : States → Call → States → Type 0) (terms : Terms) (uid : Uid) (head : CallHead) (first now : PullState) (a b : Observed) (drawn drew k l sent : ℕ) (held held2 : Option (List ℕ)) (answer : Answer) (result : Result ℕ ConnEnd)
     → Answers may moves terms uid head first now a b drawn drew (Ok answer) → Sends held held2 k l sent answer result → BlamesIn (counts first.faults k) (counts now.faults l) result
 call_blames may moves terms uid head first now a b drawn drew k l sent held held2 answer result (s, bytes, takes, is, led, bytes_are, closes) sends =
     sends_blame first.faults now.faults k l sent held held2 head s answer result takes.faults closes sends

@@ -22,20 +22,20 @@ use Rattle.jrmp_frames.specs.Frames.{code_byte}
 use Rattle.jrmp_frames.specs.Messages.{head_bytes, wants_of, CallBytes}
 use Rattle.jrmp_frames.specs.Calls.{head_at}
 use Rattle.jrmp_frames.proofs.CallLaws.{call_is_one}
-use Rattle.call_dispatch.specs.declared.book.Kind.{Kind}
+use Rattle.system_objects.specs.declared.book.Kind.{Kind}
 use Rattle.call_dispatch.specs.declared.end.ConnEnd.{ConnEnd}
 use Rattle.call_dispatch.specs.declared.outcome.Outcome.{Outcome}
 use Rattle.call_dispatch.specs.End.{IsSettled}
-use Rattle.call_dispatch.specs.Acts.{acts_of, abandoned}
-use Rattle.call_dispatch.specs.Book.{methods_of}
+use Rattle.call_dispatch.specs.Acts.{acts_of, abandon_act}
+use Rattle.system_objects.specs.Book.{methods_of}
 use Rattle.call_dispatch.specs.Inside.{BreaksAt}
 use Rattle.call_dispatch.specs.Results.{listed_by, normal_return}
 use Rattle.call_dispatch.specs.Served.{EndsWithHead, FitsHead, Conclusion, finished, denied, faulted, IsConclusion, Running, unknown, ran, IsMethodOf, HasNoMethod, IsRunning, AtHead, absent, refused, begun, served_acts, IsServed}
-use Rattle.call_dispatch.specs.Spot.{Course, took}
+use Rattle.call_dispatch.specs.ConnectionState.{Transcript, bytes_taken}
 use Rattle.ser_values.specs.declared.limits.TheConstants.{MESSAGE_BYTES}
 use Rattle.call_dispatch.specs.Dialogue.{EndsInHead, EndsInArguments}
-use Rattle.call_dispatch.specs.Terms.{Terms}
-use Rattle.call_dispatch.specs.Tape.{Tick, answered, tape}
+use Rattle.system_objects.specs.Terms.{Terms}
+use Rattle.call_dispatch.specs.Tape.{OutsideAnswer, turn_answer, tape}
 use Rattle.call_dispatch.proofs.HeadReads.{head_given, one_front, same_head, Begins, call_begins}
 use Rattle.call_dispatch.proofs.Breaks.{same_behind, breaks_one, breaks_read, breaks_within}
 use Rattle.call_dispatch.proofs.Tapes.{turn_tape, conclusion_ticks, running_ticks, served_ticks, served_tape}
@@ -83,9 +83,9 @@ pub arguments_same : (a b : Arguments) → a.graph.nodes ≡ b.graph.nodes → a
 arguments_same a b n i v = ap (λ (g : Graph). arguments_with g a.values) (graph_same a.graph b.graph n i) ∙ ap (λ (l : List Arg). arguments_with b.graph l) v
 
 -- An outcome of a call comes to one conclusion.
-conclusion_one : (terms : Terms) (uid : Uid) (returned returned2 : Option TypeCode) (outcome outcome2 : Outcome) (c c2 : Conclusion) (t t2 : List Tick) → outcome ≡ outcome2
-    → IsConclusion terms uid returned outcome c → IsConclusion terms uid returned2 outcome2 c2 → conclusion_ticks c ++ t ≡ conclusion_ticks c2 ++ t2 → (c ≡ c2) × (t ≡ t2)
-conclusion_one terms uid returned returned2 outcome outcome2 (finished listed moment turn bytes) (finished listed2 moment2 turn2 bytes2) t t2 same (fit, (lists, over, is)) (fit2, (lists2, over2, is2)) e =
+conclusion_one : (terms : Terms) (uid : Uid) (result_type result_type2 : Option TypeCode) (outcome outcome2 : Outcome) (c c2 : Conclusion) (t t2 : List OutsideAnswer) → outcome ≡ outcome2
+    → IsConclusion terms uid result_type outcome c → IsConclusion terms uid result_type2 outcome2 c2 → conclusion_ticks c ++ t ≡ conclusion_ticks c2 ++ t2 → (c ≡ c2) × (t ≡ t2)
+conclusion_one terms uid result_type result_type2 outcome outcome2 (finished listed moment turn bytes) (finished listed2 moment2 turn2 bytes2) t t2 same (fit, (lists, over, is)) (fit2, (lists2, over2, is2)) e =
     let moments : moment ≡ moment2 = cc in
     let turns : turn ≡ turn2 = cc in
     let lists_same : listed ≡ listed2 = lists ∙ ap (listed_by terms) same ∙ sym lists2 in
@@ -93,17 +93,17 @@ conclusion_one terms uid returned returned2 outcome outcome2 (finished listed mo
       ap (λ x. finished x moment turn bytes) lists_same ∙ ap (λ x. finished listed2 x turn bytes) moments ∙ ap (λ x. finished listed2 moment2 x bytes) turns ∙ ap (λ x. finished listed2 moment2 turn2 x) bytes_same,
       ap (drop 1) e,
     )
-conclusion_one terms uid returned returned2 outcome outcome2 (finished listed moment turn bytes) (denied listed2 moment2 refusal at place) t t2 same is is2 e = absurd (cc)
-conclusion_one terms uid returned returned2 outcome outcome2 (finished listed moment turn bytes) (faulted moment2 place) t t2 same is is2 e = absurd (cc)
-conclusion_one terms uid returned returned2 outcome outcome2 (denied listed moment refusal at place) (finished listed2 moment2 turn bytes) t t2 same is is2 e = absurd (cc)
-conclusion_one terms uid returned returned2 outcome outcome2 (denied listed moment refusal at place) (denied listed2 moment2 refusal2 at2 place2) t t2 same (fit, (lists, other)) (fit2, (lists2, other2)) e =
+conclusion_one terms uid result_type result_type2 outcome outcome2 (finished listed moment turn bytes) (denied listed2 moment2 refusal at place) t t2 same is is2 e = absurd (cc)
+conclusion_one terms uid result_type result_type2 outcome outcome2 (finished listed moment turn bytes) (faulted moment2 place) t t2 same is is2 e = absurd (cc)
+conclusion_one terms uid result_type result_type2 outcome outcome2 (denied listed moment refusal at place) (finished listed2 moment2 turn bytes) t t2 same is is2 e = absurd (cc)
+conclusion_one terms uid result_type result_type2 outcome outcome2 (denied listed moment refusal at place) (denied listed2 moment2 refusal2 at2 place2) t t2 same (fit, (lists, other)) (fit2, (lists2, other2)) e =
     let lists_same : listed ≡ listed2 = lists ∙ ap (listed_by terms) same ∙ sym lists2 in
     let ticked : denied listed2 moment refusal at place ≡ denied listed2 moment2 refusal2 at2 place2 = cc in
     (ap (λ x. denied x moment refusal at place) lists_same ∙ ticked, ap (drop 2) e)
-conclusion_one terms uid returned returned2 outcome outcome2 (denied listed moment refusal at place) (faulted moment2 place2) t t2 same is is2 e = absurd (cc)
-conclusion_one terms uid returned returned2 outcome outcome2 (faulted moment place) (finished listed2 moment2 turn bytes) t t2 same is is2 e = absurd (cc)
-conclusion_one terms uid returned returned2 outcome outcome2 (faulted moment place) (denied listed2 moment2 refusal at place2) t t2 same is is2 e = absurd (cc)
-conclusion_one terms uid returned returned2 outcome outcome2 (faulted moment place) (faulted moment2 place2) t t2 same is is2 e = ((cc), (cc))
+conclusion_one terms uid result_type result_type2 outcome outcome2 (denied listed moment refusal at place) (faulted moment2 place2) t t2 same is is2 e = absurd (cc)
+conclusion_one terms uid result_type result_type2 outcome outcome2 (faulted moment place) (finished listed2 moment2 turn bytes) t t2 same is is2 e = absurd (cc)
+conclusion_one terms uid result_type result_type2 outcome outcome2 (faulted moment place) (denied listed2 moment2 refusal at place2) t t2 same is is2 e = absurd (cc)
+conclusion_one terms uid result_type result_type2 outcome outcome2 (faulted moment place) (faulted moment2 place2) t t2 same is is2 e = ((cc), (cc))
 
 abbrev some_place : ℕ → Option ℕ
 some_place place = Some place
@@ -132,11 +132,11 @@ known_same kinds kind head place place2 method method2 known known2 is is2 =
     let places : place ≡ place2 = place_same place place2 (sym known.1 ∙ known2.1) in
     (places, method_same method method2 (sym is ∙ ap (slice_get (methods_of kinds kind)) places ∙ is2))
 
-abbrev OneRunning : Running → Running → List ℕ → List ℕ → List Tick → List Tick → Type 0
+abbrev OneRunning : Running → Running → List ℕ → List ℕ → List OutsideAnswer → List OutsideAnswer → Type 0
 OneRunning r r2 bytes bytes2 t t2 = (r ≡ r2) × (bytes ≡ bytes2) × (t ≡ t2)
 
 -- A Call that was read whole is invoked with one list of arguments.
-ran_same : (terms : Terms) (uid : Uid) (head : CallHead) (method method2 : Method) (place place2 : ℕ) (a a2 : Arguments) (o o2 : Outcome) (c c2 : Conclusion) (bytes bytes2 rest rest2 : List ℕ) (t t2 : List Tick)
+ran_same : (terms : Terms) (uid : Uid) (head : CallHead) (method method2 : Method) (place place2 : ℕ) (a a2 : Arguments) (o o2 : Outcome) (c c2 : Conclusion) (bytes bytes2 rest rest2 : List ℕ) (t t2 : List OutsideAnswer)
     → place ≡ place2 → method ≡ method2 → CallBytes head method.params a (0x50 ∷ bytes) → CallBytes head method2.params a2 (0x50 ∷ bytes2)
     → IsConclusion terms uid method.result o c → IsConclusion terms uid method2.result o2 c2 → bytes ++ rest ≡ bytes2 ++ rest2 → running_ticks (ran place a o c) ++ t ≡ running_ticks (ran place2 a2 o2 c2) ++ t2 → OneRunning (ran place a o c) (ran place2 a2 o2 c2) bytes bytes2 t t2
 ran_same terms uid head method method2 place place2 a a2 o o2 c c2 bytes bytes2 rest rest2 t t2 places methods call call2 is is2 input e =
@@ -151,7 +151,7 @@ ran_same terms uid head method method2 place place2 a a2 o o2 c c2 bytes bytes2 
       one.1,
     )
 
-running_one : (terms : Terms) (head : CallHead) (kind : ℕ) (bytes bytes2 : List ℕ) (uid : Uid) (r r2 : Running) (rest rest2 : List ℕ) (t t2 : List Tick) → IsRunning terms head kind bytes uid r → IsRunning terms head kind bytes2 uid r2
+running_one : (terms : Terms) (head : CallHead) (kind : ℕ) (bytes bytes2 : List ℕ) (uid : Uid) (r r2 : Running) (rest rest2 : List ℕ) (t t2 : List OutsideAnswer) → IsRunning terms head kind bytes uid r → IsRunning terms head kind bytes2 uid r2
     → bytes ++ rest ≡ bytes2 ++ rest2 → running_ticks r ++ t ≡ running_ticks r2 ++ t2 → OneRunning r r2 bytes bytes2 t t2
 running_one terms head kind bytes bytes2 uid (unknown moment place) (unknown moment2 place2) rest rest2 t t2 ((left, a), none) ((left2, b), none2) input e =
     ((cc), front_same head bytes bytes2 rest rest2 left left2 a b input, (cc))
@@ -171,11 +171,11 @@ not_started turn turn2 kind same is is2 =
     let replies : NoObject ≡ Started kind = sym is ∙ ap (λ (x : Turn). x.reply) same ∙ is2 in
     cc
 
-abbrev OneServed : AtHead → AtHead → List ℕ → List ℕ → List Tick → List Tick → Type 0
+abbrev OneServed : AtHead → AtHead → List ℕ → List ℕ → List OutsideAnswer → List OutsideAnswer → Type 0
 OneServed s s2 bytes bytes2 t t2 = (s ≡ s2) × (bytes ≡ bytes2) × (t ≡ t2)
 
 -- A Call of one head is served in one way.
-pub served_one : (terms : Terms) (head : CallHead) (bytes bytes2 : List ℕ) (uid : Uid) (s s2 : AtHead) (rest rest2 : List ℕ) (t t2 : List Tick) → IsServed terms head bytes uid s → IsServed terms head bytes2 uid s2
+pub served_one : (terms : Terms) (head : CallHead) (bytes bytes2 : List ℕ) (uid : Uid) (s s2 : AtHead) (rest rest2 : List ℕ) (t t2 : List OutsideAnswer) → IsServed terms head bytes uid s → IsServed terms head bytes2 uid s2
     → bytes ++ rest ≡ bytes2 ++ rest2 → served_ticks s ++ t ≡ served_ticks s2 ++ t2 → OneServed s s2 bytes bytes2 t t2
 served_one terms head bytes bytes2 uid (absent moment turn) (absent moment2 turn2) rest rest2 t t2 ((left, a), none) ((left2, b), none2) input e =
     ((cc), front_same head bytes bytes2 rest rest2 left left2 a b input, (cc))
@@ -200,7 +200,7 @@ served_one terms head bytes bytes2 uid (begun moment turn kind r) (begun moment2
 
 -- ---- ends in a Call
 
-abbrev pub InCall : List Kind → ℕ → Course → List ℕ → ConnEnd → Type 0
+abbrev pub InCall : List Kind → ℕ → Transcript → List ℕ → ConnEnd → Type 0
 InCall kinds at tail rest end = EndsInHead at tail (Some rest) end ⊎ EndsInArguments kinds at tail (Some rest) end
 
 -- What was taken of a head that isn't read whole doesn't begin with a head, within the limit.
@@ -222,31 +222,31 @@ abbrev ArgumentsBreak : ℕ → List ℕ → ConnEnd → CallHead → List ℕ �
 ArgumentsBreak at rest end head front left method more =
     BreaksAt (λ last. serve_to_close last (wants_of method.params) (inside_block (head_bytes head) left)) (at + 1 + length front) (at + MESSAGE_BYTES) more (Some rest) end
 
-head_read_whole : (kinds : List Kind) (at : ℕ) (tail : Course) (rest : List ℕ) (end : ConnEnd) (a : EndsInArguments kinds at tail (Some rest) end) → IsSettled end → at + 1 + length a.front ≤ at + MESSAGE_BYTES
+head_read_whole : (kinds : List Kind) (at : ℕ) (tail : Transcript) (rest : List ℕ) (end : ConnEnd) (a : EndsInArguments kinds at tail (Some rest) end) → IsSettled end → at + 1 + length a.front ≤ at + MESSAGE_BYTES
 head_read_whole kinds at tail rest end a settled =
     breaks_within (λ last. serve_to_close last (wants_of a.method.params) (inside_block (head_bytes a.head) a.left)) (at + 1 + length a.front) (at + MESSAGE_BYTES) a.more rest end a.breaks settled
 
 -- Reading ends in a head or behind it, not both.
-head_or_behind : (kinds : List Kind) (at : ℕ) (more rest more2 rest2 : List ℕ) (tail2 : Course) (end end2 : ConnEnd) → BreaksAt head_at (at + 1) (at + MESSAGE_BYTES) more (Some rest) end → IsSettled end
+head_or_behind : (kinds : List Kind) (at : ℕ) (more rest more2 rest2 : List ℕ) (tail2 : Transcript) (end end2 : ConnEnd) → BreaksAt head_at (at + 1) (at + MESSAGE_BYTES) more (Some rest) end → IsSettled end
     → (a : EndsInArguments kinds at tail2 (Some rest2) end2) → IsSettled end2 → more2 ≡ a.front ++ a.more → more ++ rest ≡ more2 ++ rest2 → ⊥
 head_or_behind kinds at more rest more2 rest2 tail2 end end2 breaks settled a settled2 is input =
     let whole : more2 ++ rest2 ≡ a.front ++ (a.more ++ rest2) = ap (λ (l : List ℕ). l ++ rest2) is ∙ append_assoc a.front a.more rest2 in
     head_unread at more rest a.front (a.more ++ rest2) end a.head a.left breaks settled a.heading (head_read_whole kinds at tail2 rest2 end2 a settled2) (sym whole ∙ sym input)
 
 -- what the outside hands in where a call is begun and given up
-abbrev ends_ticks : ℕ → Turn → ℕ → ℕ → List Tick
-ends_ticks moment turn moment2 place = answered moment (Turned turn) ∷ answered moment2 (Abandoned place) ∷ []
+abbrev ends_ticks : ℕ → Turn → ℕ → ℕ → List OutsideAnswer
+ends_ticks moment turn moment2 place = turn_answer moment (Turned turn) ∷ turn_answer moment2 (Abandoned place) ∷ []
 
-ends_ticks_same : (m n : ℕ) (t u : Turn) (m2 n2 p q : ℕ) (more others : List Tick) → ends_ticks m t m2 p ++ more ≡ ends_ticks n u n2 q ++ others → (m ≡ n) × (t ≡ u) × (m2 ≡ n2) × (p ≡ q)
+ends_ticks_same : (m n : ℕ) (t u : Turn) (m2 n2 p q : ℕ) (more others : List OutsideAnswer) → ends_ticks m t m2 p ++ more ≡ ends_ticks n u n2 q ++ others → (m ≡ n) × (t ≡ u) × (m2 ≡ n2) × (p ≡ q)
 ends_ticks_same m n t u m2 n2 p q more others e = ((cc), (cc), (cc), (cc))
 
-arguments_tape : (kinds : List Kind) (at : ℕ) (tail : Course) (rest : List ℕ) (end : ConnEnd) (a : EndsInArguments kinds at tail (Some rest) end) → tape tail.acts ≡ ends_ticks a.moment a.turn a.moment2 a.place2
-arguments_tape kinds at tail rest end a = ap (λ (c : Course). tape c.acts) a.tail_is ∙ turn_tape a.moment (Begin a.head.id) a.turn (abandoned a.moment2 a.head.id a.place2 ∷ [])
+arguments_tape : (kinds : List Kind) (at : ℕ) (tail : Transcript) (rest : List ℕ) (end : ConnEnd) (a : EndsInArguments kinds at tail (Some rest) end) → tape tail.acts ≡ ends_ticks a.moment a.turn a.end_moment a.end_place
+arguments_tape kinds at tail rest end a = ap (λ (c : Transcript). tape c.acts) a.tail_is ∙ turn_tape a.moment (Begin a.head.id) a.turn (abandon_act a.end_moment a.head.id a.end_place ∷ [])
 
 -- what comes where reading ends in the arguments, by its parts
-abbrev tail_of : ObjId → List ℕ → List ℕ → ℕ → Turn → ℕ → ℕ → Course
+abbrev tail_of : ObjId → List ℕ → List ℕ → ℕ → Turn → ℕ → ℕ → Transcript
 tail_of object front more moment turn moment2 place =
-    record { taken = code_byte Call ∷ front ++ more; acts = acts_of moment (Begin object) (Ok turn) ++ abandoned moment2 object place ∷ []; draws = 0; written = [] }
+    record { taken = code_byte Call ∷ front ++ more; acts = acts_of moment (Begin object) (Ok turn) ++ abandon_act moment2 object place ∷ []; draws = 0; written = [] }
 
 tail_same : (o o2 : ObjId) (f f2 m m2 : List ℕ) (x x2 : ℕ) (t t2 : Turn) (y y2 p p2 : ℕ) → o ≡ o2 → f ≡ f2 → m ≡ m2 → x ≡ x2 → t ≡ t2 → y ≡ y2 → p ≡ p2 → tail_of o f m x t y p ≡ tail_of o2 f2 m2 x2 t2 y2 p2
 tail_same o o2 f f2 m m2 x x2 t t2 y y2 p p2 os fs ms xs ts ys ps =
@@ -254,17 +254,17 @@ tail_same o o2 f f2 m m2 x x2 t t2 y y2 p p2 os fs ms xs ts ys ps =
     ∙ ap (λ z. tail_of o2 f2 m2 x2 z y p) ts ∙ ap (λ z. tail_of o2 f2 m2 x2 t2 z p) ys ∙ ap (λ z. tail_of o2 f2 m2 x2 t2 y2 z) ps
 
 -- Reading ends in the arguments of a Call in one way.
-arguments_one : (kinds : List Kind) (at : ℕ) (tail tail2 : Course) (rest rest2 : List ℕ) (end end2 : ConnEnd) (t t2 : List Tick) → (a : EndsInArguments kinds at tail (Some rest) end) → IsSettled end
+arguments_one : (kinds : List Kind) (at : ℕ) (tail tail2 : Transcript) (rest rest2 : List ℕ) (end end2 : ConnEnd) (t t2 : List OutsideAnswer) → (a : EndsInArguments kinds at tail (Some rest) end) → IsSettled end
     → (b : EndsInArguments kinds at tail2 (Some rest2) end2) → IsSettled end2 → tail.taken ++ rest ≡ tail2.taken ++ rest2 → tape tail.acts ++ t ≡ tape tail2.acts ++ t2 → (end ≡ end2) × (tail ≡ tail2)
 arguments_one kinds at tail tail2 rest rest2 end end2 t t2 a settled b settled2 input ticking =
     let behind : (a.front ++ a.more) ++ rest ≡ (b.front ++ b.more) ++ rest2 =
-    ap (drop 1) (sym (ap (λ (c : Course). c.taken ++ rest) a.tail_is) ∙ input ∙ ap (λ (c : Course). c.taken ++ rest2) b.tail_is) in
+    ap (drop 1) (sym (ap (λ (c : Transcript). c.taken ++ rest) a.tail_is) ∙ input ∙ ap (λ (c : Transcript). c.taken ++ rest2) b.tail_is) in
     let parts : a.front ++ (a.more ++ rest) ≡ b.front ++ (b.more ++ rest2) = sym (append_assoc a.front a.more rest) ∙ behind ∙ append_assoc b.front b.more rest2 in
     let same = one_front a.head b.head a.front b.front (a.more ++ rest) (b.more ++ rest2) a.left b.left a.heading b.heading parts in
     let heads : a.head ≡ b.head = same_head a.head b.head a.numbers b.numbers same.0 in
-    let handed : ends_ticks a.moment a.turn a.moment2 a.place2 ++ t ≡ ends_ticks b.moment b.turn b.moment2 b.place2 ++ t2 =
-    ap (λ (l : List Tick). l ++ t) (sym (arguments_tape kinds at tail rest end a)) ∙ ticking ∙ ap (λ (l : List Tick). l ++ t2) (arguments_tape kinds at tail2 rest2 end2 b) in
-    let ticked = ends_ticks_same a.moment b.moment a.turn b.turn a.moment2 b.moment2 a.place2 b.place2 t t2 handed in
+    let handed : ends_ticks a.moment a.turn a.end_moment a.end_place ++ t ≡ ends_ticks b.moment b.turn b.end_moment b.end_place ++ t2 =
+    ap (λ (l : List OutsideAnswer). l ++ t) (sym (arguments_tape kinds at tail rest end a)) ∙ ticking ∙ ap (λ (l : List OutsideAnswer). l ++ t2) (arguments_tape kinds at tail2 rest2 end2 b) in
+    let ticked = ends_ticks_same a.moment b.moment a.turn b.turn a.end_moment b.end_moment a.end_place b.end_place t t2 handed in
     let same_kind : a.kind ≡ b.kind = started_same a.turn b.turn a.kind b.kind ticked.1 a.started b.started in
     let P : ℕ → Type 0 = λ k. IsMethodOf kinds k a.head b.place in
     let Q : CallHead → Type 0 = λ h. IsMethodOf kinds b.kind h b.place in
@@ -279,12 +279,12 @@ arguments_one kinds at tail tail2 rest rest2 end end2 t t2 a settled b settled2 
     let one = breaks_one (λ last. serve_to_close last (wants_of a.method.params) (inside_block (head_bytes a.head) a.left)) (at + 1 + length a.front) (at + MESSAGE_BYTES) a.more b.more rest rest2 end end2
     a.breaks settled breaks settled2 same.3 in (
       one.0,
-      a.tail_is ∙ tail_same a.head.id b.head.id a.front b.front a.more b.more a.moment b.moment a.turn b.turn a.moment2 b.moment2 a.place2 b.place2
+      a.tail_is ∙ tail_same a.head.id b.head.id a.front b.front a.more b.more a.moment b.moment a.turn b.turn a.end_moment b.end_moment a.end_place b.end_place
           (ap (λ (h : CallHead). h.id) heads) same.2 one.1 ticked.0 ticked.1 ticked.2 ticked.3 ∙ sym b.tail_is,
     )
 
 -- A call that is given up isn't served.
-not_given_up : (terms : Terms) (head : CallHead) (bytes : List ℕ) (uid : Uid) (moment : ℕ) (turn : Turn) (kind place moment2 place2 : ℕ) (s : AtHead) (t u : List Tick) → turn.reply ≡ Started kind → IsMethodOf terms.kinds kind head place
+not_given_up : (terms : Terms) (head : CallHead) (bytes : List ℕ) (uid : Uid) (moment : ℕ) (turn : Turn) (kind place moment2 place2 : ℕ) (s : AtHead) (t u : List OutsideAnswer) → turn.reply ≡ Started kind → IsMethodOf terms.kinds kind head place
     → IsServed terms head bytes uid s → ends_ticks moment turn moment2 place2 ++ t ≡ served_ticks s ++ u → ⊥
 not_given_up terms head bytes uid moment turn kind place moment2 place2 (absent moment3 turn2) t u started known (h, none) e =
     let turns : turn2 ≡ turn = cc in not_started turn2 turn kind turns none started
@@ -296,50 +296,50 @@ not_given_up terms head bytes uid moment turn kind place moment2 place2 (begun m
 not_given_up terms head bytes uid moment turn kind place moment2 place2 (begun moment3 turn2 kind2 (ran place3 arguments outcome conclusion)) t u started known is e = cc
 
 -- Reading doesn't end in the arguments of a Call that is served.
-arguments_not_served : (terms : Terms) (at : ℕ) (tail : Course) (rest : List ℕ) (end : ConnEnd) (head : CallHead) (bytes : List ℕ) (uid : Uid) (s : AtHead) (xs : List ℕ) (t u : List Tick)
+arguments_not_served : (terms : Terms) (at : ℕ) (tail : Transcript) (rest : List ℕ) (end : ConnEnd) (head : CallHead) (bytes : List ℕ) (uid : Uid) (s : AtHead) (xs : List ℕ) (t u : List OutsideAnswer)
     → EndsInArguments terms.kinds at tail (Some rest) end → FitsHead head → IsServed terms head bytes uid s → tail.taken ++ rest ≡ code_byte Call ∷ (bytes ++ xs) → tape tail.acts ++ t ≡ tape (served_acts head uid s) ++ u → ⊥
 arguments_not_served terms at tail rest end head bytes uid s xs t u a fits is input ticking =
     let b = served_begins terms head bytes uid s is in
-    let behind : (a.front ++ a.more) ++ rest ≡ bytes ++ xs = ap (drop 1) (sym (ap (λ (c : Course). c.taken ++ rest) a.tail_is) ∙ input) in
+    let behind : (a.front ++ a.more) ++ rest ≡ bytes ++ xs = ap (drop 1) (sym (ap (λ (c : Transcript). c.taken ++ rest) a.tail_is) ∙ input) in
     let mine : Begins a.head (a.front ++ a.more) = record { front = a.front; left = a.left; more = a.more; is = refl; heading = a.heading } in
     let heads : a.head ≡ head = begin_same a.head head (a.front ++ a.more) bytes rest xs a.numbers fits mine b behind in
     let P : CallHead → Type 0 = λ h. IsMethodOf terms.kinds a.kind h a.place in
-    let handed : ends_ticks a.moment a.turn a.moment2 a.place2 ++ t ≡ served_ticks s ++ u =
-    ap (λ (l : List Tick). l ++ t) (sym (arguments_tape terms.kinds at tail rest end a)) ∙ ticking ∙ ap (λ (l : List Tick). l ++ u) (served_tape terms head bytes uid s is) in
-    not_given_up terms head bytes uid a.moment a.turn a.kind a.place a.moment2 a.place2 s t u a.started (subst P heads a.known) is handed
+    let handed : ends_ticks a.moment a.turn a.end_moment a.end_place ++ t ≡ served_ticks s ++ u =
+    ap (λ (l : List OutsideAnswer). l ++ t) (sym (arguments_tape terms.kinds at tail rest end a)) ∙ ticking ∙ ap (λ (l : List OutsideAnswer). l ++ u) (served_tape terms head bytes uid s is) in
+    not_given_up terms head bytes uid a.moment a.turn a.kind a.place a.end_moment a.end_place s t u a.started (subst P heads a.known) is handed
 
 -- ---- a Call in which reading ends, beside others
 
-abbrev OneEnd : ConnEnd → ConnEnd → Course → Course → List ℕ → List ℕ → Type 0
+abbrev OneEnd : ConnEnd → ConnEnd → Transcript → Transcript → List ℕ → List ℕ → Type 0
 OneEnd end end2 tail tail2 rest rest2 = (end ≡ end2) × (tail ≡ tail2) × (rest ≡ rest2)
 
 -- The rest of one input is one.
-with_rests : (end end2 : ConnEnd) (tail tail2 : Course) (rest rest2 : List ℕ) → tail.taken ++ rest ≡ tail2.taken ++ rest2 → end ≡ end2 → tail ≡ tail2 → OneEnd end end2 tail tail2 rest rest2
-with_rests end end2 tail tail2 rest rest2 input ends tails = (ends, tails, same_behind tail.taken tail2.taken rest rest2 (ap (λ (c : Course). c.taken) tails) input)
+with_rests : (end end2 : ConnEnd) (tail tail2 : Transcript) (rest rest2 : List ℕ) → tail.taken ++ rest ≡ tail2.taken ++ rest2 → end ≡ end2 → tail ≡ tail2 → OneEnd end end2 tail tail2 rest rest2
+with_rests end end2 tail tail2 rest rest2 input ends tails = (ends, tails, same_behind tail.taken tail2.taken rest rest2 (ap (λ (c : Transcript). c.taken) tails) input)
 
 -- what comes behind the code of a Call in whose head reading ends
-pub head_behind : (at : ℕ) (tail : Course) (rest more2 rest2 : List ℕ) (end : ConnEnd) (a : EndsInHead at tail (Some rest) end) → tail.taken ++ rest ≡ code_byte Call ∷ (more2 ++ rest2) → a.0 ++ rest ≡ more2 ++ rest2
-head_behind at tail rest more2 rest2 end (more, is, breaks) input = ap (drop 1) (sym (ap (λ (c : Course). c.taken ++ rest) is) ∙ input)
+pub head_behind : (at : ℕ) (tail : Transcript) (rest more2 rest2 : List ℕ) (end : ConnEnd) (a : EndsInHead at tail (Some rest) end) → tail.taken ++ rest ≡ code_byte Call ∷ (more2 ++ rest2) → a.0 ++ rest ≡ more2 ++ rest2
+head_behind at tail rest more2 rest2 end (more, is, breaks) input = ap (drop 1) (sym (ap (λ (c : Transcript). c.taken ++ rest) is) ∙ input)
 
 -- Reading ends in a Call in one way.
-pub in_call_one : (kinds : List Kind) (at : ℕ) (tail tail2 : Course) (rest rest2 : List ℕ) (end end2 : ConnEnd) (t t2 : List Tick) → InCall kinds at tail rest end → IsSettled end → InCall kinds at tail2 rest2 end2 → IsSettled end2
+pub in_call_one : (kinds : List Kind) (at : ℕ) (tail tail2 : Transcript) (rest rest2 : List ℕ) (end end2 : ConnEnd) (t t2 : List OutsideAnswer) → InCall kinds at tail rest end → IsSettled end → InCall kinds at tail2 rest2 end2 → IsSettled end2
     → tail.taken ++ rest ≡ tail2.taken ++ rest2 → tape tail.acts ++ t ≡ tape tail2.acts ++ t2 → (end ≡ end2) × (tail ≡ tail2) × (rest ≡ rest2)
 in_call_one kinds at tail tail2 rest rest2 end end2 t t2 (inl (more, is, breaks)) settled (inl (more2, is2, breaks2)) settled2 input ticking =
-    let behind : more ++ rest ≡ more2 ++ rest2 = head_behind at tail rest more2 rest2 end (more, is, breaks) (input ∙ ap (λ (c : Course). c.taken ++ rest2) is2) in
+    let behind : more ++ rest ≡ more2 ++ rest2 = head_behind at tail rest more2 rest2 end (more, is, breaks) (input ∙ ap (λ (c : Transcript). c.taken ++ rest2) is2) in
     let one = breaks_one head_at (at + 1) (at + MESSAGE_BYTES) more more2 rest rest2 end end2 breaks settled breaks2 settled2 behind in
-    with_rests end end2 tail tail2 rest rest2 input one.0 (is ∙ ap (λ (l : List ℕ). took (code_byte Call ∷ l)) one.1 ∙ sym is2)
+    with_rests end end2 tail tail2 rest rest2 input one.0 (is ∙ ap (λ (l : List ℕ). bytes_taken (code_byte Call ∷ l)) one.1 ∙ sym is2)
 in_call_one kinds at tail tail2 rest rest2 end end2 t t2 (inl (more, is, breaks)) settled (inr b) settled2 input ticking =
     absurd (head_or_behind kinds at more rest (b.front ++ b.more) rest2 tail2 end end2 breaks settled b settled2 refl
-    (head_behind at tail rest (b.front ++ b.more) rest2 end (more, is, breaks) (input ∙ ap (λ (c : Course). c.taken ++ rest2) b.tail_is)))
+    (head_behind at tail rest (b.front ++ b.more) rest2 end (more, is, breaks) (input ∙ ap (λ (c : Transcript). c.taken ++ rest2) b.tail_is)))
 in_call_one kinds at tail tail2 rest rest2 end end2 t t2 (inr a) settled (inl (more2, is2, breaks2)) settled2 input ticking =
     absurd (head_or_behind kinds at more2 rest2 (a.front ++ a.more) rest tail end2 end breaks2 settled2 a settled refl
-    (head_behind at tail2 rest2 (a.front ++ a.more) rest end2 (more2, is2, breaks2) (sym input ∙ ap (λ (c : Course). c.taken ++ rest) a.tail_is)))
+    (head_behind at tail2 rest2 (a.front ++ a.more) rest end2 (more2, is2, breaks2) (sym input ∙ ap (λ (c : Transcript). c.taken ++ rest) a.tail_is)))
 in_call_one kinds at tail tail2 rest rest2 end end2 t t2 (inr a) settled (inr b) settled2 input ticking =
     let one = arguments_one kinds at tail tail2 rest rest2 end end2 t t2 a settled b settled2 input ticking in
     with_rests end end2 tail tail2 rest rest2 input one.0 one.1
 
 -- Reading doesn't end in a Call that is served.
-pub in_call_not_served : (terms : Terms) (at : ℕ) (tail : Course) (rest : List ℕ) (end : ConnEnd) (head : CallHead) (bytes : List ℕ) (uid : Uid) (s : AtHead) (xs : List ℕ) (t u : List Tick)
+pub in_call_not_served : (terms : Terms) (at : ℕ) (tail : Transcript) (rest : List ℕ) (end : ConnEnd) (head : CallHead) (bytes : List ℕ) (uid : Uid) (s : AtHead) (xs : List ℕ) (t u : List OutsideAnswer)
     → InCall terms.kinds at tail rest end → IsSettled end → FitsHead head → 1 + length bytes ≤ MESSAGE_BYTES → IsServed terms head bytes uid s
     → tail.taken ++ rest ≡ code_byte Call ∷ (bytes ++ xs) → tape tail.acts ++ t ≡ tape (served_acts head uid s) ++ u → ⊥
 in_call_not_served terms at tail rest end head bytes uid s xs t u (inl (more, is, breaks)) settled fits few legal input ticking =
@@ -349,13 +349,13 @@ in_call_not_served terms at tail rest end head bytes uid s xs t u (inr a) settle
 -- ---- one exchange
 
 -- A Call of some bytes is served in one way, by one head.
-pub exchange_one : (terms : Terms) (head head2 : CallHead) (bytes bytes2 : List ℕ) (uid : Uid) (s s2 : AtHead) (rest rest2 : List ℕ) (t t2 : List Tick) → FitsHead head → FitsHead head2
+pub exchange_one : (terms : Terms) (head head2 : CallHead) (bytes bytes2 : List ℕ) (uid : Uid) (s s2 : AtHead) (rest rest2 : List ℕ) (t t2 : List OutsideAnswer) → FitsHead head → FitsHead head2
     → IsServed terms head bytes uid s → IsServed terms head2 bytes2 uid s2 → bytes ++ rest ≡ bytes2 ++ rest2 → tape (served_acts head uid s) ++ t ≡ tape (served_acts head2 uid s2) ++ t2
     → (head ≡ head2) × (s ≡ s2) × (bytes ≡ bytes2) × (t ≡ t2)
 exchange_one terms head head2 bytes bytes2 uid s s2 rest rest2 t t2 fits fits2 is is2 input ticking =
     let heads : head ≡ head2 = begin_same head head2 bytes bytes2 rest rest2 fits fits2 (served_begins terms head bytes uid s is) (served_begins terms head2 bytes2 uid s2 is2) input in
     let P : CallHead → Type 0 = λ h. IsServed terms h bytes2 uid s2 in
     let handed : served_ticks s ++ t ≡ served_ticks s2 ++ t2 =
-    ap (λ (l : List Tick). l ++ t) (sym (served_tape terms head bytes uid s is)) ∙ ticking ∙ ap (λ (l : List Tick). l ++ t2) (served_tape terms head2 bytes2 uid s2 is2) in
+    ap (λ (l : List OutsideAnswer). l ++ t) (sym (served_tape terms head bytes uid s is)) ∙ ticking ∙ ap (λ (l : List OutsideAnswer). l ++ t2) (served_tape terms head2 bytes2 uid s2 is2) in
     let one = served_one terms head bytes bytes2 uid s s2 rest rest2 t t2 is (subst P (sym heads) is2) input handed in
     (heads, one.0, one.1, one.2)

@@ -5,8 +5,8 @@ use Rattle.std.proofs.lemmas.Grind.{flat_map-append}
 use Rattle.wire_io.specs.Wire.{with_front, with_end, with_front-with_front, with_front-nothing, with_end-with_end, with_end-nothing, Gave-nothing, Gave-append}
 use Rattle.call_dispatch.specs.declared.outcome.Invocation.{Invocation}
 use Rattle.call_dispatch.specs.declared.outcome.Outcome.{Outcome}
-use Rattle.call_dispatch.specs.Acts.{Call, invokes, unreferenced, States, Act, entries, moments, calls, invocations, TellsMore, Moves, LeadsStates, MayAll, Side, Led}
-use Rattle.call_dispatch.specs.Spot.{Spot, Course, exchanged, took, followed_by, Goes}
+use Rattle.call_dispatch.specs.Acts.{Call, invokes, unreferenced, States, Act, entries, moments, calls, invocations, TellsMore, Moves, LeadsStates, MayAll, Observed, Led}
+use Rattle.call_dispatch.specs.ConnectionState.{ConnectionState, Transcript, bytes_exchanged, bytes_taken, followed_by, LeadsFrom}
 
 tells_more : (a b c : Option (List Call)) (xs ys : List Call) → TellsMore a xs b → TellsMore b ys c → TellsMore a (xs ++ ys) c
 tells_more a b None xs ys first then = tt
@@ -38,7 +38,7 @@ may_more may (invokes call outcome ∷ xs) ys first then = (first.0, may_more ma
 may_more may (unreferenced object ∷ xs) ys first then = may_more may xs ys first then
 
 -- No acts lead nowhere.
-pub led_nothing : (may : Invocation → Outcome → Type 0) (moves : States → Call → States → Type 0) (a : Side) → Led may moves a a []
+pub led_nothing : (may : Invocation → Outcome → Type 0) (moves : States → Call → States → Type 0) (a : Observed) → Led may moves a a []
 led_nothing may moves a = record {
   asked = sym (append-nil a.asked);
   given = Gave-nothing a.given;
@@ -49,7 +49,7 @@ led_nothing may moves a = record {
 }
 
 -- Some acts, and then others.
-pub led_more : (may : Invocation → Outcome → Type 0) (moves : States → Call → States → Type 0) (a b c : Side) (xs ys : List Act)
+pub led_more : (may : Invocation → Outcome → Type 0) (moves : States → Call → States → Type 0) (a b c : Observed) (xs ys : List Act)
     → Led may moves a b xs → Led may moves b c ys → Led may moves a c (xs ++ ys)
 led_more may moves a b c xs ys first then =
     let cs : flat_map calls (xs ++ ys) ≡ flat_map calls xs ++ flat_map calls ys = flat_map-append calls xs ys in
@@ -68,7 +68,7 @@ led_more may moves a b c xs ys first then =
     }
 
 -- Nothing was done yet.
-pub goes_nothing : (may : Invocation → Outcome → Type 0) (moves : States → Call → States → Type 0) (a : Spot) → Goes may moves a a (took [])
+pub goes_nothing : (may : Invocation → Outcome → Type 0) (moves : States → Call → States → Type 0) (a : ConnectionState) → LeadsFrom may moves a a (bytes_taken [])
 goes_nothing may moves a = record {
   left = sym (with_front-nothing a.wires.left);
   held = sym (with_end-nothing a.wires.held);
@@ -77,25 +77,25 @@ goes_nothing may moves a = record {
 }
 
 -- Bytes were taken and others written, and nothing else was done.
-pub goes_exchanged : (may : Invocation → Outcome → Type 0) (moves : States → Call → States → Type 0) (a b : Spot) (taken written : List ℕ)
+pub goes_exchanged : (may : Invocation → Outcome → Type 0) (moves : States → Call → States → Type 0) (a b : ConnectionState) (taken written : List ℕ)
     → a.wires.left ≡ with_front taken b.wires.left → b.wires.held ≡ with_end a.wires.held written → b.side ≡ a.side → b.drawn ≡ a.drawn
-    → Goes may moves a b (exchanged taken written)
+    → LeadsFrom may moves a b (bytes_exchanged taken written)
 goes_exchanged may moves a b taken written left held side drawn = record {
   left = left;
   held = held;
-  led = (let P : Side → Type 0 = λ s. Led may moves a.side s [] in subst P (sym side) (led_nothing may moves a.side));
+  led = (let P : Observed → Type 0 = λ s. Led may moves a.side s [] in subst P (sym side) (led_nothing may moves a.side));
   drawn = drawn ∙ sym (add-zero a.drawn);
 }
 
 -- Bytes were taken, and nothing else was done.
-pub goes_took : (may : Invocation → Outcome → Type 0) (moves : States → Call → States → Type 0) (a b : Spot) (taken : List ℕ)
-    → a.wires.left ≡ with_front taken b.wires.left → b.wires.held ≡ a.wires.held → b.side ≡ a.side → b.drawn ≡ a.drawn → Goes may moves a b (took taken)
+pub goes_took : (may : Invocation → Outcome → Type 0) (moves : States → Call → States → Type 0) (a b : ConnectionState) (taken : List ℕ)
+    → a.wires.left ≡ with_front taken b.wires.left → b.wires.held ≡ a.wires.held → b.side ≡ a.side → b.drawn ≡ a.drawn → LeadsFrom may moves a b (bytes_taken taken)
 goes_took may moves a b taken left held side drawn =
     goes_exchanged may moves a b taken [] left (held ∙ sym (with_end-nothing a.wires.held)) side drawn
 
--- One course, and then another.
-pub goes_on : (may : Invocation → Outcome → Type 0) (moves : States → Call → States → Type 0) (a b c : Spot) (x y : Course)
-    → Goes may moves a b x → Goes may moves b c y → Goes may moves a c (followed_by x y)
+-- One transcript, and then another.
+pub goes_on : (may : Invocation → Outcome → Type 0) (moves : States → Call → States → Type 0) (a b c : ConnectionState) (x y : Transcript)
+    → LeadsFrom may moves a b x → LeadsFrom may moves b c y → LeadsFrom may moves a c (followed_by x y)
 goes_on may moves a b c x y first then = record {
   left = first.left ∙ ap (with_front x.taken) then.left ∙ with_front-with_front x.taken y.taken c.wires.left;
   held = then.held ∙ ap (λ told. with_end told y.written) first.held ∙ with_end-with_end a.wires.held x.written y.written;

@@ -1,16 +1,14 @@
 -- The bytes that were taken of a head.
-use Rattle.std.proofs.Common.{◌≡◌, ℕ, ◌+◌, ◌-◌, List, [], ◌∷◌, ◌++◌, length, Result, Ok, Err, cond, eqb, refl, ap, sym, subst, ◌∙◌, arith, append-nil}
-use Rattle.std.proofs.lemmas.Bool.{eqb-true}
+use Rattle.std.proofs.Common.{◌≡◌, ℕ, ◌+◌, ◌-◌, List, [], ◌∷◌, length, Result, Ok, Err, refl, ap, sym, subst, ◌∙◌, arith, append-nil}
 use Rattle.wire_io.specs.Pulled.{PullState}
 use Rattle.class_desc.specs.declared.slot.Item.TheVariants as items
-use Rattle.ser_values.specs.Reading.{bad, bad_magic, byte_at, magic_at}
-use Rattle.ser_values.proofs.PlainSound.{bind_ok, passed, ok_is}
+use Rattle.stream_grammar.specs.Reading.{magic_at}
 use Rattle.ser_read.specs.declared.serving.Want.TheVariants as wanted
 use Rattle.ser_read.specs.Here.{AreBytes}
 use Rattle.ser_read.specs.Named.{add_bytes}
 use Rattle.ser_read.specs.Wants.{WantFault, ◌▸◌, Stand, nothing_read, bytes_at, run_at, want_at, serve}
 use Rattle.ser_read.specs.Heading.{inside_block}
-use Rattle.ser_read.proofs.Heads.{byte_is}
+use Rattle.ser_read.proofs.InOrder.{magic_is}
 use Rattle.ser_read.proofs.Served.{lifted_ok, given_is}
 use Rattle.ser_read.proofs.Heading as heading
 use Rattle.jrmp_frames.specs.declared.head.CallHead.{CallHead}
@@ -18,14 +16,6 @@ use Rattle.jrmp_frames.specs.Messages.{head_bytes}
 use Rattle.jrmp_frames.specs.Calls.{head_at, ReadsHead}
 use Rattle.jrmp_frames.proofs.Heads.{head_is}
 use Rattle.call_dispatch.specs.Served.{EndsWithHead}
-
-magic_is : (end : ℕ) (ws bs rest : List ℕ) → magic_at end ws bs ≡ Ok rest → bs ≡ ws ++ rest
-unfolding magic_at
-magic_is end [] bs rest e = ok_is bs rest e
-magic_is end (w ∷ ws) bs rest e =
-    let a = bind_ok (byte_at bs) (λ b. cond (eqb b.0 w) (magic_at end ws b.1) (Err (bad bad_magic (end - length bs)))) rest e in
-    let p = passed (eqb a.0.0 w) (magic_at end ws a.0.1) (bad bad_magic (end - length bs)) rest a.2 in
-    byte_is bs a.0 a.1 ∙ (ap (λ z. z ∷ a.0.1) (eqb-true a.0.0 w p.0) ∙ ap (λ (l : List ℕ). w ∷ l) (magic_is end ws a.0.1 rest p.1))
 
 -- how far a reader has come that ran so far through block data
 abbrev ran_to : List ℕ → ℕ → Stand

@@ -1,8 +1,7 @@
 -- A Call's head is read, whatever comes behind it; and bytes begin with one head.
 use Rattle.std.specs.Prelude.{FitsSigned}
-use Rattle.std.specs.List.{concat}
 use Rattle.std.specs.Int.{cast_unsigned, cast_signed}
-use Rattle.std.proofs.Common.{◌≡◌, ℕ, ℤ, suc, ◌+◌, ◌-◌, ◌<◌, w32, w64, List, [], ◌∷◌, ◌++◌, length, take, drop, take_at, drop_at, length-append, Ok, Err, refl, sym, ap, subst, ◌∙◌, append_assoc, append-nil, arith, inl, inr}
+use Rattle.std.proofs.Common.{◌≡◌, ℕ, ℤ, ◌+◌, ◌-◌, w32, w64, List, [], ◌∷◌, ◌++◌, length, take, drop, take_at, drop_at, Ok, refl, sym, ap, ◌∙◌, append-nil, arith}
 use Rattle.std.proofs.lemmas.Int.{ints, to_z-of_z}
 use Rattle.std.proofs.lemmas.List.{append_cancel_right}
 use Rattle.std.proofs.lemmas.Nat.{from_be_bytes-to_be_bytes_4, from_be_bytes-to_be_bytes_8}
@@ -11,81 +10,19 @@ use Rattle.object_ids.specs.Bytes.{signed_bytes, signed_from_bytes, bytes_of_uid
 use Rattle.object_ids.proofs.Spelling.{uid-spelled, objid-spelled}
 use Rattle.class_desc.specs.declared.field.TypeCode.{TypeCode}
 use Rattle.class_desc.specs.declared.slot.Item.TheVariants as items
-use Rattle.ser_values.specs.Reading.{magic_at}
+use Rattle.stream_grammar.specs.Reading.{magic_at}
 use Rattle.ser_read.specs.Named.{add_bytes}
 use Rattle.ser_read.specs.Wants.{Stand, run_at, bytes_at}
-use Rattle.ser_read.specs.Heading.{IsBlockHeader, AreBlocks, EndsInBlock, inside_block}
-use Rattle.ser_read.proofs.Empties.{Header}
-use Rattle.ser_read.proofs.Runs.{Run, behind, behind_none, behind_two, run_piece}
+use Rattle.ser_read.specs.Heading.{inside_block}
+use Rattle.ser_read.proofs.Heading.{head_runs, added_some, some_wanted}
+use Rattle.ser_read.proofs.Runs.{behind}
 use Rattle.ser_read.proofs.Served.{given_is}
-use Rattle.ser_read.proofs.Asked.{RunOk}
-use Rattle.ser_read.proofs.Given.{cons, header_of, run_skips, run_begins}
 use Rattle.jrmp_frames.specs.declared.arguments.Arguments.{Arguments}
 use Rattle.jrmp_frames.specs.declared.head.CallHead.{CallHead}
 use Rattle.jrmp_frames.specs.Messages.{head_bytes, CallBytes}
 use Rattle.jrmp_frames.specs.Calls.{head_at}
 use Rattle.jrmp_frames.proofs.CallLaws.{call_has_head}
 use Rattle.call_dispatch.specs.Served.{FitsHead, EndsWithHead}
-
--- ---- block data that ends in a block is read
-
-cons_behind : (c : ℕ) (p : List ℕ) (r : Run) → cons c (behind p r) ≡ behind (c ∷ p) r
-cons_behind c p (Ok x) = refl
-cons_behind c p (Err f) = refl
-
-header_at : (k : ℕ) (header rest : List ℕ) → IsBlockHeader k header → Header k (header ++ rest) rest
-header_at k header rest (inl h) = inl (h.0, ap (λ (l : List ℕ). l ++ rest) h.1)
-header_at k header rest (inr h) = inr (h.0, ap (λ (l : List ℕ). l ++ rest) h.1)
-
-whole_runs : (end : ℕ) (ps : List (List ℕ)) (blocks tail : List ℕ) (m : ℕ) → AreBlocks ps blocks → run_at end (suc (length (concat ps) + m)) 0 (blocks ++ tail) ≡ behind (concat ps) (run_at end (suc m) 0 tail)
-whole_runs end [] blocks tail m h =
-    let none : length (concat []) + m ≡ m = omega arith in
-    ap (λ (l : List ℕ). run_at end (suc (length (concat []) + m)) 0 (l ++ tail)) h ∙ ap (λ n. run_at end (suc n) 0 tail) none ∙ sym (behind_none (run_at end (suc m) 0 tail))
-whole_runs end ([] ∷ ps) blocks tail m h =
-    let parts : blocks ++ tail ≡ h.0 ++ (h.1 ++ tail) = ap (λ (l : List ℕ). l ++ tail) h.3 ∙ append_assoc h.0 h.1 tail in
-    run_skips end (length (concat ps) + m) (blocks ++ tail) (h.1 ++ tail) (header_of [] h.0 (blocks ++ tail) (h.1 ++ tail) h.2 parts) ∙ whole_runs end ps h.1 tail m h.4
-whole_runs end ((c ∷ q) ∷ ps) blocks tail m h =
-    let parts : blocks ++ tail ≡ h.0 ++ (h.1 ++ tail) = ap (λ (l : List ℕ). l ++ tail) h.3 ∙ append_assoc h.0 h.1 tail in
-    let more = suc (length (concat ps) + m) in
-    let long : length ((c ∷ q) ++ concat ps) + m ≡ length q + more = omega (arith, length-append q (concat ps)) in
-    let all : length q ≡ length q + 0 = omega arith in
-    run_begins end (length ((c ∷ q) ++ concat ps) + m) (length q) c (blocks ++ tail) (q ++ (h.1 ++ tail)) (header_of (c ∷ q) h.0 (blocks ++ tail) (h.1 ++ tail) h.2 parts)
-    ∙ ap (λ n. cons c (run_at end n (length q) (q ++ (h.1 ++ tail)))) long ∙ ap (λ k. cons c (run_at end (length q + more) k (q ++ (h.1 ++ tail)))) all
-    ∙ ap (cons c) (run_piece end q (h.1 ++ tail) more 0 ∙ ap (behind q) (whole_runs end ps h.1 tail m h.4) ∙ behind_two q (concat ps) (run_at end (suc m) 0 tail))
-    ∙ cons_behind c (q ++ concat ps) (run_at end (suc m) 0 tail)
-
-abbrev run_ok : RunOk → Run
-run_ok y = Ok y
-
-last_runs : (end : ℕ) (front header rest : List ℕ) (left : ℕ) → IsBlockHeader (length front + left) header → 0 < length front → run_at end (length front) 0 (header ++ (front ++ rest)) ≡ Ok (front, left, rest)
-unfolding run_at
-last_runs end [] header rest left h lt = absurd (omega arith)
-last_runs end (c ∷ q) header rest left h lt =
-    let more : length (c ∷ q) + left ≡ suc (length q + left) = omega arith in
-    let all : length q ≡ length q + 0 = omega arith in
-    let head : Header (suc (length q + left)) (header ++ (c ∷ (q ++ rest))) (c ∷ (q ++ rest)) = subst (λ k. Header k (header ++ (c ∷ (q ++ rest))) (c ∷ (q ++ rest))) more (header_at (length (c ∷ q) + left) header (c ∷ (q ++ rest)) h) in
-    run_begins end (length q) (length q + left) c (header ++ (c ∷ (q ++ rest))) (q ++ rest) head
-    ∙ ap (λ n. cons c (run_at end n (length q + left) (q ++ rest))) all ∙ ap (cons c) (run_piece end q rest 0 left) ∙ ap (λ (l : List ℕ). run_ok (c ∷ l, left, rest)) (append-nil q)
-
-head_runs : (end n : ℕ) (head bytes : List ℕ) (left : ℕ) (rest : List ℕ) → EndsInBlock n head bytes left → run_at end n 0 (head ++ rest) ≡ Ok (bytes, left, rest)
-head_runs end n head bytes left rest h =
-    let m = length h.front - 1 in
-    let front : suc m ≡ length h.front = omega (arith, h.some) in
-    let long : n ≡ suc (length (concat h.payloads) + m) = omega (arith, h.some, h.wanted, ap (λ (l : List ℕ). length l) h.bytes_are, length-append (concat h.payloads) h.front) in
-    let parts : head ++ rest ≡ h.blocks ++ (h.header ++ (h.front ++ rest)) =
-    ap (λ (l : List ℕ). l ++ rest) h.taken_is ∙ append_assoc h.blocks (h.header ++ h.front) rest ∙ ap (λ (l : List ℕ). h.blocks ++ l) (append_assoc h.header h.front rest) in
-    ap (λ k. run_at end k 0 (head ++ rest)) long ∙ ap (λ (l : List ℕ). run_at end (suc (length (concat h.payloads) + m)) 0 l) parts
-    ∙ whole_runs end h.payloads h.blocks (h.header ++ (h.front ++ rest)) m h.whole
-    ∙ ap (behind (concat h.payloads)) (ap (λ k. run_at end k 0 (h.header ++ (h.front ++ rest))) front ∙ last_runs end h.front h.header rest left h.head h.some)
-    ∙ ap (λ (l : List ℕ). run_ok (l, left, rest)) (sym h.bytes_are)
-
-added_some : (p : List ℕ) → 0 < length p → add_bytes [] p ≡ items.Bytes p ∷ []
-unfolding add_bytes
-added_some [] lt = absurd (omega arith)
-added_some (b ∷ p) lt = refl
-
-some_wanted : (n : ℕ) (head bytes : List ℕ) (left : ℕ) → EndsInBlock n head bytes left → 0 < length bytes
-some_wanted n head bytes left h = omega (arith, h.some, ap (λ (l : List ℕ). length l) h.bytes_are, length-append (concat h.payloads) h.front)
 
 -- ---- heads
 

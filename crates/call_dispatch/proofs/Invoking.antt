@@ -10,7 +10,7 @@ use Rattle.history.specs.declared.replies.Turn.{Turn}
 use Rattle.history.specs.declared.replies.Refused.{Refused}
 use Rattle.history.specs.declared.replies.Refused.TheVariants.{HistoryFull, Full, OutOfMemory}
 use Rattle.jrmp_frames.specs.declared.head.CallHead.{CallHead}
-use Rattle.call_dispatch.specs.declared.book.Kind.{Kind}
+use Rattle.system_objects.specs.declared.book.Kind.{Kind}
 use Rattle.call_dispatch.specs.declared.outcome.Invocation.{Invocation}
 use Rattle.space.specs.declared.asked.Asked.{Asked}
 use Rattle.space.specs.declared.asked.AskedEnd.{AskedEnd}
@@ -18,21 +18,20 @@ use Rattle.space.specs.declared.asked.AskedEnd.TheVariants.{Turned, Abandoned, R
 use Rattle.call_dispatch.specs.declared.outcome.Outcome.{Outcome}
 use Rattle.call_dispatch.specs.declared.end.ConnEnd.{ConnEnd}
 use Rattle.call_dispatch.specs.declared.end.ConnEnd.TheVariants as ends
-use Rattle.call_dispatch.specs.Terms.{Terms}
-use Rattle.call_dispatch.specs.Spot.{Spot, Course, took}
+use Rattle.system_objects.specs.Terms.{Terms}
+use Rattle.call_dispatch.specs.ConnectionState.{ConnectionState, Transcript, bytes_taken}
 use Rattle.wire_io.specs.Wire.{with_front}
 use Rattle.jrmp_frames.specs.declared.code.Code.TheVariants.{Call as Call50}
 use Rattle.jrmp_frames.specs.Frames.{code_byte}
-use Rattle.call_dispatch.specs.Acts.{Act, asks, lost, called, invokes, unreferenced, Call, States, calls, invocations, tells_of, entries, acts_of, abandoned}
-use Rattle.call_dispatch.specs.Rows.{Exchange, ping, acknowledged, served, system, IsExchange, taken_by, acts_by, draws_by, draws_in, IsChain, lost_at, failed, IsFailed, IsGivenUp, IsCut}
-use Rattle.call_dispatch.specs.Dialogue.{Whole, nothing, greeted, opened, exchanges_in, IsWhole, IsAnswered, IsCutIn, EndsInCall, Ends}
+use Rattle.call_dispatch.specs.Acts.{Act, asks, lost, called, invokes, unreferenced, Call, States, calls, invocations, tells_of, entries, acts_of, abandon_act}
+use Rattle.call_dispatch.specs.Rows.{Exchange, ping, acknowledged, served, system, IsExchange, taken_by, acts_by, draws_by, draws_in, IsChain, lost_at, acts_at_failure, IsFailed, IsGivenUp, IsCut}
+use Rattle.call_dispatch.specs.Dialogue.{Completed, nothing, greeted, opened, exchanges_in, IsCompleted, IsAnswered, IsCutIn, EndsInCall, Ends}
 use Rattle.call_dispatch.specs.Progress.{Talked}
 use Rattle.call_dispatch.proofs.OneReading.{chain_first, chain_rest}
 use Rattle.call_dispatch.specs.Results.{finish_with}
 use Rattle.call_dispatch.specs.Served.{Conclusion, finished, denied, faulted, conclusion_acts, Running, unknown, ran, invocation_of, running_acts, IsRunning, absent, refused, begun}
 use Rattle.call_dispatch.specs.Invoked.{invocations_in, IsInvokedOnce, CallIsInvokedOnce, IsCallOf, LeadTo, InvokesEachOnce, DialogueInvokesEachOnce}
-use Rattle.call_dispatch.specs.Systems.{System, barred, turned, system_acts}
-use Rattle.call_dispatch.specs.Systems.{unknown as nameless}
+use Rattle.call_dispatch.specs.Systems.{System, rejected, turned, system_acts, unknown as nameless}
 
 in_more : (xs ys : List Act) → invocations_in (xs ++ ys) ≡ invocations_in xs ++ invocations_in ys
 in_more xs ys = ap (λ l. flat_map invocations l) (flat_map-append calls xs ys) ∙ flat_map-append invocations (flat_map calls xs) (flat_map calls ys)
@@ -51,7 +50,7 @@ turn_none moment ask (Err OutOfMemory) = refl
 conclusion_none : (object : ObjId) (uid : Uid) (outcome : Outcome) (c : Conclusion) → invocations_in (conclusion_acts object uid outcome c) ≡ []
 conclusion_none object uid outcome (finished listed moment turn bytes) = turn_none moment (finish_with object outcome listed uid) (Ok turn)
 conclusion_none object uid outcome (denied listed moment refusal moment2 place) =
-    in_more (acts_of moment (finish_with object outcome listed uid) (Err refusal)) (abandoned moment2 object place ∷ []) ∙ ap (λ (l : List Invocation). l ++ []) (turn_none moment (finish_with object outcome listed uid) (Err refusal))
+    in_more (acts_of moment (finish_with object outcome listed uid) (Err refusal)) (abandon_act moment2 object place ∷ []) ∙ ap (λ (l : List Invocation). l ++ []) (turn_none moment (finish_with object outcome listed uid) (Err refusal))
 conclusion_none object uid outcome (faulted moment place) = refl
 
 running_once : (terms : Terms) (head : CallHead) (kind : ℕ) (bytes : List ℕ) (uid : Uid) (r : Running) → IsRunning terms head kind bytes uid r → IsInvokedOnce terms.kinds head bytes (invocations_in (running_acts head uid kind r))
@@ -90,7 +89,7 @@ leads_more kinds (m ∷ ms) ns xs ys (inr (call, others, is, mine, first)) then 
 -- A call of the registry or the collector leads to none.
 system_none : (s : System) → invocations_in (system_acts s) ≡ []
 system_none nameless = refl
-system_none (barred method arguments bar) = refl
+system_none (rejected method arguments bar) = refl
 system_none (turned method arguments ask moment answer written) = turn_none moment ask answer
 
 -- An exchange leads to at most one.
@@ -114,7 +113,7 @@ lost_none moment (Turned turn) = refl
 lost_none moment (Denied refusal) = refl
 lost_none moment (Abandoned place) = refl
 
-failed_same : (act : Act) → invocations_in (failed act) ≡ invocations_in (act ∷ [])
+failed_same : (act : Act) → invocations_in (acts_at_failure act) ≡ invocations_in (act ∷ [])
 failed_same (asks entry) = lost_none entry.moment entry.end
 failed_same (lost moment) = refl
 failed_same (called (invokes call outcome)) = refl
@@ -165,18 +164,18 @@ fronts_lead kinds message (x ∷ y ∷ xs) more (inr (call, others, is, mine, no
     let one : x ∷ y ∷ (xs ++ more) ≡ call ∷ [] = is ∙ ap (λ (l : List Invocation). call ∷ l) none in absurd (cc)
 
 -- Nothing was done.
-took_leads : (kinds : List Kind) (tail : Course) (more : List ℕ) → tail ≡ took more → LeadTo kinds (tail.taken ∷ []) (invocations_in tail.acts)
-took_leads kinds tail more is = inl (ap (λ (c : Course). invocations_in c.acts) is)
+took_leads : (kinds : List Kind) (tail : Transcript) (more : List ℕ) → tail ≡ bytes_taken more → LeadTo kinds (tail.taken ∷ []) (invocations_in tail.acts)
+took_leads kinds tail more is = inl (ap (λ (c : Transcript). invocations_in c.acts) is)
 
-call_leads : (terms : Terms) (w : Whole) (tail : Course) (rest : Option (List ℕ)) (end : ConnEnd) → EndsInCall terms w tail rest end → LeadTo terms.kinds (tail.taken ∷ []) (invocations_in tail.acts)
+call_leads : (terms : Terms) (w : Completed) (tail : Transcript) (rest : Option (List ℕ)) (end : ConnEnd) → EndsInCall terms w tail rest end → LeadTo terms.kinds (tail.taken ∷ []) (invocations_in tail.acts)
 call_leads terms w tail rest end (code, room, inl (more, is, breaks)) = took_leads terms.kinds tail (code_byte Call50 ∷ more) is
 call_leads terms w tail rest end (code, room, inr (inr a)) = took_leads terms.kinds tail (code_byte Call50 ∷ a.front ++ a.more) a.tail_is
 call_leads terms w tail rest end (code, room, inr (inl a)) =
-    inl (ap (λ (c : Course). invocations_in c.acts) a.tail_is ∙ in_more (acts_of a.moment (Begin a.head.id) (Ok a.turn)) (abandoned a.moment2 a.head.id a.place2 ∷ [])
+    inl (ap (λ (c : Transcript). invocations_in c.acts) a.tail_is ∙ in_more (acts_of a.moment (Begin a.head.id) (Ok a.turn)) (abandon_act a.end_moment a.head.id a.end_place ∷ [])
     ∙ ap (λ (l : List Invocation). l ++ []) (turn_none a.moment (Begin a.head.id) (Ok a.turn)))
 
 -- An exchange that was cut leads to at most one.
-cut_leads : (terms : Terms) (drawn : ℕ) (w : Whole) (tail : Course) (e : Exchange) → IsCutIn terms drawn w tail e → LeadTo terms.kinds (tail.taken ∷ []) (invocations_in tail.acts)
+cut_leads : (terms : Terms) (drawn : ℕ) (w : Completed) (tail : Transcript) (e : Exchange) → IsCutIn terms drawn w tail e → LeadTo terms.kinds (tail.taken ∷ []) (invocations_in tail.acts)
 cut_leads terms drawn w tail e cut =
     let (more, is) = cut_front [] (acts_by e) tail.acts cut.acts in
     let whole : LeadTo terms.kinds (taken_by e ∷ []) (invocations_in (acts_by e)) = exchange_leads terms (drawn + draws_in (exchanges_in w)) e cut.next.2 in
@@ -185,18 +184,18 @@ cut_leads terms drawn w tail e cut =
     subst Q (sym cut.message) (fronts_lead terms.kinds (taken_by e) (invocations_in tail.acts) more (subst P is whole))
 
 -- An answer that was cut.
-answer_leads : (terms : Terms) (drawn : ℕ) (w : Whole) (c : Course) → IsAnswered terms drawn w c → LeadTo terms.kinds (c.taken ∷ []) (invocations_in c.acts)
-answer_leads terms drawn w c (inl (none, is)) = inl (ap (λ (x : Course). invocations_in x.acts) is)
-answer_leads terms drawn w c (inr (inl (byte, (none, other, is)))) = inl (ap (λ (x : Course). invocations_in x.acts) is)
+answer_leads : (terms : Terms) (drawn : ℕ) (w : Completed) (c : Transcript) → IsAnswered terms drawn w c → LeadTo terms.kinds (c.taken ∷ []) (invocations_in c.acts)
+answer_leads terms drawn w c (inl (none, is)) = inl (ap (λ (x : Transcript). invocations_in x.acts) is)
+answer_leads terms drawn w c (inr (inl (byte, (none, other, is)))) = inl (ap (λ (x : Transcript). invocations_in x.acts) is)
 answer_leads terms drawn w c (inr (inr (e, next, is))) =
-    let P : Course → Type 0 = λ x. LeadTo terms.kinds (x.taken ∷ []) (invocations_in x.acts) in
+    let P : Transcript → Type 0 = λ x. LeadTo terms.kinds (x.taken ∷ []) (invocations_in x.acts) in
     subst P (sym is) (exchange_leads terms (drawn + draws_in (exchanges_in w)) e next.2)
 
 -- What comes behind what stands whole leads to at most one invocation, which is its own.
-tail_leads : (terms : Terms) (drawn : ℕ) (w : Whole) (tail : Course) (rest : Option (List ℕ)) (end : ConnEnd) → Ends terms drawn w tail rest end → LeadTo terms.kinds (tail.taken ∷ []) (invocations_in tail.acts)
+tail_leads : (terms : Terms) (drawn : ℕ) (w : Completed) (tail : Transcript) (rest : Option (List ℕ)) (end : ConnEnd) → Ends terms drawn w tail rest end → LeadTo terms.kinds (tail.taken ∷ []) (invocations_in tail.acts)
 tail_leads terms drawn w tail rest ends.Ended (how, is) = took_leads terms.kinds tail [] is
 tail_leads terms drawn w tail rest (ends.BadHeader at) (none, (more, breaks, is)) = took_leads terms.kinds tail more is
-tail_leads terms drawn w tail rest (ends.UnknownProtocol byte) (none, other, is) = inl (ap (λ (c : Course). invocations_in c.acts) is)
+tail_leads terms drawn w tail rest (ends.UnknownProtocol byte) (none, other, is) = inl (ap (λ (c : Transcript). invocations_in c.acts) is)
 tail_leads terms drawn w tail rest (ends.BadMessage byte at) (code, none, place, is) = took_leads terms.kinds tail (byte ∷ []) is
 tail_leads terms drawn w tail rest (ends.BadStream kind at) inside = call_leads terms w tail rest (ends.BadStream kind at) inside
 tail_leads terms drawn w tail rest (ends.TooLarge what at) inside = call_leads terms w tail rest (ends.TooLarge what at) inside
@@ -209,13 +208,13 @@ tail_leads terms drawn w tail rest ends.MessageLimit (code, full, (byte, known, 
 tail_leads terms drawn w tail rest ends.ReadFault (inl (more, front, is)) = took_leads terms.kinds tail more is
 tail_leads terms drawn w tail rest ends.ReadFault (inr inside) = call_leads terms w tail rest ends.ReadFault inside
 tail_leads terms drawn w tail rest (ends.WriteFault sent) (c, part, answered, less, place, is) =
-    let P : Course → Type 0 = λ x. LeadTo terms.kinds (x.taken ∷ []) (invocations_in x.acts) in
+    let P : Transcript → Type 0 = λ x. LeadTo terms.kinds (x.taken ∷ []) (invocations_in x.acts) in
     subst P (sym is) (answer_leads terms drawn w c answered)
 tail_leads terms drawn w tail rest ends.OutOfMemory (inl (more, none, which, is)) = took_leads terms.kinds tail more is
 tail_leads terms drawn w tail rest ends.OutOfMemory (inr (inl (e, cut, some))) = cut_leads terms drawn w tail e cut
 tail_leads terms drawn w tail rest ends.OutOfMemory (inr (inr inside)) = call_leads terms w tail rest ends.OutOfMemory inside
 
-whole_leads : (terms : Terms) (drawn : ℕ) (w : Whole) → IsWhole terms drawn w → LeadTo terms.kinds (map taken_by (exchanges_in w)) (invocations_in (flat_map acts_by (exchanges_in w)))
+whole_leads : (terms : Terms) (drawn : ℕ) (w : Completed) → IsCompleted terms drawn w → LeadTo terms.kinds (map taken_by (exchanges_in w)) (invocations_in (flat_map acts_by (exchanges_in w)))
 whole_leads terms drawn nothing whole = refl
 whole_leads terms drawn greeted whole = refl
 whole_leads terms drawn (opened opening es) (legal, chain, few) = exchanges_lead terms drawn es chain
@@ -223,19 +222,19 @@ whole_leads terms drawn (opened opening es) (legal, chain, few) = exchanges_lead
 pub dialogue_invokes : DialogueInvokesEachOnce
 dialogue_invokes terms drawn c rest end (w, tail, whole, is, how) =
     let all : invocations_in c.acts ≡ invocations_in (flat_map acts_by (exchanges_in w)) ++ invocations_in tail.acts =
-    ap (λ (x : Course). invocations_in x.acts) is ∙ in_more (flat_map acts_by (exchanges_in w)) tail.acts in
+    ap (λ (x : Transcript). invocations_in x.acts) is ∙ in_more (flat_map acts_by (exchanges_in w)) tail.acts in
     let P : List Invocation → Type 0 = λ l. LeadTo terms.kinds (map taken_by (exchanges_in w) ++ tail.taken ∷ []) l in
     record {
       whole = w;
       behind = tail.taken;
       is_whole = whole;
-      taken = ap (λ (x : Course). x.taken) is;
+      taken = ap (λ (x : Transcript). x.taken) is;
       once = subst P (sym all) (leads_more terms.kinds (map taken_by (exchanges_in w)) (tail.taken ∷ []) (invocations_in (flat_map acts_by (exchanges_in w))) (invocations_in tail.acts)
           (whole_leads terms drawn w whole) (tail_leads terms drawn w tail rest end how));
     }
 
 -- A connection that ended in a dialogue invoked each message at most once, with what it spells.
-pub talked_invokes : (may : Invocation → Outcome → Type 0) (moves : States → Call → States → Type 0) (terms : Terms) (start now : Spot) (end : ConnEnd) → Talked may moves terms start now end → InvokesEachOnce terms start now
+pub talked_invokes : (may : Invocation → Outcome → Type 0) (moves : States → Call → States → Type 0) (terms : Terms) (start now : ConnectionState) (end : ConnEnd) → Talked may moves terms start now end → InvokesEachOnce terms start now
 talked_invokes may moves terms start now end (c, talks) =
     let each = dialogue_invokes terms start.drawn c now.wires.left end talks.dialogue in
     record {

@@ -14,7 +14,6 @@ pub mod MessageSteps
 pub mod CallSteps
 pub mod Blaming
 pub mod SystemTurns
-pub mod SystemAsks
 pub mod SystemSteps
 pub mod AckSteps
 pub mod Invoking
@@ -22,10 +21,6 @@ pub mod HeadReads
 pub mod Breaks
 pub mod Tapes
 pub mod CallsOne
-pub mod SystemNames
 pub mod SystemOne
 pub mod OpeningReading
 pub mod OneReading
-pub mod Books
-pub mod SystemRows
-pub mod FixedReturns

@@ -11,18 +11,18 @@ use Rattle.call_dispatch.specs.declared.outcome.Invocation.{Invocation}
 use Rattle.call_dispatch.specs.declared.outcome.Outcome.{Outcome}
 use Rattle.call_dispatch.specs.declared.end.ConnEnd.{ConnEnd}
 use Rattle.call_dispatch.specs.declared.end.ConnEnd.TheVariants as ends
-use Rattle.call_dispatch.specs.Terms.{Terms}
-use Rattle.call_dispatch.specs.Acts.{Call, States, Side}
-use Rattle.call_dispatch.specs.Spot.{Spot}
-use Rattle.call_dispatch.specs.Rows.{Exchange, ping, taken_by, written_by, course_by, IsOpen, GoOn}
-use Rattle.call_dispatch.specs.Dialogue.{Opening, stream, single_op, protocol_of, most_messages, Whole, opened, IsAtCode}
+use Rattle.system_objects.specs.Terms.{Terms}
+use Rattle.call_dispatch.specs.Acts.{Call, States, Observed}
+use Rattle.call_dispatch.specs.ConnectionState.{ConnectionState}
+use Rattle.call_dispatch.specs.Rows.{Exchange, ping, taken_by, written_by, transcript_by, IsOpen, StaysOpen}
+use Rattle.call_dispatch.specs.Dialogue.{Opening, stream, single_op, protocol_of, most_messages, Completed, opened, IsAtCode}
 use Rattle.call_dispatch.specs.Progress.{StandsWhole, Talked, StepsTo, Writes, end_from}
 use Rattle.call_dispatch.proofs.Going.{goes_exchanged}
 use Rattle.call_dispatch.proofs.Steps.{spot_at, talks_took, talks_in, talks_cut, stands_more}
 use Rattle.call_dispatch.specs.declared.messages.TheConstants.{MAX_MESSAGES}
 
 -- The connection ends in a code's place.
-pub code_ends : (may : Invocation → Outcome → Type 0) (moves : States → Call → States → Type 0) (terms : Terms) (start : Spot) (old new : PullState) (held : Option (List ℕ)) (side : Side) (drawn sent : ℕ) (w : Whole) (fault : FrameFault)
+pub code_ends : (may : Invocation → Outcome → Type 0) (moves : States → Call → States → Type 0) (terms : Terms) (start : ConnectionState) (old new : PullState) (held : Option (List ℕ)) (side : Observed) (drawn sent : ℕ) (w : Completed) (fault : FrameFault)
     → StandsWhole may moves terms start (spot_at old held side drawn) old.at sent w → IsAtCode w → old.at < old.stop → GivesCode old new (Err fault)
     → Talked may moves terms start (spot_at new held side drawn) (end_from fault)
 code_ends may moves terms start old new held side drawn sent w (BadHeader at) stands code room h = absurd h
@@ -41,7 +41,7 @@ limit_left single_op [] code few = omega arith
 limit_left single_op (e ∷ exchanges) code few = absurd code
 
 -- A Ping was read and its answer written, or cut.
-pub ping_steps : (may : Invocation → Outcome → Type 0) (moves : States → Call → States → Type 0) (terms : Terms) (start before now : Spot) (at sent at2 : ℕ) (opening : Opening) (exchanges : List Exchange) (result : Result ℕ ConnEnd)
+pub ping_steps : (may : Invocation → Outcome → Type 0) (moves : States → Call → States → Type 0) (terms : Terms) (start before now : ConnectionState) (at sent at2 : ℕ) (opening : Opening) (exchanges : List Exchange) (result : Result ℕ ConnEnd)
     → StandsWhole may moves terms start before at sent (opened opening exchanges) → IsAtCode (opened opening exchanges) → length exchanges < MAX_MESSAGES
     → before.wires.left ≡ with_front (taken_by ping) now.wires.left → now.side ≡ before.side → now.drawn ≡ before.drawn
     → at2 ≡ at + length (taken_by ping) → Writes before.wires.held now.wires.held sent (written_by ping) result
@@ -53,11 +53,11 @@ ping_steps may moves terms start before now at sent at2 opening exchanges (Ok se
       (goes_exchanged may moves before now (taken_by ping) (written_by ping) taken writes.0 side drawn) ats writes.1,
 )
 ping_steps may moves terms start before now at sent at2 opening exchanges (Err end) stands code room taken side drawn ats (part, less, is, written) =
-    rw is (talks_cut may moves terms start before now at sent part (opened opening exchanges) (course_by ping) stands (inr (inr (ping, (code, room, tt), refl))) less
+    rw is (talks_cut may moves terms start before now at sent part (opened opening exchanges) (transcript_by ping) stands (inr (inr (ping, (code, room, tt), refl))) less
     (goes_exchanged may moves before now (taken_by ping) (take part (written_by ping)) taken written side drawn))
 
 -- Single-op's one message was served.
-pub one_served : (may : Invocation → Outcome → Type 0) (moves : States → Call → States → Type 0) (terms : Terms) (start now : Spot) (at sent : ℕ) (opening : Opening) (e : Exchange) → protocol_of opening ≡ SingleOp → IsOpen e
+pub one_served : (may : Invocation → Outcome → Type 0) (moves : States → Call → States → Type 0) (terms : Terms) (start now : ConnectionState) (at sent : ℕ) (opening : Opening) (e : Exchange) → protocol_of opening ≡ SingleOp → IsOpen e
     → StandsWhole may moves terms start now at sent (opened opening (e ∷ [])) → Talked may moves terms start now ends.Ended
 one_served may moves terms start now at sent (stream endpoint) e is goes stands = absurd (cc)
 one_served may moves terms start now at sent single_op e is goes stands =
@@ -69,7 +69,7 @@ opened_at_code (stream endpoint) = refl
 opened_at_code single_op = tt
 
 -- In the stream protocol a code is to come after each message that leaves the connection open.
-pub stream_at_code : (opening : Opening) (exchanges : List Exchange) → protocol_of opening ≡ Stream → GoOn exchanges → IsAtCode (opened opening exchanges)
+pub stream_at_code : (opening : Opening) (exchanges : List Exchange) → protocol_of opening ≡ Stream → StaysOpen exchanges → IsAtCode (opened opening exchanges)
 stream_at_code (stream endpoint) exchanges is goes = goes
 stream_at_code single_op exchanges is goes = absurd (cc)
 

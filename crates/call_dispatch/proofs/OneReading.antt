@@ -6,7 +6,7 @@ use Rattle.std.specs.List.{flat_map}
 use Rattle.wire_io.specs.Wire.{with_front}
 use Rattle.std.proofs.lemmas.Bool.Decides.{nat_tests}
 use Rattle.object_ids.specs.declared.ids.Uid.{Uid}
-use Rattle.object_ids.specs.Bytes.{bytes_of_uid, uid_from_bytes}
+use Rattle.object_ids.specs.Bytes.{FitsUid, bytes_of_uid, uid_from_bytes}
 use Rattle.object_ids.proofs.Spelling.{uid-spelled}
 use Rattle.history.specs.declared.asks.Ask.TheVariants.{Ack}
 use Rattle.history.specs.declared.replies.Turn.{Turn}
@@ -21,14 +21,14 @@ use Rattle.call_dispatch.specs.declared.outcome.Outcome.{Outcome}
 use Rattle.call_dispatch.specs.declared.end.ConnEnd.{ConnEnd}
 use Rattle.call_dispatch.specs.declared.end.ConnEnd.TheVariants.{Ended, BadHeader, UnknownProtocol, BadMessage, BadStream, TooLarge, Truncated, NoSuchObject, NoSuchMethod, SpaceFull, MessageLimit, ReadFault, WriteFault, OutOfMemory}
 use Rattle.call_dispatch.specs.End.{IsSettled}
-use Rattle.call_dispatch.specs.Terms.{Terms}
+use Rattle.system_objects.specs.Terms.{Terms}
 use Rattle.call_dispatch.specs.Acts.{Act, Call as WorkerCall, States, acts_of}
 use Rattle.call_dispatch.specs.Served.{AtHead as Way, served_acts, IsServed}
-use Rattle.call_dispatch.specs.Spot.{Spot, Course, took, followed_by}
+use Rattle.call_dispatch.specs.ConnectionState.{ConnectionState, Transcript, bytes_taken, followed_by}
 use Rattle.call_dispatch.specs.Systems.{System}
-use Rattle.call_dispatch.specs.Rows.{Exchange, ping, acknowledged, served, system, FitsUid, IsNoted, taken_by, acts_by, draws_by, IsExchange, IsOpen, closed_by, GoOn, IsChain}
-use Rattle.call_dispatch.specs.Dialogue.{Opening, stream, single_op, most_messages, opening_taken, Whole, nothing, greeted, opened, taken_in, course_in, IsAtCode, IsDone, IsClosed, EndsInCall, Ends, Dialogue}
-use Rattle.call_dispatch.specs.Tape.{Tick, answered, ticks, tape}
+use Rattle.call_dispatch.specs.Rows.{Exchange, ping, acknowledged, served, system, IsNoted, taken_by, acts_by, draws_by, IsExchange, IsOpen, closed_by, StaysOpen, IsChain}
+use Rattle.call_dispatch.specs.Dialogue.{Opening, stream, single_op, most_messages, opening_taken, Completed, nothing, greeted, opened, taken_in, transcript_in, IsAtCode, IsDone, IsClosed, EndsInCall, Ends, Dialogue}
+use Rattle.call_dispatch.specs.Tape.{OutsideAnswer, turn_answer, outside_answers, tape}
 use Rattle.call_dispatch.specs.Progress.{IsConversation, Settles, Talked, IsServedFrom}
 use Rattle.call_dispatch.proofs.Breaks.{same_behind}
 use Rattle.call_dispatch.proofs.Tapes.{turn_alone}
@@ -63,8 +63,8 @@ acknowledged_same : (u u2 : Uid) (m m2 : ℕ) (a a2 : Result Turn Refused) → u
 acknowledged_same u u2 m m2 a a2 us ms answers = ap (λ x. acknowledged x m a) us ∙ ap (λ x. acknowledged u2 x a) ms ∙ ap (λ x. acknowledged u2 m2 x) answers
 
 -- what the outside hands in at an acknowledgement
-abbrev ack_ticks : ℕ → Result Turn Refused → List Tick
-ack_ticks moment answer = answered moment (end_of answer) ∷ []
+abbrev ack_ticks : ℕ → Result Turn Refused → List OutsideAnswer
+ack_ticks moment answer = turn_answer moment (end_of answer) ∷ []
 
 ack_tape : (uid : Uid) (moment : ℕ) (answer : Result Turn Refused) → IsNoted answer → tape (acts_of moment (Ack uid) answer) ≡ ack_ticks moment answer
 ack_tape uid moment (Ok turn) noted = turn_alone moment (Ack uid) turn
@@ -72,7 +72,7 @@ ack_tape uid moment (Err refusals.HistoryFull) noted = refl
 ack_tape uid moment (Err (refusals.Full kind)) noted = absurd noted
 ack_tape uid moment (Err refusals.OutOfMemory) noted = absurd noted
 
-ack_one : (m m2 : ℕ) (a a2 : Result Turn Refused) (t t2 : List Tick) → ack_ticks m a ++ t ≡ ack_ticks m2 a2 ++ t2 → (m ≡ m2) × (a ≡ a2) × (t ≡ t2)
+ack_one : (m m2 : ℕ) (a a2 : Result Turn Refused) (t t2 : List OutsideAnswer) → ack_ticks m a ++ t ≡ ack_ticks m2 a2 ++ t2 → (m ≡ m2) × (a ≡ a2) × (t ≡ t2)
 ack_one m m2 (Ok turn) (Ok turn2) t t2 same = ((cc), (cc), (cc))
 ack_one m m2 (Ok turn) (Err refusal) t t2 same = absurd (cc)
 ack_one m m2 (Err refusal) (Ok turn) t t2 same = absurd (cc)
@@ -85,7 +85,7 @@ system_same : (b b2 : List ℕ) (h h2 : CallHead) (u u2 : Uid) (s s2 : System) �
 system_same b b2 h h2 u u2 s s2 bs hs us ss = ap (λ x. system x h u s) bs ∙ ap (λ x. system b2 x u s) hs ∙ ap (λ x. system b2 h2 x s) us ∙ ap (λ x. system b2 h2 u2 x) ss
 
 -- Two exchanges that begin one input and one list of answers are one.
-pub next_is_one : (terms : Terms) (drawn : ℕ) (e f : Exchange) (rest rest2 : List ℕ) (t t2 : List Tick)
+pub next_is_one : (terms : Terms) (drawn : ℕ) (e f : Exchange) (rest rest2 : List ℕ) (t t2 : List OutsideAnswer)
     → IsExchange terms drawn e → IsExchange terms drawn f
     → taken_by e ++ rest ≡ taken_by f ++ rest2 → tape (acts_by e) ++ t ≡ tape (acts_by f) ++ t2
     → (e ≡ f) × (rest ≡ rest2) × (t ≡ t2)
@@ -95,7 +95,7 @@ next_is_one terms drawn (acknowledged uid moment answer) ping rest rest2 t t2 is
 next_is_one terms drawn (acknowledged uid moment answer) (acknowledged uid2 moment2 answer2) rest rest2 t t2 (fits, noted) (fits2, noted2) input ticking =
     let one = uid_same uid uid2 rest rest2 fits fits2 (ap (drop 1) input) in
     let handed : ack_ticks moment answer ++ t ≡ ack_ticks moment2 answer2 ++ t2 =
-    ap (λ (l : List Tick). l ++ t) (sym (ack_tape uid moment answer noted)) ∙ ticking ∙ ap (λ (l : List Tick). l ++ t2) (ack_tape uid2 moment2 answer2 noted2) in
+    ap (λ (l : List OutsideAnswer). l ++ t) (sym (ack_tape uid moment answer noted)) ∙ ticking ∙ ap (λ (l : List OutsideAnswer). l ++ t2) (ack_tape uid2 moment2 answer2 noted2) in
     let told = ack_one moment moment2 answer answer2 t t2 handed in
     (acknowledged_same uid uid2 moment moment2 answer answer2 one.0 told.0 told.1, one.1, told.2)
 next_is_one terms drawn (acknowledged uid moment answer) (served bytes head uid2 s) rest rest2 t t2 is is2 input ticking = absurd (no_ack (bytes ++ rest2) (bytes_of_uid uid ++ rest) (sym input))
@@ -179,7 +179,7 @@ open_reads single_op [] at e rest few = code_reads 0 at e rest (omega arith)
 open_reads single_op (f ∷ es) at e rest few = absurd (omega (arith, few))
 
 -- A whole exchange is what comes next.
-next_reads : (opening : Opening) (es : List Exchange) (e : Exchange) (rest : List ℕ) → length es < most_messages opening → GoOn es → next opening es (taken_by e ++ rest) ≡ went e rest
+next_reads : (opening : Opening) (es : List Exchange) (e : Exchange) (rest : List ℕ) → length es < most_messages opening → StaysOpen es → next opening es (taken_by e ++ rest) ≡ went e rest
 next_reads opening es e rest few goes =
     ap (unless_closed (taken_by e ++ rest) (open_next opening es (length (taken_in (opened opening es))) (taken_by e ++ rest))) goes
     ∙ open_reads opening es (length (taken_in (opened opening es))) e rest few
@@ -235,30 +235,30 @@ after_code : (a b : ℕ) → a + suc b ≡ a + 1 + b
 after_code a b = omega arith
 
 -- After these exchanges came these bytes and this end, and nothing else was done.
-abbrev Stops : Opening → List Exchange → Course → List ℕ → ConnEnd → Type 0
-Stops opening es tail rest end = (more : List ℕ) × (tail ≡ took more) × (next opening es (more ++ rest) ≡ stopped end rest)
+abbrev Stops : Opening → List Exchange → Transcript → List ℕ → ConnEnd → Type 0
+Stops opening es tail rest end = (more : List ℕ) × (tail ≡ bytes_taken more) × (next opening es (more ++ rest) ≡ stopped end rest)
 
 -- After these exchanges a Call began, and reading ended in it.
-abbrev StopsInCall : Terms → Opening → List Exchange → Course → List ℕ → ConnEnd → Type 0
+abbrev StopsInCall : Terms → Opening → List Exchange → Transcript → List ℕ → ConnEnd → Type 0
 StopsInCall terms opening es tail rest end = (more : List ℕ) × (tail.taken ≡ code_byte Call ∷ more) × (next opening es (code_byte Call ∷ (more ++ rest)) ≡ calling (more ++ rest))
     × InAnyCall terms.kinds (length (taken_in (opened opening es))) tail rest end
 
-abbrev StopsAt : Terms → Opening → List Exchange → Course → List ℕ → ConnEnd → Type 0
+abbrev StopsAt : Terms → Opening → List Exchange → Transcript → List ℕ → ConnEnd → Type 0
 StopsAt terms opening es tail rest end = Stops opening es tail rest end ⊎ StopsInCall terms opening es tail rest end
 
 -- what was taken of the Call
-taken_of : (terms : Terms) (at : ℕ) (tail : Course) (rest : List ℕ) (end : ConnEnd) → InAnyCall terms.kinds at tail rest end → (more : List ℕ) × (tail.taken ≡ code_byte Call ∷ more)
-taken_of terms at tail rest end (inl (more, is, breaks)) = (more, ap (λ (c : Course). c.taken) is)
-taken_of terms at tail rest end (inr (inl a)) = (a.front ++ a.more, ap (λ (c : Course). c.taken) a.tail_is)
-taken_of terms at tail rest end (inr (inr a)) = (a.front ++ a.more, ap (λ (c : Course). c.taken) a.tail_is)
+taken_of : (terms : Terms) (at : ℕ) (tail : Transcript) (rest : List ℕ) (end : ConnEnd) → InAnyCall terms.kinds at tail rest end → (more : List ℕ) × (tail.taken ≡ code_byte Call ∷ more)
+taken_of terms at tail rest end (inl (more, is, breaks)) = (more, ap (λ (c : Transcript). c.taken) is)
+taken_of terms at tail rest end (inr (inl a)) = (a.front ++ a.more, ap (λ (c : Transcript). c.taken) a.tail_is)
+taken_of terms at tail rest end (inr (inr a)) = (a.front ++ a.more, ap (λ (c : Transcript). c.taken) a.tail_is)
 
-call_stops : (terms : Terms) (opening : Opening) (es : List Exchange) (tail : Course) (rest : List ℕ) (end : ConnEnd) → EndsInCall terms (opened opening es) tail (Some rest) end → StopsAt terms opening es tail rest end
+call_stops : (terms : Terms) (opening : Opening) (es : List Exchange) (tail : Transcript) (rest : List ℕ) (end : ConnEnd) → EndsInCall terms (opened opening es) tail (Some rest) end → StopsAt terms opening es tail rest end
 call_stops terms opening es tail rest end (code, room, inside) =
     let at : ℕ = length (taken_in (opened opening es)) in
     let (more, taken) = taken_of terms at tail rest end inside in
     inr (more, taken, at_code_next opening es (code_byte Call ∷ (more ++ rest)) code ∙ call_next (length es) at (more ++ rest) room, inside)
 
-opened_stops : (terms : Terms) (drawn : ℕ) (opening : Opening) (es : List Exchange) (tail : Course) (rest : List ℕ) (end : ConnEnd)
+opened_stops : (terms : Terms) (drawn : ℕ) (opening : Opening) (es : List Exchange) (tail : Transcript) (rest : List ℕ) (end : ConnEnd)
     → Ends terms drawn (opened opening es) tail (Some rest) end → IsSettled end → StopsAt terms opening es tail rest end
 opened_stops terms drawn opening es tail rest Ended (inl (code, left), is) settled =
     let at : ℕ = length (taken_in (opened opening es)) in
@@ -294,24 +294,24 @@ next_same : (opening : Opening) (es : List Exchange) (xs ys : List ℕ) (a b : N
 next_same opening es xs ys a b same one two = sym one ∙ ap (next opening es) same ∙ two
 
 -- the input of a Call in which reading ended
-call_input : (tail : Course) (more rest : List ℕ) → tail.taken ≡ code_byte Call ∷ more → tail.taken ++ rest ≡ code_byte Call ∷ (more ++ rest)
+call_input : (tail : Transcript) (more rest : List ℕ) → tail.taken ≡ code_byte Call ∷ more → tail.taken ++ rest ≡ code_byte Call ∷ (more ++ rest)
 call_input tail more rest taken = ap (λ (l : List ℕ). l ++ rest) taken
 
 -- After some exchanges one end stands.
-ends_one : (terms : Terms) (opening : Opening) (es : List Exchange) (tail tail2 : Course) (rest rest2 : List ℕ) (end end2 : ConnEnd) (t t2 : List Tick) → StopsAt terms opening es tail rest end → IsSettled end
+ends_one : (terms : Terms) (opening : Opening) (es : List Exchange) (tail tail2 : Transcript) (rest rest2 : List ℕ) (end end2 : ConnEnd) (t t2 : List OutsideAnswer) → StopsAt terms opening es tail rest end → IsSettled end
     → StopsAt terms opening es tail2 rest2 end2 → IsSettled end2 → tail.taken ++ rest ≡ tail2.taken ++ rest2 → tape tail.acts ++ t ≡ tape tail2.acts ++ t2 → (end ≡ end2) × (tail ≡ tail2) × (rest ≡ rest2)
 ends_one terms opening es tail tail2 rest rest2 end end2 t t2 (inl (more, is, stop)) settled (inl (more2, is2, stop2)) settled2 input ticking =
-    let same_input : more ++ rest ≡ more2 ++ rest2 = sym (ap (λ (c : Course). c.taken ++ rest) is) ∙ input ∙ ap (λ (c : Course). c.taken ++ rest2) is2 in
+    let same_input : more ++ rest ≡ more2 ++ rest2 = sym (ap (λ (c : Transcript). c.taken ++ rest) is) ∙ input ∙ ap (λ (c : Transcript). c.taken ++ rest2) is2 in
     let same : stopped end rest ≡ stopped end2 rest2 = next_same opening es (more ++ rest) (more2 ++ rest2) (stopped end rest) (stopped end2 rest2) same_input stop stop2 in
     let rests : rest ≡ rest2 = cc in
     let mores : more ≡ more2 = append_cancel_right more more2 rest2 (ap (λ (l : List ℕ). more ++ l) (sym rests) ∙ same_input) in
-    ((cc), is ∙ ap took mores ∙ sym is2, rests)
+    ((cc), is ∙ ap bytes_taken mores ∙ sym is2, rests)
 ends_one terms opening es tail tail2 rest rest2 end end2 t t2 (inl (more, is, stop)) settled (inr (more2, taken2, calls2, inside2)) settled2 input ticking =
-    let same_input : more ++ rest ≡ code_byte Call ∷ (more2 ++ rest2) = sym (ap (λ (c : Course). c.taken ++ rest) is) ∙ input ∙ call_input tail2 more2 rest2 taken2 in
+    let same_input : more ++ rest ≡ code_byte Call ∷ (more2 ++ rest2) = sym (ap (λ (c : Transcript). c.taken ++ rest) is) ∙ input ∙ call_input tail2 more2 rest2 taken2 in
     let same : stopped end rest ≡ calling (more2 ++ rest2) = next_same opening es (more ++ rest) (code_byte Call ∷ (more2 ++ rest2)) (stopped end rest) (calling (more2 ++ rest2)) same_input stop calls2 in
     absurd (cc)
 ends_one terms opening es tail tail2 rest rest2 end end2 t t2 (inr (more, taken, calls, inside)) settled (inl (more2, is2, stop2)) settled2 input ticking =
-    let same_input : more2 ++ rest2 ≡ code_byte Call ∷ (more ++ rest) = sym (ap (λ (c : Course). c.taken ++ rest2) is2) ∙ sym input ∙ call_input tail more rest taken in
+    let same_input : more2 ++ rest2 ≡ code_byte Call ∷ (more ++ rest) = sym (ap (λ (c : Transcript). c.taken ++ rest2) is2) ∙ sym input ∙ call_input tail more rest taken in
     let same : stopped end2 rest2 ≡ calling (more ++ rest) = next_same opening es (more2 ++ rest2) (code_byte Call ∷ (more ++ rest)) (stopped end2 rest2) (calling (more ++ rest)) same_input stop2 calls in
     absurd (cc)
 ends_one terms opening es tail tail2 rest rest2 end end2 t t2 (inr (more, taken, calls, inside)) settled (inr (more2, taken2, calls2, inside2)) settled2 input ticking =
@@ -324,10 +324,10 @@ stopped_went end rest (served bytes head uid s) xs same = cc
 stopped_went end rest (system bytes head uid s) xs same = cc
 
 -- An end doesn't stand where an exchange goes on.
-not_both : (terms : Terms) (opening : Opening) (es : List Exchange) (drawn : ℕ) (tail : Course) (rest : List ℕ) (end : ConnEnd) (f : Exchange) (xs : List ℕ) (t u : List Tick) → StopsAt terms opening es tail rest end → IsSettled end
-    → length es < most_messages opening → GoOn es → IsExchange terms drawn f → tail.taken ++ rest ≡ taken_by f ++ xs → tape tail.acts ++ t ≡ tape (acts_by f) ++ u → ⊥
+not_both : (terms : Terms) (opening : Opening) (es : List Exchange) (drawn : ℕ) (tail : Transcript) (rest : List ℕ) (end : ConnEnd) (f : Exchange) (xs : List ℕ) (t u : List OutsideAnswer) → StopsAt terms opening es tail rest end → IsSettled end
+    → length es < most_messages opening → StaysOpen es → IsExchange terms drawn f → tail.taken ++ rest ≡ taken_by f ++ xs → tape tail.acts ++ t ≡ tape (acts_by f) ++ u → ⊥
 not_both terms opening es drawn tail rest end f xs t u (inl (more, is, stop)) settled few goes legal input ticking =
-    let same_input : more ++ rest ≡ taken_by f ++ xs = sym (ap (λ (c : Course). c.taken ++ rest) is) ∙ input in
+    let same_input : more ++ rest ≡ taken_by f ++ xs = sym (ap (λ (c : Transcript). c.taken ++ rest) is) ∙ input in
     stopped_went end rest f xs (next_same opening es (more ++ rest) (taken_by f ++ xs) (stopped end rest) (went f xs) same_input stop (next_reads opening es f xs few goes))
 not_both terms opening es drawn tail rest end ping xs t u (inr (more, taken, calls, inside)) settled few goes legal input ticking =
     no_call (more ++ rest) xs (sym (call_input tail more rest taken) ∙ input)
@@ -353,25 +353,25 @@ first_taken : (e : Exchange) (es : List Exchange) (xs : List ℕ) → flat_map t
 first_taken e es xs = append_assoc (taken_by e) (flat_map taken_by es) xs
 
 -- one list of acts, and then another
-acts_tape : (a b : List Act) (t : List Tick) → tape (a ++ b) ++ t ≡ tape a ++ (tape b ++ t)
-acts_tape a b t = ap (λ (l : List Tick). l ++ t) (flat_map-append ticks a b) ∙ append_assoc (tape a) (tape b) t
+acts_tape : (a b : List Act) (t : List OutsideAnswer) → tape (a ++ b) ++ t ≡ tape a ++ (tape b ++ t)
+acts_tape a b t = ap (λ (l : List OutsideAnswer). l ++ t) (flat_map-append outside_answers a b) ∙ append_assoc (tape a) (tape b) t
 
-first_tape : (e : Exchange) (es : List Exchange) (t : List Tick) → tape (flat_map acts_by (e ∷ es)) ++ t ≡ tape (acts_by e) ++ (tape (flat_map acts_by es) ++ t)
+first_tape : (e : Exchange) (es : List Exchange) (t : List OutsideAnswer) → tape (flat_map acts_by (e ∷ es)) ++ t ≡ tape (acts_by e) ++ (tape (flat_map acts_by es) ++ t)
 first_tape e es t = acts_tape (acts_by e) (flat_map acts_by es) t
 
 -- Behind some exchanges others follow: the first of them begins the input and the answers that are left behind the former.
-record Follows (terms : Terms) (es fs : List Exchange) (a b : List ℕ) (t u : List Tick) : Type 0 where
+record Follows (terms : Terms) (es fs : List Exchange) (a b : List ℕ) (t u : List OutsideAnswer) : Type 0 where
   one : Exchange
   others : List Exchange
   is : fs ≡ es ++ one ∷ others
   drawn : ℕ
   legal : IsExchange terms drawn one
-  goes : GoOn es
+  goes : StaysOpen es
   input : a ≡ taken_by one ++ (flat_map taken_by others ++ b)
   ticking : t ≡ tape (acts_by one) ++ (tape (flat_map acts_by others) ++ u)
 
 -- Others follow the one or the other, or they are the same.
-abbrev Compared : Terms → List Exchange → List Exchange → List ℕ → List ℕ → List Tick → List Tick → Type 0
+abbrev Compared : Terms → List Exchange → List Exchange → List ℕ → List ℕ → List OutsideAnswer → List OutsideAnswer → Type 0
 Compared terms es fs a b t u = Follows terms es fs a b t u ⊎ (Follows terms fs es b a u t ⊎ ((es ≡ fs) × (a ≡ b) × (t ≡ u)))
 
 -- An exchange goes on where others follow it.
@@ -381,11 +381,11 @@ chain_open terms drawn f [] es one others chain is =
     absurd (omega (arith, long))
 chain_open terms drawn f (g ∷ fs) es one others chain is = chain.1
 
-goes_more : (e : Exchange) (es : List Exchange) → IsOpen e → GoOn es → GoOn (e ∷ es)
+goes_more : (e : Exchange) (es : List Exchange) → IsOpen e → StaysOpen es → StaysOpen (e ∷ es)
 goes_more e [] still goes = still
 goes_more e (f ∷ es) still goes = goes
 
-follows_more : (terms : Terms) (drawn : ℕ) (e f : Exchange) (es fs : List Exchange) (a b : List ℕ) (t u : List Tick) → e ≡ f → IsChain terms drawn (f ∷ fs) → Follows terms es fs a b t u → Follows terms (e ∷ es) (f ∷ fs) a b t u
+follows_more : (terms : Terms) (drawn : ℕ) (e f : Exchange) (es fs : List Exchange) (a b : List ℕ) (t u : List OutsideAnswer) → e ≡ f → IsChain terms drawn (f ∷ fs) → Follows terms es fs a b t u → Follows terms (e ∷ es) (f ∷ fs) a b t u
 follows_more terms drawn e f es fs a b t u same chain x =
     let P : Exchange → Type 0 = λ y. IsOpen y in
     record {
@@ -399,13 +399,13 @@ follows_more terms drawn e f es fs a b t u same chain x =
       ticking = x.ticking;
     }
 
-compared_more : (terms : Terms) (drawn : ℕ) (e f : Exchange) (es fs : List Exchange) (a b : List ℕ) (t u : List Tick) → e ≡ f → IsChain terms drawn (e ∷ es) → IsChain terms drawn (f ∷ fs) → Compared terms es fs a b t u → Compared terms (e ∷ es) (f ∷ fs) a b t u
+compared_more : (terms : Terms) (drawn : ℕ) (e f : Exchange) (es fs : List Exchange) (a b : List ℕ) (t u : List OutsideAnswer) → e ≡ f → IsChain terms drawn (e ∷ es) → IsChain terms drawn (f ∷ fs) → Compared terms es fs a b t u → Compared terms (e ∷ es) (f ∷ fs) a b t u
 compared_more terms drawn e f es fs a b t u same chain chain2 (inl x) = inl (follows_more terms drawn e f es fs a b t u same chain2 x)
 compared_more terms drawn e f es fs a b t u same chain chain2 (inr (inl x)) = inr (inl (follows_more terms drawn f e fs es b a u t (sym same) chain x))
 compared_more terms drawn e f es fs a b t u same chain chain2 (inr (inr (more, left, handed))) = inr (inr (ap (λ x. x ∷ es) same ∙ ap (λ (l : List Exchange). f ∷ l) more, left, handed))
 
 -- Of two lists of exchanges that begin one input and one list of answers, the one begins the other.
-compared : (es fs : List Exchange) (terms : Terms) (drawn : ℕ) (a b : List ℕ) (t u : List Tick) → IsChain terms drawn es → IsChain terms drawn fs
+compared : (es fs : List Exchange) (terms : Terms) (drawn : ℕ) (a b : List ℕ) (t u : List OutsideAnswer) → IsChain terms drawn es → IsChain terms drawn fs
     → flat_map taken_by es ++ a ≡ flat_map taken_by fs ++ b → tape (flat_map acts_by es) ++ t ≡ tape (flat_map acts_by fs) ++ u → Compared terms es fs a b t u
 compared [] [] terms drawn a b t u chain chain2 input ticking = inr (inr (refl, input, ticking))
 compared [] (f ∷ fs) terms drawn a b t u chain chain2 input ticking = inl (record {
@@ -439,8 +439,8 @@ compared (e ∷ es) (f ∷ fs) terms drawn a b t u chain chain2 input ticking =
 
 -- ---- dialogues
 
--- a course, by its parts
-abbrev course_with : List ℕ → List Act → ℕ → List ℕ → Course
+-- a transcript, by its parts
+abbrev course_with : List ℕ → List Act → ℕ → List ℕ → Transcript
 course_with taken acts draws written = record { taken = taken; acts = acts; draws = draws; written = written }
 
 course_same : (t t2 : List ℕ) (a a2 : List Act) (d d2 : ℕ) (w w2 : List ℕ) → t ≡ t2 → a ≡ a2 → d ≡ d2 → w ≡ w2 → course_with t a d w ≡ course_with t2 a2 d2 w2
@@ -448,28 +448,28 @@ course_same t t2 a a2 d d2 w w2 taken acts draws written =
     ap (λ x. course_with x a d w) taken ∙ ap (λ x. course_with t2 x d w) acts ∙ ap (λ x. course_with t2 a2 x w) draws ∙ ap (course_with t2 a2 d2) written
 
 -- The dialogue ends in the opening.
-abbrev InOpening : Terms → Course → List ℕ → ConnEnd → Type 0
+abbrev InOpening : Terms → Transcript → List ℕ → ConnEnd → Type 0
 InOpening terms c rest end = (reading terms (c.taken ++ rest) ≡ over end c.written rest) × (c.acts ≡ []) × (c.draws ≡ 0)
 
 -- The dialogue ends after an opening and some exchanges.
-record AfterOpening (terms : Terms) (drawn : ℕ) (c : Course) (rest : List ℕ) (end : ConnEnd) : Type 0 where
+record AfterOpening (terms : Terms) (drawn : ℕ) (c : Transcript) (rest : List ℕ) (end : ConnEnd) : Type 0 where
   opening : Opening
   es : List Exchange
-  tail : Course
+  tail : Transcript
   reads : reading terms (c.taken ++ rest) ≡ opens opening (flat_map taken_by es ++ (tail.taken ++ rest))
-  is : c ≡ followed_by (course_in terms (opened opening es)) tail
+  is : c ≡ followed_by (transcript_in terms (opened opening es)) tail
   chain : IsChain terms drawn es
   few : length es ≤ most_messages opening
   stops : StopsAt terms opening es tail rest end
   settled : IsSettled end
 
-in_opening : (terms : Terms) (w : Whole) (c tail : Course) (rest : List ℕ) (end : ConnEnd) → c ≡ followed_by (course_in terms w) tail
-    → (course_in terms w).acts ≡ [] → (course_in terms w).draws ≡ 0 → Reads terms w tail rest end → InOpening terms c rest end
+in_opening : (terms : Terms) (w : Completed) (c tail : Transcript) (rest : List ℕ) (end : ConnEnd) → c ≡ followed_by (transcript_in terms w) tail
+    → (transcript_in terms w).acts ≡ [] → (transcript_in terms w).draws ≡ 0 → Reads terms w tail rest end → InOpening terms c rest end
 in_opening terms w c tail rest end is acts draws (reads, none, zero_draws) =
-    let P : Course → Type 0 = λ x. InOpening terms x rest end in
+    let P : Transcript → Type 0 = λ x. InOpening terms x rest end in
     subst P (sym is) (reads, ap (λ l. l ++ tail.acts) acts ∙ none, omega (arith, draws, zero_draws))
 
-dialogue_splits : (terms : Terms) (drawn : ℕ) (c : Course) (rest : List ℕ) (end : ConnEnd) → Dialogue terms drawn c (Some rest) end → IsSettled end
+dialogue_splits : (terms : Terms) (drawn : ℕ) (c : Transcript) (rest : List ℕ) (end : ConnEnd) → Dialogue terms drawn c (Some rest) end → IsSettled end
     → InOpening terms c rest end ⊎ AfterOpening terms drawn c rest end
 dialogue_splits terms drawn c rest end (nothing, tail, whole, is, ends) settled =
     inl (in_opening terms nothing c tail rest end is refl refl (nothing_reads terms drawn tail rest end ends settled))
@@ -477,7 +477,7 @@ dialogue_splits terms drawn c rest end (greeted, tail, whole, is, ends) settled 
     inl (in_opening terms greeted c tail rest end is refl refl (greeted_reads terms drawn tail rest end ends settled))
 dialogue_splits terms drawn c rest end (opened opening es, tail, (legal, chain, few), is, ends) settled =
     let input : c.taken ++ rest ≡ opening_taken opening ++ (flat_map taken_by es ++ (tail.taken ++ rest)) =
-    ap (λ (x : Course). x.taken ++ rest) is ∙ append_assoc (opening_taken opening ++ flat_map taken_by es) tail.taken rest
+    ap (λ (x : Transcript). x.taken ++ rest) is ∙ append_assoc (opening_taken opening ++ flat_map taken_by es) tail.taken rest
     ∙ append_assoc (opening_taken opening) (flat_map taken_by es) (tail.taken ++ rest) in
     inr (record {
       opening = opening;
@@ -492,31 +492,31 @@ dialogue_splits terms drawn c rest end (opened opening es, tail, (legal, chain, 
     })
 
 -- An exchange that follows doesn't stand where the dialogue ends.
-follows_no_end : (terms : Terms) (opening : Opening) (es fs : List Exchange) (tail : Course) (rest b : List ℕ) (end : ConnEnd) (t u : List Tick) → StopsAt terms opening es tail rest end → IsSettled end → length fs ≤ most_messages opening
+follows_no_end : (terms : Terms) (opening : Opening) (es fs : List Exchange) (tail : Transcript) (rest b : List ℕ) (end : ConnEnd) (t u : List OutsideAnswer) → StopsAt terms opening es tail rest end → IsSettled end → length fs ≤ most_messages opening
     → Follows terms es fs (tail.taken ++ rest) b (tape tail.acts ++ t) u → ⊥
 follows_no_end terms opening es fs tail rest b end t u stops settled few x =
     let long : length fs ≡ length es + length (x.one ∷ x.others) = ap (λ (l : List Exchange). length l) x.is ∙ length-append es (x.one ∷ x.others) in
     not_both terms opening es x.drawn tail rest end x.one (flat_map taken_by x.others ++ b) t (tape (flat_map acts_by x.others) ++ u) stops settled (omega (arith, few, long)) x.goes x.legal x.input x.ticking
 
 -- what the outside handed in, in the exchanges and behind them
-tape_after : (terms : Terms) (opening : Opening) (es : List Exchange) (c tail : Course) (t : List Tick) → c ≡ followed_by (course_in terms (opened opening es)) tail → tape c.acts ++ t ≡ tape (flat_map acts_by es) ++ (tape tail.acts ++ t)
-tape_after terms opening es c tail t is = ap (λ (x : Course). tape x.acts ++ t) is ∙ acts_tape (flat_map acts_by es) tail.acts t
+tape_after : (terms : Terms) (opening : Opening) (es : List Exchange) (c tail : Transcript) (t : List OutsideAnswer) → c ≡ followed_by (transcript_in terms (opened opening es)) tail → tape c.acts ++ t ≡ tape (flat_map acts_by es) ++ (tape tail.acts ++ t)
+tape_after terms opening es c tail t is = ap (λ (x : Transcript). tape x.acts ++ t) is ∙ acts_tape (flat_map acts_by es) tail.acts t
 
-abbrev OneEnd : ConnEnd → ConnEnd → Course → Course → List ℕ → List ℕ → Type 0
+abbrev OneEnd : ConnEnd → ConnEnd → Transcript → Transcript → List ℕ → List ℕ → Type 0
 OneEnd end end2 c c2 rest rest2 = (end ≡ end2) × (c ≡ c2) × (rest ≡ rest2)
 
-same_es : (terms : Terms) (opening : Opening) (es fs : List Exchange) (c c2 tail tail2 : Course) (rest rest2 : List ℕ) (end end2 : ConnEnd) (t u : List Tick) → es ≡ fs
-    → c ≡ followed_by (course_in terms (opened opening es)) tail → c2 ≡ followed_by (course_in terms (opened opening fs)) tail2
+same_es : (terms : Terms) (opening : Opening) (es fs : List Exchange) (c c2 tail tail2 : Transcript) (rest rest2 : List ℕ) (end end2 : ConnEnd) (t u : List OutsideAnswer) → es ≡ fs
+    → c ≡ followed_by (transcript_in terms (opened opening es)) tail → c2 ≡ followed_by (transcript_in terms (opened opening fs)) tail2
     → StopsAt terms opening es tail rest end → IsSettled end → StopsAt terms opening fs tail2 rest2 end2 → IsSettled end2
     → tail.taken ++ rest ≡ tail2.taken ++ rest2 → tape tail.acts ++ t ≡ tape tail2.acts ++ u → OneEnd end end2 c c2 rest rest2
 same_es terms opening es fs c c2 tail tail2 rest rest2 end end2 t u same is is2 stops settled stops2 settled2 input ticking =
     let P : List Exchange → Type 0 = λ l. StopsAt terms opening l tail2 rest2 end2 in
     let one = ends_one terms opening es tail tail2 rest rest2 end end2 t u stops settled (subst P (sym same) stops2) settled2 input ticking in
-    (one.0, is ∙ ap (λ (l : List Exchange). followed_by (course_in terms (opened opening l)) tail) same ∙ ap (followed_by (course_in terms (opened opening fs))) one.1 ∙ sym is2, one.2)
+    (one.0, is ∙ ap (λ (l : List Exchange). followed_by (transcript_in terms (opened opening l)) tail) same ∙ ap (followed_by (transcript_in terms (opened opening fs))) one.1 ∙ sym is2, one.2)
 
-after_compared : (terms : Terms) (opening : Opening) (es fs : List Exchange) (c c2 tail tail2 : Course) (rest rest2 : List ℕ) (end end2 : ConnEnd) (t u : List Tick)
+after_compared : (terms : Terms) (opening : Opening) (es fs : List Exchange) (c c2 tail tail2 : Transcript) (rest rest2 : List ℕ) (end end2 : ConnEnd) (t u : List OutsideAnswer)
     → length es ≤ most_messages opening → length fs ≤ most_messages opening
-    → c ≡ followed_by (course_in terms (opened opening es)) tail → c2 ≡ followed_by (course_in terms (opened opening fs)) tail2
+    → c ≡ followed_by (transcript_in terms (opened opening es)) tail → c2 ≡ followed_by (transcript_in terms (opened opening fs)) tail2
     → StopsAt terms opening es tail rest end → IsSettled end → StopsAt terms opening fs tail2 rest2 end2 → IsSettled end2
     → Compared terms es fs (tail.taken ++ rest) (tail2.taken ++ rest2) (tape tail.acts ++ t) (tape tail2.acts ++ u) → OneEnd end end2 c c2 rest rest2
 after_compared terms opening es fs c c2 tail tail2 rest rest2 end end2 t u few few2 is is2 stops settled stops2 settled2 (inl x) =
@@ -527,7 +527,7 @@ after_compared terms opening es fs c c2 tail tail2 rest rest2 end end2 t u few f
     same_es terms opening es fs c c2 tail tail2 rest rest2 end end2 t u same is is2 stops settled stops2 settled2 input ticking
 
 -- Two dialogues that end after the opening.
-both_after : (terms : Terms) (drawn : ℕ) (c c2 : Course) (rest rest2 : List ℕ) (end end2 : ConnEnd) (t t2 : List Tick)
+both_after : (terms : Terms) (drawn : ℕ) (c c2 : Transcript) (rest rest2 : List ℕ) (end end2 : ConnEnd) (t t2 : List OutsideAnswer)
     → AfterOpening terms drawn c rest end → AfterOpening terms drawn c2 rest2 end2 → c.taken ++ rest ≡ c2.taken ++ rest2 → tape c.acts ++ t ≡ tape c2.acts ++ t2
     → (end ≡ end2) × (c ≡ c2) × (rest ≡ rest2)
 both_after terms drawn c c2 rest rest2 end end2 t t2 a b input ticking =
@@ -538,12 +538,12 @@ both_after terms drawn c c2 rest rest2 end end2 t t2 a b input ticking =
     sym (tape_after terms a.opening a.es c a.tail t a.is) ∙ ticking ∙ tape_after terms b.opening b.es c2 b.tail t2 b.is in
     let P : Opening → Type 0 = λ o. StopsAt terms o b.es b.tail rest2 end2 in
     let Q : Opening → Type 0 = λ o. length b.es ≤ most_messages o in
-    let R : Opening → Type 0 = λ o. c2 ≡ followed_by (course_in terms (opened o b.es)) b.tail in
+    let R : Opening → Type 0 = λ o. c2 ≡ followed_by (transcript_in terms (opened o b.es)) b.tail in
     after_compared terms a.opening a.es b.es c c2 a.tail b.tail rest rest2 end end2 t t2 a.few (subst Q openings b.few) a.is (subst R openings b.is) a.stops a.settled (subst P openings b.stops) b.settled
     (compared a.es b.es terms drawn (a.tail.taken ++ rest) (b.tail.taken ++ rest2) (tape a.tail.acts ++ t) (tape b.tail.acts ++ t2) a.chain b.chain inputs handed)
 
 -- Two dialogues that end in the opening.
-both_in : (terms : Terms) (c c2 : Course) (rest rest2 : List ℕ) (end end2 : ConnEnd) → InOpening terms c rest end → InOpening terms c2 rest2 end2 → c.taken ++ rest ≡ c2.taken ++ rest2
+both_in : (terms : Terms) (c c2 : Transcript) (rest rest2 : List ℕ) (end end2 : ConnEnd) → InOpening terms c rest end → InOpening terms c2 rest2 end2 → c.taken ++ rest ≡ c2.taken ++ rest2
     → (end ≡ end2) × (c ≡ c2) × (rest ≡ rest2)
 both_in terms c c2 rest rest2 end end2 (reads, acts, draws) (reads2, acts2, draws2) input =
     let same : over end c.written rest ≡ over end2 c2.written rest2 = sym reads ∙ ap (reading terms) input ∙ reads2 in
@@ -552,12 +552,12 @@ both_in terms c c2 rest rest2 end end2 (reads, acts, draws) (reads2, acts2, draw
     let taken : c.taken ≡ c2.taken = append_cancel_right c.taken c2.taken rest2 (ap (λ xs. c.taken ++ xs) (sym rests) ∙ input) in
     ((cc), course_same c.taken c2.taken c.acts c2.acts c.draws c2.draws c.written c2.written taken (acts ∙ sym acts2) (draws ∙ sym draws2) written, rests)
 
-not_in : (terms : Terms) (drawn : ℕ) (c c2 : Course) (rest rest2 : List ℕ) (end end2 : ConnEnd) → InOpening terms c rest end → AfterOpening terms drawn c2 rest2 end2 → c.taken ++ rest ≡ c2.taken ++ rest2 → ⊥
+not_in : (terms : Terms) (drawn : ℕ) (c c2 : Transcript) (rest rest2 : List ℕ) (end end2 : ConnEnd) → InOpening terms c rest end → AfterOpening terms drawn c2 rest2 end2 → c.taken ++ rest ≡ c2.taken ++ rest2 → ⊥
 not_in terms drawn c c2 rest rest2 end end2 (reads, quiet, none) b input =
     let same : over end c.written rest ≡ opens b.opening (flat_map taken_by b.es ++ (b.tail.taken ++ rest2)) = sym reads ∙ ap (reading terms) input ∙ b.reads in cc
 
 -- An input and the answers of the outside have one settled dialogue.
-pub one_dialogue : (terms : Terms) (drawn : ℕ) (c c2 : Course) (rest rest2 : List ℕ) (end end2 : ConnEnd) (t t2 : List Tick)
+pub one_dialogue : (terms : Terms) (drawn : ℕ) (c c2 : Transcript) (rest rest2 : List ℕ) (end end2 : ConnEnd) (t t2 : List OutsideAnswer)
     → Dialogue terms drawn c (Some rest) end → IsSettled end → Dialogue terms drawn c2 (Some rest2) end2 → IsSettled end2
     → c.taken ++ rest ≡ c2.taken ++ rest2 → tape c.acts ++ t ≡ tape c2.acts ++ t2
     → (end ≡ end2) × (c ≡ c2) × (rest ≡ rest2)
@@ -579,7 +579,7 @@ front_told input taken None same = cc
 front_told input taken (Some rest) same = (rest, refl, (cc))
 
 -- A connection that ended in a dialogue went as each settled dialogue of its input says.
-talks_settle : (may : Invocation → Outcome → Type 0) (moves : States → WorkerCall → States → Type 0) (terms : Terms) (start now : Spot) (c : Course) (result : ConnEnd)
+talks_settle : (may : Invocation → Outcome → Type 0) (moves : States → WorkerCall → States → Type 0) (terms : Terms) (start now : ConnectionState) (c : Transcript) (result : ConnEnd)
     → IsConversation may moves terms start now c result → Settles terms start now c result
 unfolding Settles
 talks_settle may moves terms start now c result talks other rest end t t2 told first settled settled2 ticking =
@@ -590,6 +590,6 @@ talks_settle may moves terms start now c result talks other rest end t t2 told f
     (one.0, one.1, is ∙ ap Some one.2)
 
 -- A connection that ended in a dialogue was served.
-pub talked_served : (may : Invocation → Outcome → Type 0) (moves : States → WorkerCall → States → Type 0) (terms : Terms) (start now : Spot) (result : ConnEnd)
+pub talked_served : (may : Invocation → Outcome → Type 0) (moves : States → WorkerCall → States → Type 0) (terms : Terms) (start now : ConnectionState) (result : ConnEnd)
     → Talked may moves terms start now result → IsServedFrom may moves terms start now result
-talked_served may moves terms start now result (c, talks) = record { course = c; talks = talks; settles = talks_settle may moves terms start now c result talks }
+talked_served may moves terms start now result (c, talks) = record { transcript = c; talks = talks; settles = talks_settle may moves terms start now c result talks }

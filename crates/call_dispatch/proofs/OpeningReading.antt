@@ -6,9 +6,9 @@ use Rattle.jrmp_frames.specs.Frames.{header_start, IsInHeader, BreaksHeader, IsE
 use Rattle.call_dispatch.specs.declared.end.ConnEnd.{ConnEnd}
 use Rattle.call_dispatch.specs.declared.end.ConnEnd.TheVariants.{Ended, BadHeader, UnknownProtocol, BadMessage, BadStream, TooLarge, Truncated, NoSuchObject, NoSuchMethod, SpaceFull, MessageLimit, ReadFault, WriteFault, OutOfMemory}
 use Rattle.call_dispatch.specs.End.{IsSettled}
-use Rattle.call_dispatch.specs.Terms.{Terms}
-use Rattle.call_dispatch.specs.Spot.{Course, took}
-use Rattle.call_dispatch.specs.Dialogue.{Opening, stream, single_op, IsOpening, opening_taken, Whole, nothing, greeted, taken_in, written_in, Ends}
+use Rattle.system_objects.specs.Terms.{Terms}
+use Rattle.call_dispatch.specs.ConnectionState.{Transcript, bytes_taken}
+use Rattle.call_dispatch.specs.Dialogue.{Opening, stream, single_op, IsOpening, opening_taken, Completed, nothing, greeted, taken_in, written_in, Ends}
 
 -- what reading the opening gives: an opening and the input after it; or an end, what is written, and the input that is left
 pub data Start : Type 0 where
@@ -102,18 +102,18 @@ opening_passed terms (stream endpoint) xs is = endpoint_passed (protocol_ack ter
 opening_passed terms single_op xs is = refl
 
 -- What a settled end in the opening says: reading gives it, and nothing was done beside taking and writing.
-abbrev pub Reads : Terms → Whole → Course → List ℕ → ConnEnd → Type 0
+abbrev pub Reads : Terms → Completed → Transcript → List ℕ → ConnEnd → Type 0
 Reads terms w tail rest end = (reading terms ((taken_in w ++ tail.taken) ++ rest) ≡ over end (written_in terms w ++ tail.written) rest)
     × (tail.acts ≡ []) × (tail.draws ≡ 0)
 
-reads_is : (terms : Terms) (w : Whole) (tail other : Course) (rest : List ℕ) (end : ConnEnd) → tail ≡ other → Reads terms w other rest end → Reads terms w tail rest end
-reads_is terms w tail other rest end same reads = let P : Course → Type 0 = λ c. Reads terms w c rest end in subst P (sym same) reads
+reads_is : (terms : Terms) (w : Completed) (tail other : Transcript) (rest : List ℕ) (end : ConnEnd) → tail ≡ other → Reads terms w other rest end → Reads terms w tail rest end
+reads_is terms w tail other rest end same reads = let P : Transcript → Type 0 = λ c. Reads terms w c rest end in subst P (sym same) reads
 
-pub nothing_reads : (terms : Terms) (drawn : ℕ) (tail : Course) (rest : List ℕ) (end : ConnEnd) → Ends terms drawn nothing tail (Some rest) end → IsSettled end → Reads terms nothing tail rest end
+pub nothing_reads : (terms : Terms) (drawn : ℕ) (tail : Transcript) (rest : List ℕ) (end : ConnEnd) → Ends terms drawn nothing tail (Some rest) end → IsSettled end → Reads terms nothing tail rest end
 nothing_reads terms drawn tail rest Ended (inl (code, left), is) settled = absurd code
 nothing_reads terms drawn tail rest Ended (inr done, is) settled = absurd done
 nothing_reads terms drawn tail rest (BadHeader at) (none, (more, breaks, is)) settled =
-    reads_is terms nothing tail (took more) rest (BadHeader at) is (header_broken terms at more rest breaks, refl, refl)
+    reads_is terms nothing tail (bytes_taken more) rest (BadHeader at) is (header_broken terms at more rest breaks, refl, refl)
 nothing_reads terms drawn tail rest (UnknownProtocol byte) (none, other, is) settled =
     reads_is terms nothing tail _ rest (UnknownProtocol byte) is
     ((let many = neq-eqb byte 0x4B other.0 in let single = neq-eqb byte 0x4C other.1 in rw (many, single) refl), refl, refl)
@@ -122,7 +122,7 @@ nothing_reads terms drawn tail rest (BadStream kind at) (code, room, how) settle
 nothing_reads terms drawn tail rest (TooLarge what at) (code, room, how) settled = absurd code
 nothing_reads terms drawn tail rest (Truncated at) (inr (code, room, how)) settled = absurd code
 nothing_reads terms drawn tail rest (Truncated at) (inl (more, inside, left, place, is)) settled =
-    reads_is terms nothing tail (took more) rest (Truncated at) is (
+    reads_is terms nothing tail (bytes_taken more) rest (Truncated at) is (
       ap (λ xs. reading terms (more ++ xs)) left ∙ ap (reading terms) (append-nil more) ∙ header_truncated terms more inside
           ∙ ap (λ n. over (Truncated n) [] []) (sym place) ∙ ap (over (Truncated at) []) (sym left),
       refl,
@@ -136,7 +136,7 @@ nothing_reads terms drawn tail rest ReadFault ends settled = absurd settled
 nothing_reads terms drawn tail rest (WriteFault sent) ends settled = absurd settled
 nothing_reads terms drawn tail rest OutOfMemory ends settled = absurd settled
 
-pub greeted_reads : (terms : Terms) (drawn : ℕ) (tail : Course) (rest : List ℕ) (end : ConnEnd) → Ends terms drawn greeted tail (Some rest) end → IsSettled end → Reads terms greeted tail rest end
+pub greeted_reads : (terms : Terms) (drawn : ℕ) (tail : Transcript) (rest : List ℕ) (end : ConnEnd) → Ends terms drawn greeted tail (Some rest) end → IsSettled end → Reads terms greeted tail rest end
 greeted_reads terms drawn tail rest Ended (inl (code, left), is) settled = absurd code
 greeted_reads terms drawn tail rest Ended (inr done, is) settled = absurd done
 greeted_reads terms drawn tail rest (BadHeader at) (none, h) settled = absurd (cc)
@@ -148,7 +148,7 @@ greeted_reads terms drawn tail rest (Truncated at) (inr (code, room, how)) settl
 greeted_reads terms drawn tail rest (Truncated at) (inl (more, inside, left, place, is)) settled =
     let ack : List ℕ = protocol_ack terms.peer_host terms.peer_port in
     let here : 7 + length more ≡ at = omega (arith, place) in
-    reads_is terms greeted tail (took more) rest (Truncated at) is (
+    reads_is terms greeted tail (bytes_taken more) rest (Truncated at) is (
       ap (λ xs. endpoint_next ack (more ++ xs)) left ∙ ap (endpoint_next ack) (append-nil more) ∙ endpoint_truncated ack more inside
           ∙ ap (λ n. over (Truncated n) ack []) here ∙ ap (over (Truncated at) ack) (sym left) ∙ ap (λ l. over (Truncated at) l rest) (sym (append-nil ack)),
       refl,

@@ -14,13 +14,13 @@ use Rattle.call_dispatch.specs.declared.outcome.Invocation.{Invocation}
 use Rattle.call_dispatch.specs.declared.outcome.Outcome.{Outcome}
 use Rattle.call_dispatch.specs.declared.end.ConnEnd.{ConnEnd}
 use Rattle.call_dispatch.specs.declared.end.ConnEnd.TheVariants as ends
-use Rattle.call_dispatch.specs.Terms.{Terms}
-use Rattle.call_dispatch.specs.Acts.{Call, States, Side}
-use Rattle.call_dispatch.specs.Spot.{Spot, exchanged, took, Goes}
+use Rattle.system_objects.specs.Terms.{Terms}
+use Rattle.call_dispatch.specs.Acts.{Call, States, Observed}
+use Rattle.call_dispatch.specs.ConnectionState.{ConnectionState, bytes_exchanged, bytes_taken, LeadsFrom}
 use Rattle.call_dispatch.specs.Dialogue.{nothing, greeted, opened, stream, single_op}
 use Rattle.call_dispatch.specs.Progress.{StandsWhole, Talked, Writes, Refuses, end_from}
 use Rattle.call_dispatch.proofs.Going.{goes_exchanged, goes_took, goes_on}
-use Rattle.call_dispatch.proofs.Steps.{spot_at, course_is, talks_on, talks_took, talks_cut, stands_nothing, stands_on, talks_in}
+use Rattle.call_dispatch.proofs.Steps.{spot_at, transcript_is, talks_on, talks_took, talks_cut, stands_nothing, stands_on, talks_in}
 
 -- What begins the header is short.
 in_header_short : (part : List ℕ) → IsInHeader part → length part ≤ 6
@@ -41,7 +41,7 @@ unfolding protocol_ack
 ack_short host port = simp (length-append) (omega arith)
 
 -- The connection ends in the header.
-pub header_ends : (may : Invocation → Outcome → Type 0) (moves : States → Call → States → Type 0) (terms : Terms) (old new : PullState) (held : Option (List ℕ)) (side : Side) (drawn : ℕ) (fault : FrameFault)
+pub header_ends : (may : Invocation → Outcome → Type 0) (moves : States → Call → States → Type 0) (terms : Terms) (old new : PullState) (held : Option (List ℕ)) (side : Observed) (drawn : ℕ) (fault : FrameFault)
     → old.at ≡ 0 → old.stop ≡ LAST_POSITION → ((byte : ℕ) → fault ≢ UnknownProtocol byte) → GivesHeader old new (Err fault)
     → Talked may moves terms (spot_at old held side drawn) (spot_at new held side drawn) (end_from fault)
 header_ends may moves terms old new held side drawn (BadHeader at) first last told (k, bytes, place, breaks, takes) =
@@ -55,39 +55,39 @@ header_ends may moves terms old new held side drawn (frames.Stream fault) first 
     (λ part inside. omega (arith, in_header_short part inside, first, last)) (λ part inside. (λ at is. inside, inl inside))
 
 -- The header of the stream protocol and its acknowledgement stand.
-pub stands_greeted : (may : Invocation → Outcome → Type 0) (moves : States → Call → States → Type 0) (terms : Terms) (start before now : Spot) (at sent : ℕ)
-    → Goes may moves start before (took (header Stream)) → at ≡ 7 → now.wires.left ≡ before.wires.left → now.side ≡ before.side → now.drawn ≡ before.drawn
+pub stands_greeted : (may : Invocation → Outcome → Type 0) (moves : States → Call → States → Type 0) (terms : Terms) (start before now : ConnectionState) (at sent : ℕ)
+    → LeadsFrom may moves start before (bytes_taken (header Stream)) → at ≡ 7 → now.wires.left ≡ before.wires.left → now.side ≡ before.side → now.drawn ≡ before.drawn
     → Writes before.wires.held now.wires.held 0 (protocol_ack terms.peer_host terms.peer_port) (Ok sent) → StandsWhole may moves terms start now at sent greeted
 stands_greeted may moves terms start before now at sent goes place left side drawn (written, sents) =
     let answer : List ℕ = protocol_ack terms.peer_host terms.peer_port in
     let more = goes_exchanged may moves before now [] answer (sym left ∙ sym (with_front-nothing now.wires.left)) written side drawn in
     record {
       whole = tt;
-      goes = goes_on may moves start before now (took (header Stream)) (exchanged [] answer) goes more;
+      goes = goes_on may moves start before now (bytes_taken (header Stream)) (bytes_exchanged [] answer) goes more;
       position = place;
       count = sents ∙ zero-add (length answer);
     }
 
 -- The acknowledgement of the stream protocol was cut.
-pub greeting_cut : (may : Invocation → Outcome → Type 0) (moves : States → Call → States → Type 0) (terms : Terms) (start before now : Spot) (end : ConnEnd)
-    → Goes may moves start before (took (header Stream)) → now.wires.left ≡ before.wires.left → now.side ≡ before.side → now.drawn ≡ before.drawn
+pub greeting_cut : (may : Invocation → Outcome → Type 0) (moves : States → Call → States → Type 0) (terms : Terms) (start before now : ConnectionState) (end : ConnEnd)
+    → LeadsFrom may moves start before (bytes_taken (header Stream)) → now.wires.left ≡ before.wires.left → now.side ≡ before.side → now.drawn ≡ before.drawn
     → Writes before.wires.held now.wires.held 0 (protocol_ack terms.peer_host terms.peer_port) (Err end) → Talked may moves terms start now end
 greeting_cut may moves terms start before now end goes left side drawn (part, less, is, written) =
     let answer : List ℕ = protocol_ack terms.peer_host terms.peer_port in
     let more = goes_exchanged may moves before now [] (take part answer) (sym left ∙ sym (with_front-nothing now.wires.left)) written side drawn in
-    rw is (talks_cut may moves terms start start now 0 0 part nothing (exchanged (header Stream) answer) (stands_nothing may moves terms start 0 refl)
-    (inl (refl, refl)) less (goes_on may moves start before now (took (header Stream)) (exchanged [] (take part answer)) goes more))
+    rw is (talks_cut may moves terms start start now 0 0 part nothing (bytes_exchanged (header Stream) answer) (stands_nothing may moves terms start 0 refl)
+    (inl (refl, refl)) less (goes_on may moves start before now (bytes_taken (header Stream)) (bytes_exchanged [] (take part answer)) goes more))
 
 -- The whole opening of the stream protocol stands.
-pub stands_opened : (may : Invocation → Outcome → Type 0) (moves : States → Call → States → Type 0) (terms : Terms) (start : Spot) (old new : PullState) (held : Option (List ℕ)) (side : Side) (drawn sent : ℕ) (endpoint : List ℕ)
+pub stands_opened : (may : Invocation → Outcome → Type 0) (moves : States → Call → States → Type 0) (terms : Terms) (start : ConnectionState) (old new : PullState) (held : Option (List ℕ)) (side : Observed) (drawn sent : ℕ) (endpoint : List ℕ)
     → StandsWhole may moves terms start (spot_at old held side drawn) old.at sent greeted → Takes old new endpoint → IsEndpoint endpoint
     → StandsWhole may moves terms start (spot_at new held side drawn) new.at sent (opened (stream endpoint) [])
 stands_opened may moves terms start old new held side drawn sent endpoint stands takes is =
-    stands_on may moves terms start _ _ old.at sent new.at sent greeted (opened (stream endpoint) []) (took endpoint) stands (is, tt, omega arith)
-    (course_is _ _ _ _ _ _ _ _ (append-nil (header Stream ++ endpoint)) refl refl refl) (goes_took may moves _ _ endpoint takes.left refl refl refl) takes.at (omega arith)
+    stands_on may moves terms start _ _ old.at sent new.at sent greeted (opened (stream endpoint) []) (bytes_taken endpoint) stands (is, tt, omega arith)
+    (transcript_is _ _ _ _ _ _ _ _ (append-nil (header Stream ++ endpoint)) refl refl refl) (goes_took may moves _ _ endpoint takes.left refl refl refl) takes.at (omega arith)
 
 -- The connection ends in the client's endpoint.
-pub endpoint_ends : (may : Invocation → Outcome → Type 0) (moves : States → Call → States → Type 0) (terms : Terms) (start : Spot) (old new : PullState) (held : Option (List ℕ)) (side : Side) (drawn sent : ℕ) (fault : FrameFault)
+pub endpoint_ends : (may : Invocation → Outcome → Type 0) (moves : States → Call → States → Type 0) (terms : Terms) (start : ConnectionState) (old new : PullState) (held : Option (List ℕ)) (side : Observed) (drawn sent : ℕ) (fault : FrameFault)
     → StandsWhole may moves terms start (spot_at old held side drawn) old.at sent greeted → old.at + 65541 < old.stop
     → GivesEndpoint {A = Unit {0}} old new (Err fault) → Talked may moves terms start (spot_at new held side drawn) (end_from fault)
 endpoint_ends may moves terms start old new held side drawn sent (BadHeader at) stands room h = absurd h
@@ -98,16 +98,16 @@ endpoint_ends may moves terms start old new held side drawn sent (frames.Stream 
     (λ part inside. omega (arith, in_endpoint_short part inside, room)) (λ part inside. (λ at is. inside, inl inside))
 
 -- No memory was there for the acknowledgement.
-pub memory_ends : (may : Invocation → Outcome → Type 0) (moves : States → Call → States → Type 0) (terms : Terms) (start now : Spot) → Goes may moves start now (took (header Stream)) → Talked may moves terms start now ends.OutOfMemory
+pub memory_ends : (may : Invocation → Outcome → Type 0) (moves : States → Call → States → Type 0) (terms : Terms) (start now : ConnectionState) → LeadsFrom may moves start now (bytes_taken (header Stream)) → Talked may moves terms start now ends.OutOfMemory
 memory_ends may moves terms start now goes =
-    talks_on may moves terms start start now 0 0 nothing (took (header Stream)) ends.OutOfMemory (stands_nothing may moves terms start 0 refl) goes
+    talks_on may moves terms start start now 0 0 nothing (bytes_taken (header Stream)) ends.OutOfMemory (stands_nothing may moves terms start 0 refl) goes
     (inl (header Stream, refl, inr refl, refl))
 
 -- The header of the single-op protocol stands.
-pub stands_single : (may : Invocation → Outcome → Type 0) (moves : States → Call → States → Type 0) (terms : Terms) (old new : PullState) (held : Option (List ℕ)) (side : Side) (drawn : ℕ) → old.at ≡ 0 → Takes old new (header SingleOp)
+pub stands_single : (may : Invocation → Outcome → Type 0) (moves : States → Call → States → Type 0) (terms : Terms) (old new : PullState) (held : Option (List ℕ)) (side : Observed) (drawn : ℕ) → old.at ≡ 0 → Takes old new (header SingleOp)
     → StandsWhole may moves terms (spot_at old held side drawn) (spot_at new held side drawn) new.at 0 (opened single_op [])
 stands_single may moves terms old new held side drawn first takes =
-    stands_on may moves terms _ _ _ old.at 0 new.at 0 nothing (opened single_op []) (took (header SingleOp)) (stands_nothing may moves terms _ old.at first)
+    stands_on may moves terms _ _ _ old.at 0 new.at 0 nothing (opened single_op []) (bytes_taken (header SingleOp)) (stands_nothing may moves terms _ old.at first)
     (tt, tt, omega arith) refl (goes_took may moves _ _ (header SingleOp) takes.left refl refl refl) takes.at refl
 
 -- The client could not be told of an unknown protocol.
@@ -116,14 +116,14 @@ refusal_cut byte before after end (zero, less, is, written) = rw is (refl, writt
 refusal_cut byte before after end (suc part, less, is, written) = absurd (omega arith)
 
 -- The connection ends with an unknown protocol.
-pub refusal_ends : (may : Invocation → Outcome → Type 0) (moves : States → Call → States → Type 0) (terms : Terms) (old new : PullState) (held now : Option (List ℕ)) (side : Side) (drawn byte : ℕ) (end : ConnEnd)
+pub refusal_ends : (may : Invocation → Outcome → Type 0) (moves : States → Call → States → Type 0) (terms : Terms) (old new : PullState) (held now : Option (List ℕ)) (side : Observed) (drawn byte : ℕ) (end : ConnEnd)
     → old.at ≡ 0 → GivesHeader old new (Err (UnknownProtocol byte)) → Refuses byte held now end
     → Talked may moves terms (spot_at old held side drawn) (spot_at new now side drawn) end
 refusal_ends may moves terms old new held now side drawn byte (ends.UnknownProtocol b) first (none, takes) (same, written) =
-    rw same (talks_on may moves terms _ _ _ old.at 0 nothing (exchanged (header_start ++ byte ∷ []) protocol_not_supported) (ends.UnknownProtocol byte) (stands_nothing may moves terms _ old.at first)
+    rw same (talks_on may moves terms _ _ _ old.at 0 nothing (bytes_exchanged (header_start ++ byte ∷ []) protocol_not_supported) (ends.UnknownProtocol byte) (stands_nothing may moves terms _ old.at first)
     (goes_exchanged may moves _ _ (header_start ++ byte ∷ []) protocol_not_supported takes.left written refl refl) (refl, none, refl))
 refusal_ends may moves terms old new held now side drawn byte (ends.WriteFault sent) first (none, takes) (same, written) =
-    rw same (talks_cut may moves terms _ _ _ old.at 0 0 nothing (exchanged (header_start ++ byte ∷ []) protocol_not_supported) (stands_nothing may moves terms _ old.at first)
+    rw same (talks_cut may moves terms _ _ _ old.at 0 0 nothing (bytes_exchanged (header_start ++ byte ∷ []) protocol_not_supported) (stands_nothing may moves terms _ old.at first)
     (inr (inl (byte, (refl, none, refl)))) (omega arith)
     (goes_exchanged may moves _ _ (header_start ++ byte ∷ []) [] takes.left (written ∙ sym (with_end-nothing held)) refl refl))
 refusal_ends may moves terms old new held now side drawn byte ends.Ended first gives refuses = absurd refuses

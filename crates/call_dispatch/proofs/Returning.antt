@@ -9,11 +9,10 @@ use Rattle.ser_values.specs.declared.graph.Graph.{Graph}
 use Rattle.ser_values.specs.declared.value.Value.{Value}
 use Rattle.history.specs.declared.replies.Reply.{Reply}
 use Rattle.history.specs.declared.replies.Reply.TheVariants.{Finished}
-use Rattle.java_shapes.specs.Fault.{fault_nodes, fault_items}
 use Rattle.jrmp_frames.specs.declared.message.Body.TheVariants as bodies
 use Rattle.jrmp_frames.specs.Messages.{return_message}
 use Rattle.jrmp_frames.specs.declared.head.CallHead.{CallHead}
-use Rattle.call_dispatch.specs.declared.book.Kind.{Kind}
+use Rattle.system_objects.specs.declared.book.Kind.{Kind}
 use Rattle.call_dispatch.specs.declared.outcome.Outcome.{Outcome}
 use Rattle.call_dispatch.specs.declared.outcome.Outcome.TheVariants.{Void, Prim, Tree, NewRemote, OldRemote, Fault, OutOfMemory}
 use Rattle.call_dispatch.specs.declared.results.Pending.{Pending}
@@ -21,18 +20,14 @@ use Rattle.call_dispatch.specs.declared.results.Sent.{Sent}
 use Rattle.call_dispatch.specs.declared.results.Sent.TheVariants.{Whole, New}
 use Rattle.call_dispatch.specs.declared.returns.Prepared.{Prepared}
 use Rattle.call_dispatch.specs.declared.returns.Prepared.TheVariants.{Normal, Exceptional}
-use Rattle.call_dispatch.specs.Book.{methods_of, first_with}
-use Rattle.call_dispatch.specs.Results.{made_by, listed_by, interface_of, own_return, normal_return}
-use Rattle.call_dispatch.specs.Returns.{fault_return, returns_place, suits, is_short, is_sent, fits, fault_message, wrong_outcome}
-use Rattle.call_dispatch.specs.Served.{minus_one, IsMethodOf, HasNoMethod, IsFinished}
+use Rattle.system_objects.specs.Book.{methods_of, first_with}
+use Rattle.call_dispatch.specs.Results.{made_by, listed_by, interface_of, normal_return}
+use Rattle.system_objects.specs.ReturnBytes.{own_return, fault_return, wrong_outcome}
+use Rattle.call_dispatch.specs.Returns.{returns_place, suits, is_short, is_sent, fits, fault_message}
+use Rattle.call_dispatch.specs.Served.{IsMethodOf, HasNoMethod, IsFinished}
+use Rattle.system_ids.specs.SystemMethods.{minus_one}
 use Rattle.call_dispatch.specs.Serving.{IsReadySent, IsReadyFor, IsSent, IsPending, PreparesPlain, PreparesGraph, Prepares}
-use Rattle.call_dispatch.specs.Terms.{Terms}
-
-pub fault_written : {E : Type 0} (uid : Uid) (message : List ℕ) (graph : Graph) (result : Result (List ℕ) E) → graph.nodes ≡ fault_nodes message → graph.items ≡ fault_items
-    → IfOk result (λ bytes. bytes ≡ return_message false uid (bodies.Tree graph)) → IfOk result (λ bytes. bytes ≡ fault_return uid message)
-unfolding fault_return
-fault_written uid message graph (Ok bytes) nodes items is = rw (nodes, items) at is
-fault_written uid message graph (Err e) nodes items is = tt
+use Rattle.system_objects.specs.Terms.{Terms}
 
 pub found_method : (kinds : List Kind) (kind : ℕ) (head : CallHead) (found : Option ℕ) → head.operation ≡ minus_one → found ≡ first_with head.hash (methods_of kinds kind)
     → IfSome found (IsMethodOf kinds kind head)
@@ -58,93 +53,93 @@ first_false true b is = absurd (true≢false is)
 first_false false b is = refl
 
 -- An outcome with this Return, which makes no object and refers to none, is prepared by its bytes.
-outcome_plain : {E : Type 0} (terms : Terms) (uid : Uid) (returned : Option TypeCode) (outcome : Outcome) (b : Bool) (bytes : List ℕ) (result : Result Prepared E) → made_by outcome ≡ [] → listed_by terms outcome ≡ []
+outcome_plain : {E : Type 0} (terms : Terms) (uid : Uid) (result_type : Option TypeCode) (outcome : Outcome) (b : Bool) (bytes : List ℕ) (result : Result Prepared E) → made_by outcome ≡ [] → listed_by terms outcome ≡ []
     → ((reply : Reply) → bytes ≡ normal_return terms uid outcome reply) → is_sent uid outcome ≡ is_short bytes → outcome ≢ OutOfMemory → fault_message uid outcome ≡ wrong_outcome
-    → b ≡ suits terms.kinds returned outcome → PreparesPlain uid b bytes result → Prepares terms uid returned outcome result
-outcome_plain terms uid returned outcome b bytes (Ok (Normal pending)) makes lists sends short other wrong suited (good, few, (made, listed, sent)) =
+    → b ≡ suits terms.kinds result_type outcome → PreparesPlain uid b bytes result → Prepares terms uid result_type outcome result
+outcome_plain terms uid result_type outcome b bytes (Ok (Normal pending)) makes lists sends short other wrong suited (good, few, (made, listed, sent)) =
     let P : Sent → Type 0 = λ x. IsSent terms uid outcome x in (
-      both (suits terms.kinds returned outcome) (is_sent uid outcome) (sym suited ∙ good) (short ∙ few),
+      both (suits terms.kinds result_type outcome) (is_sent uid outcome) (sym suited ∙ good) (short ∙ few),
       record { made = made ∙ sym makes; listed = listed ∙ sym lists; sent = subst P (sym sent) sends },
     )
-outcome_plain terms uid returned outcome b bytes (Ok (Exceptional other_bytes)) makes lists sends short other wrong suited (unfit, is) =
-    (ap (λ x. suits terms.kinds returned outcome && x) short ∙ ap (λ x. x && is_short bytes) (sym suited) ∙ unfit, other, is ∙ ap (fault_return uid) (sym wrong))
-outcome_plain terms uid returned outcome b bytes (Err e) makes lists sends short other wrong suited h = tt
+outcome_plain terms uid result_type outcome b bytes (Ok (Exceptional other_bytes)) makes lists sends short other wrong suited (unfit, is) =
+    (ap (λ x. suits terms.kinds result_type outcome && x) short ∙ ap (λ x. x && is_short bytes) (sym suited) ∙ unfit, other, is ∙ ap (fault_return uid) (sym wrong))
+outcome_plain terms uid result_type outcome b bytes (Err e) makes lists sends short other wrong suited h = tt
 
-pub void_prepared : {E : Type 0} (terms : Terms) (uid : Uid) (returned : Option TypeCode) (b : Bool) (result : Result Prepared E) → b ≡ suits terms.kinds returned Void
-    → PreparesPlain uid b (return_message true uid bodies.Void) result → Prepares terms uid returned Void result
-void_prepared terms uid returned b result suited h =
-    outcome_plain terms uid returned Void b (return_message true uid bodies.Void) result refl refl (λ reply. refl) refl (λ same. cc) refl suited h
+pub void_prepared : {E : Type 0} (terms : Terms) (uid : Uid) (result_type : Option TypeCode) (b : Bool) (result : Result Prepared E) → b ≡ suits terms.kinds result_type Void
+    → PreparesPlain uid b (return_message true uid bodies.Void) result → Prepares terms uid result_type Void result
+void_prepared terms uid result_type b result suited h =
+    outcome_plain terms uid result_type Void b (return_message true uid bodies.Void) result refl refl (λ reply. refl) refl (λ same. cc) refl suited h
 
-pub value_prepared : {E : Type 0} (terms : Terms) (uid : Uid) (returned : Option TypeCode) (value : Value) (b : Bool) (result : Result Prepared E) → b ≡ suits terms.kinds returned (Prim value)
-    → PreparesPlain uid b (return_message true uid (bodies.Prim value)) result → Prepares terms uid returned (Prim value) result
-value_prepared terms uid returned value b result suited h =
-    outcome_plain terms uid returned (Prim value) b (return_message true uid (bodies.Prim value)) result refl refl (λ reply. refl) refl (λ same. cc) refl suited h
+pub value_prepared : {E : Type 0} (terms : Terms) (uid : Uid) (result_type : Option TypeCode) (value : Value) (b : Bool) (result : Result Prepared E) → b ≡ suits terms.kinds result_type (Prim value)
+    → PreparesPlain uid b (return_message true uid (bodies.Prim value)) result → Prepares terms uid result_type (Prim value) result
+value_prepared terms uid result_type value b result suited h =
+    outcome_plain terms uid result_type (Prim value) b (return_message true uid (bodies.Prim value)) result refl refl (λ reply. refl) refl (λ same. cc) refl suited h
 
 -- A graph that suits its method.
-pub tree_prepared : {E : Type 0} (terms : Terms) (uid : Uid) (returned : Option TypeCode) (graph : Graph) (listed : List ObjId) (result : Result Prepared E) → suits terms.kinds returned (Tree graph) ≡ true
-    → listed ≡ listed_by terms (Tree graph) → PreparesGraph uid graph listed result → Prepares terms uid returned (Tree graph) result
-tree_prepared terms uid returned graph listed (Ok (Normal pending)) suited lists (few, made, lists2, sent) =
+pub tree_prepared : {E : Type 0} (terms : Terms) (uid : Uid) (result_type : Option TypeCode) (graph : Graph) (listed : List ObjId) (result : Result Prepared E) → suits terms.kinds result_type (Tree graph) ≡ true
+    → listed ≡ listed_by terms (Tree graph) → PreparesGraph uid graph listed result → Prepares terms uid result_type (Tree graph) result
+tree_prepared terms uid result_type graph listed (Ok (Normal pending)) suited lists (few, made, lists2, sent) =
     let P : Sent → Type 0 = λ x. IsSent terms uid (Tree graph) x in
-    (both (suits terms.kinds returned (Tree graph)) (is_sent uid (Tree graph)) suited few, record { made = made; listed = lists2 ∙ lists; sent = subst P (sym sent) (λ reply. refl) })
-tree_prepared terms uid returned graph listed (Ok (Exceptional bytes)) suited lists (unfit, is) = (one_false (suits terms.kinds returned (Tree graph)) (is_sent uid (Tree graph)) unfit, (λ same. cc), is)
-tree_prepared terms uid returned graph listed (Err e) suited lists h = tt
+    (both (suits terms.kinds result_type (Tree graph)) (is_sent uid (Tree graph)) suited few, record { made = made; listed = lists2 ∙ lists; sent = subst P (sym sent) (λ reply. refl) })
+tree_prepared terms uid result_type graph listed (Ok (Exceptional bytes)) suited lists (unfit, is) = (one_false (suits terms.kinds result_type (Tree graph)) (is_sent uid (Tree graph)) unfit, (λ same. cc), is)
+tree_prepared terms uid result_type graph listed (Err e) suited lists h = tt
 
 -- An outcome that doesn't suit its method.
-wrong_prepared : {E : Type 0} (terms : Terms) (uid : Uid) (returned : Option TypeCode) (outcome : Outcome) (result : Result Prepared E) → suits terms.kinds returned outcome ≡ false → outcome ≢ OutOfMemory
-    → fault_message uid outcome ≡ wrong_outcome → IfOk result (λ prepared. prepared ≡ Exceptional (fault_return uid wrong_outcome)) → Prepares terms uid returned outcome result
-wrong_prepared terms uid returned outcome (Ok (Normal pending)) unfit other wrong is = absurd (cc)
-wrong_prepared terms uid returned outcome (Ok (Exceptional bytes)) unfit other wrong is =
+wrong_prepared : {E : Type 0} (terms : Terms) (uid : Uid) (result_type : Option TypeCode) (outcome : Outcome) (result : Result Prepared E) → suits terms.kinds result_type outcome ≡ false → outcome ≢ OutOfMemory
+    → fault_message uid outcome ≡ wrong_outcome → IfOk result (λ prepared. prepared ≡ Exceptional (fault_return uid wrong_outcome)) → Prepares terms uid result_type outcome result
+wrong_prepared terms uid result_type outcome (Ok (Normal pending)) unfit other wrong is = absurd (cc)
+wrong_prepared terms uid result_type outcome (Ok (Exceptional bytes)) unfit other wrong is =
     let same : bytes ≡ fault_return uid wrong_outcome = cc in
-    (first_false (suits terms.kinds returned outcome) (is_sent uid outcome) unfit, other, same ∙ ap (fault_return uid) (sym wrong))
-wrong_prepared terms uid returned outcome (Err e) unfit other wrong is = tt
+    (first_false (suits terms.kinds result_type outcome) (is_sent uid outcome) unfit, other, same ∙ ap (fault_return uid) (sym wrong))
+wrong_prepared terms uid result_type outcome (Err e) unfit other wrong is = tt
 
-pub tree_wrong : {E : Type 0} (terms : Terms) (uid : Uid) (returned : Option TypeCode) (graph : Graph) (result : Result Prepared E) → suits terms.kinds returned (Tree graph) ≡ false
-    → IfOk result (λ prepared. prepared ≡ Exceptional (fault_return uid wrong_outcome)) → Prepares terms uid returned (Tree graph) result
-tree_wrong terms uid returned graph result unfit is = wrong_prepared terms uid returned (Tree graph) result unfit (λ same. cc) refl is
+pub tree_wrong : {E : Type 0} (terms : Terms) (uid : Uid) (result_type : Option TypeCode) (graph : Graph) (result : Result Prepared E) → suits terms.kinds result_type (Tree graph) ≡ false
+    → IfOk result (λ prepared. prepared ≡ Exceptional (fault_return uid wrong_outcome)) → Prepares terms uid result_type (Tree graph) result
+tree_wrong terms uid result_type graph result unfit is = wrong_prepared terms uid result_type (Tree graph) result unfit (λ same. cc) refl is
 
-new_suits : (kinds : List Kind) (returned : Option TypeCode) (kind : ℕ) → suits kinds returned (NewRemote kind) ≡ returns_place kinds returned kind
+new_suits : (kinds : List Kind) (result_type : Option TypeCode) (kind : ℕ) → suits kinds result_type (NewRemote kind) ≡ returns_place kinds result_type kind
 new_suits kinds None kind = refl
 new_suits kinds (Some code) kind = refl
 
-old_suits : (kinds : List Kind) (returned : Option TypeCode) (object : ObjId) (kind : ℕ) → suits kinds returned (OldRemote object kind) ≡ returns_place kinds returned kind
+old_suits : (kinds : List Kind) (result_type : Option TypeCode) (object : ObjId) (kind : ℕ) → suits kinds result_type (OldRemote object kind) ≡ returns_place kinds result_type kind
 old_suits kinds None object kind = refl
 old_suits kinds (Some code) object kind = refl
 
-pub new_wrong : {E : Type 0} (terms : Terms) (uid : Uid) (returned : Option TypeCode) (kind : ℕ) (result : Result Prepared E) → returns_place terms.kinds returned kind ≡ false
-    → IfOk result (λ prepared. prepared ≡ Exceptional (fault_return uid wrong_outcome)) → Prepares terms uid returned (NewRemote kind) result
-new_wrong terms uid returned kind result unfit is = wrong_prepared terms uid returned (NewRemote kind) result (new_suits terms.kinds returned kind ∙ unfit) (λ same. cc) refl is
+pub new_wrong : {E : Type 0} (terms : Terms) (uid : Uid) (result_type : Option TypeCode) (kind : ℕ) (result : Result Prepared E) → returns_place terms.kinds result_type kind ≡ false
+    → IfOk result (λ prepared. prepared ≡ Exceptional (fault_return uid wrong_outcome)) → Prepares terms uid result_type (NewRemote kind) result
+new_wrong terms uid result_type kind result unfit is = wrong_prepared terms uid result_type (NewRemote kind) result (new_suits terms.kinds result_type kind ∙ unfit) (λ same. cc) refl is
 
-pub old_wrong : {E : Type 0} (terms : Terms) (uid : Uid) (returned : Option TypeCode) (object : ObjId) (kind : ℕ) (result : Result Prepared E) → returns_place terms.kinds returned kind ≡ false
-    → IfOk result (λ prepared. prepared ≡ Exceptional (fault_return uid wrong_outcome)) → Prepares terms uid returned (OldRemote object kind) result
-old_wrong terms uid returned object kind result unfit is = wrong_prepared terms uid returned (OldRemote object kind) result (old_suits terms.kinds returned object kind ∙ unfit) (λ same. cc) refl is
+pub old_wrong : {E : Type 0} (terms : Terms) (uid : Uid) (result_type : Option TypeCode) (object : ObjId) (kind : ℕ) (result : Result Prepared E) → returns_place terms.kinds result_type kind ≡ false
+    → IfOk result (λ prepared. prepared ≡ Exceptional (fault_return uid wrong_outcome)) → Prepares terms uid result_type (OldRemote object kind) result
+old_wrong terms uid result_type object kind result unfit is = wrong_prepared terms uid result_type (OldRemote object kind) result (old_suits terms.kinds result_type object kind ∙ unfit) (λ same. cc) refl is
 
 -- A new object suits its method.
-pub new_prepared : (terms : Terms) (uid : Uid) (returned : Option TypeCode) (kind : ℕ) (interface : List ℕ) (pending : Pending) → returns_place terms.kinds returned kind ≡ true → interface ≡ interface_of terms.kinds kind
-    → pending.made ≡ kind ∷ [] → pending.listed ≡ [] → pending.sent ≡ New interface → (fits terms uid returned (NewRemote kind) ≡ true) × IsPending terms uid (NewRemote kind) pending
-new_prepared terms uid returned kind interface pending suited is made listed sent =
+pub new_prepared : (terms : Terms) (uid : Uid) (result_type : Option TypeCode) (kind : ℕ) (interface : List ℕ) (pending : Pending) → returns_place terms.kinds result_type kind ≡ true → interface ≡ interface_of terms.kinds kind
+    → pending.made ≡ kind ∷ [] → pending.listed ≡ [] → pending.sent ≡ New interface → (fits terms uid result_type (NewRemote kind) ≡ true) × IsPending terms uid (NewRemote kind) pending
+new_prepared terms uid result_type kind interface pending suited is made listed sent =
     let P : Sent → Type 0 = λ x. IsSent terms uid (NewRemote kind) x in (
-      both (suits terms.kinds returned (NewRemote kind)) true (new_suits terms.kinds returned kind ∙ suited) refl,
+      both (suits terms.kinds result_type (NewRemote kind)) true (new_suits terms.kinds result_type kind ∙ suited) refl,
       record { made = made; listed = listed; sent = subst P (sym sent) (kind, refl, is) },
     )
 
 -- An object of the server suits its method.
-pub old_prepared : (terms : Terms) (uid : Uid) (returned : Option TypeCode) (object : ObjId) (kind : ℕ) (interface bytes : List ℕ) (pending : Pending) → returns_place terms.kinds returned kind ≡ true → interface ≡ interface_of terms.kinds kind
+pub old_prepared : (terms : Terms) (uid : Uid) (result_type : Option TypeCode) (object : ObjId) (kind : ℕ) (interface bytes : List ℕ) (pending : Pending) → returns_place terms.kinds result_type kind ≡ true → interface ≡ interface_of terms.kinds kind
     → bytes ≡ own_return terms uid interface object → pending.made ≡ [] → pending.listed ≡ object ∷ [] → pending.sent ≡ Whole bytes
-    → (fits terms uid returned (OldRemote object kind) ≡ true) × IsPending terms uid (OldRemote object kind) pending
-old_prepared terms uid returned object kind interface bytes pending suited is bytes_are made listed sent =
+    → (fits terms uid result_type (OldRemote object kind) ≡ true) × IsPending terms uid (OldRemote object kind) pending
+old_prepared terms uid result_type object kind interface bytes pending suited is bytes_are made listed sent =
     let P : Sent → Type 0 = λ x. IsSent terms uid (OldRemote object kind) x in (
-      both (suits terms.kinds returned (OldRemote object kind)) true (old_suits terms.kinds returned object kind ∙ suited) refl,
+      both (suits terms.kinds result_type (OldRemote object kind)) true (old_suits terms.kinds result_type object kind ∙ suited) refl,
       record { made = made; listed = listed; sent = subst P (sym sent) (λ reply. bytes_are ∙ ap (λ i. own_return terms uid i object) is) },
     )
 
-fault_unfit : (terms : Terms) (uid : Uid) (returned : Option TypeCode) (message : List ℕ) → fits terms uid returned (Fault message) ≡ false
+fault_unfit : (terms : Terms) (uid : Uid) (result_type : Option TypeCode) (message : List ℕ) → fits terms uid result_type (Fault message) ≡ false
 fault_unfit terms uid None message = refl
 fault_unfit terms uid (Some code) message = refl
 
 -- A worker's own message.
-pub fault_prepared : (terms : Terms) (uid : Uid) (returned : Option TypeCode) (message bytes : List ℕ) → bytes ≡ fault_return uid (fault_message uid (Fault message))
-    → (fits terms uid returned (Fault message) ≡ false) × (Fault message ≢ OutOfMemory) × (bytes ≡ fault_return uid (fault_message uid (Fault message)))
-fault_prepared terms uid returned message bytes is = (fault_unfit terms uid returned message, (λ same. cc), is)
+pub fault_prepared : (terms : Terms) (uid : Uid) (result_type : Option TypeCode) (message bytes : List ℕ) → bytes ≡ fault_return uid (fault_message uid (Fault message))
+    → (fits terms uid result_type (Fault message) ≡ false) × (Fault message ≢ OutOfMemory) × (bytes ≡ fault_return uid (fault_message uid (Fault message)))
+fault_prepared terms uid result_type message bytes is = (fault_unfit terms uid result_type message, (λ same. cc), is)
 
 -- ---- what is sent
 

@@ -4,12 +4,12 @@ use Rattle.call_dispatch.specs.declared.connection.Connection.{Connection}
 use Rattle.call_dispatch.specs.declared.outcome.Invocation.{Invocation}
 use Rattle.call_dispatch.specs.declared.outcome.Outcome.{Outcome}
 use Rattle.call_dispatch.specs.declared.end.ConnEnd.{ConnEnd}
-use Rattle.call_dispatch.specs.Terms.{Terms, terms_of}
+use Rattle.system_objects.specs.Terms.{Terms, terms_of}
 use Rattle.call_dispatch.specs.Acts.{Call, States}
-use Rattle.call_dispatch.specs.Spot.{Spot, Stays, IsLent}
+use Rattle.call_dispatch.specs.ConnectionState.{ConnectionState, Stays, IsLent}
 use Rattle.call_dispatch.specs.Faults.{FaultCounts, Grew}
 use Rattle.jrmp_frames.specs.declared.header.Protocol.{Protocol}
-use Rattle.call_dispatch.specs.Progress.{GoesOn, Steps}
+use Rattle.call_dispatch.specs.Progress.{FinishesDialogue, Steps}
 
 -- What stays as it was is lent on.
 pub stays_lent : {S K C P W : Type 0} (a b : Connection S K C P W) → Stays a b → IsLent a b
@@ -40,12 +40,12 @@ pub grew_on : (a b c : FaultCounts) → Grew a b → Grew b c → Grew a c
 grew_on a b c first then = record { source = omega (arith, first.source, then.source); sink = omega (arith, first.sink, then.sink) }
 
 -- The terms of a step are those of its connection's beginning.
-pub steps_on : (may : Invocation → Outcome → Type 0) (moves : States → Call → States → Type 0) (terms first : Terms) (before now : Spot) (at sent served at2 : ℕ) (result : Result ℕ ConnEnd)
+pub steps_on : (may : Invocation → Outcome → Type 0) (moves : States → Call → States → Type 0) (terms first : Terms) (before now : ConnectionState) (at sent served at2 : ℕ) (result : Result ℕ ConnEnd)
     → terms ≡ first → Steps may moves terms before now at sent served at2 result → Steps may moves first before now at sent served at2 result
 steps_on may moves terms first before now at sent served at2 result same steps =
     let P : Terms → Type 0 = λ t. Steps may moves t before now at sent served at2 result in subst P same steps
 
-pub goes_on_terms : (may : Invocation → Outcome → Type 0) (moves : States → Call → States → Type 0) (terms first : Terms) (protocol : Protocol) (before now : Spot) (at sent : ℕ) (end : ConnEnd)
-    → terms ≡ first → GoesOn may moves terms protocol before now at sent end → GoesOn may moves first protocol before now at sent end
+pub goes_on_terms : (may : Invocation → Outcome → Type 0) (moves : States → Call → States → Type 0) (terms first : Terms) (protocol : Protocol) (before now : ConnectionState) (at sent : ℕ) (end : ConnEnd)
+    → terms ≡ first → FinishesDialogue may moves terms protocol before now at sent end → FinishesDialogue may moves first protocol before now at sent end
 goes_on_terms may moves terms first protocol before now at sent end same goes =
-    let P : Terms → Type 0 = λ t. GoesOn may moves t protocol before now at sent end in subst P same goes
+    let P : Terms → Type 0 = λ t. FinishesDialogue may moves t protocol before now at sent end in subst P same goes

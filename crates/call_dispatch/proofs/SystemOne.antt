@@ -2,8 +2,8 @@
 use Rattle.std.proofs.Common.{◌≡◌, ◌≢◌, true, false, true≢false, ℕ, ◌+◌, ◌≤◌, ◌⊎◌, inl, inr, List, [], ◌∷◌, ◌++◌, length, drop, Option, None, Some, Result, Ok, Err, refl, ap, sym, subst, ◌∙◌, arith, append_assoc, append-nil, length-append}
 use Rattle.class_desc.specs.declared.field.TypeCode.{TypeCode}
 use Rattle.class_desc.specs.declared.slot.Item.TheVariants as items
-use Rattle.ser_values.specs.Spelled.{joined}
-use Rattle.ser_values.specs.Reading.{magic_at}
+use Rattle.stream_grammar.specs.Spelled.{joined}
+use Rattle.stream_grammar.specs.Reading.{magic_at}
 use Rattle.ser_read.specs.declared.serving.Want.{Want}
 use Rattle.ser_read.specs.declared.serving.Want.TheVariants as wanted
 use Rattle.ser_read.specs.Wants.{nothing_read, serve_to_close, wants_at}
@@ -24,22 +24,25 @@ use Rattle.jrmp_frames.specs.Messages.{head_bytes, wants_of, CallBytes}
 use Rattle.jrmp_frames.specs.Calls.{head_at}
 use Rattle.jrmp_frames.proofs.Calls.{Whole, headed, head_then}
 use Rattle.jrmp_frames.proofs.CallLaws.{call_is_one}
-use Rattle.call_dispatch.specs.declared.book.Kind.{Kind}
-use Rattle.call_dispatch.specs.declared.demand.Bar.{Bar}
+use Rattle.system_objects.specs.declared.book.Kind.{Kind}
+use Rattle.system_objects.specs.declared.request.Rejection.{Rejection}
 use Rattle.call_dispatch.specs.declared.end.ConnEnd.{ConnEnd}
-use Rattle.call_dispatch.specs.declared.system.SystemMethod.{SystemMethod}
+use Rattle.system_ids.specs.declared.methods.SystemMethod.{SystemMethod}
 use Rattle.call_dispatch.specs.End.{IsSettled}
 use Rattle.call_dispatch.specs.Acts.{acts_of}
-use Rattle.call_dispatch.specs.Demands.{demand_of, client_draws}
+use Rattle.system_objects.specs.SystemRequests.{request_of, client_draws}
 use Rattle.call_dispatch.specs.Inside.{BreaksAt}
 use Rattle.call_dispatch.specs.Served.{FitsHead, AtHead, served_acts, IsServed}
-use Rattle.call_dispatch.specs.Spot.{Course, took}
-use Rattle.call_dispatch.specs.SystemReturns.{answer_written}
-use Rattle.call_dispatch.specs.Systems.{is_system, system_method, params_of, System, unknown, barred, turned, system_acts, drawn_at, IsSystem}
-use Rattle.call_dispatch.specs.Terms.{Terms}
+use Rattle.call_dispatch.specs.ConnectionState.{Transcript, bytes_taken}
+use Rattle.system_objects.specs.SystemReturns.{answer_written}
+use Rattle.call_dispatch.specs.Systems.{System, unknown, rejected, turned, system_acts, drawn_at, IsSystem}
+use Rattle.system_ids.specs.SystemIds.{is_system}
+use Rattle.system_objects.specs.MethodByHead.{system_method}
+use Rattle.system_ids.specs.SystemMethods.{params_of}
+use Rattle.system_objects.specs.Terms.{Terms}
 use Rattle.ser_values.specs.declared.limits.TheConstants.{MESSAGE_BYTES}
 use Rattle.call_dispatch.specs.Dialogue.{EndsInHead, EndsInArguments, EndsInSystem}
-use Rattle.call_dispatch.specs.Tape.{Tick, answered, tape}
+use Rattle.call_dispatch.specs.Tape.{OutsideAnswer, turn_answer, tape}
 use Rattle.call_dispatch.proofs.HeadReads.{head_given, one_front, same_head, Begins, call_begins}
 use Rattle.call_dispatch.proofs.Breaks.{same_behind, breaks_one, breaks_read, breaks_within}
 use Rattle.call_dispatch.proofs.Tapes.{turn_alone}
@@ -49,7 +52,7 @@ use Rattle.call_dispatch.proofs.CallsOne.{served_begins, begin_same, front_same,
 
 pub system_begins : (terms : Terms) (drawn : ℕ) (head : CallHead) (bytes : List ℕ) (uid : Uid) (s : System) → IsSystem terms drawn head bytes uid s → Begins head bytes
 system_begins terms drawn head bytes uid unknown ((left, heading), none, is) = record { front = bytes; left = left; more = []; is = sym (append-nil bytes); heading = heading }
-system_begins terms drawn head bytes uid (barred method arguments bar) (known, call, is, e) = call_begins head (params_of method) arguments bytes call
+system_begins terms drawn head bytes uid (rejected method arguments bar) (known, call, is, e) = call_begins head (params_of method) arguments bytes call
 system_begins terms drawn head bytes uid (turned method arguments ask moment answer written) (known, call, is, e, fits, ws) = call_begins head (params_of method) arguments bytes call
 
 abbrev some_method : SystemMethod → Option SystemMethod
@@ -72,18 +75,18 @@ read_same head method method2 a a2 bytes bytes2 rest rest2 known known2 call cal
     (methods, arguments_same a a2 same.2 same.3 same.4, ap (drop 1) same.0)
 
 -- One method with one list of arguments asks for one thing.
-demanded_same : (terms : Terms) (drawn : ℕ) (m m2 : SystemMethod) (a a2 : Arguments) (uid uid2 : Uid) (r r2 : Result Ask Bar) → m ≡ m2 → a ≡ a2
+demanded_same : (terms : Terms) (drawn : ℕ) (m m2 : SystemMethod) (a a2 : Arguments) (uid uid2 : Uid) (r r2 : Result Ask Rejection) → m ≡ m2 → a ≡ a2
     → uid ≡ drawn_at terms (drawn + client_draws m a) → uid2 ≡ drawn_at terms (drawn + client_draws m2 a2)
-    → demand_of terms m a (drawn_at terms drawn) uid ≡ r → demand_of terms m2 a2 (drawn_at terms drawn) uid2 ≡ r2 → (uid ≡ uid2) × (r ≡ r2)
+    → request_of terms m a (drawn_at terms drawn) uid ≡ r → request_of terms m2 a2 (drawn_at terms drawn) uid2 ≡ r2 → (uid ≡ uid2) × (r ≡ r2)
 demanded_same terms drawn m m2 a a2 uid uid2 r r2 ms args is is2 e e2 =
     let uids : uid ≡ uid2 = is ∙ ap (λ x. drawn_at terms (drawn + client_draws x a)) ms ∙ ap (λ x. drawn_at terms (drawn + client_draws m2 x)) args ∙ sym is2 in
-    let demands : demand_of terms m a (drawn_at terms drawn) uid ≡ demand_of terms m2 a2 (drawn_at terms drawn) uid2 =
-    ap (λ x. demand_of terms x a (drawn_at terms drawn) uid) ms ∙ ap (λ x. demand_of terms m2 x (drawn_at terms drawn) uid) args ∙ ap (λ x. demand_of terms m2 a2 (drawn_at terms drawn) x) uids in
+    let demands : request_of terms m a (drawn_at terms drawn) uid ≡ request_of terms m2 a2 (drawn_at terms drawn) uid2 =
+    ap (λ x. request_of terms x a (drawn_at terms drawn) uid) ms ∙ ap (λ x. request_of terms m2 x (drawn_at terms drawn) uid) args ∙ ap (λ x. request_of terms m2 a2 (drawn_at terms drawn) x) uids in
     (uids, sym e ∙ demands ∙ e2)
 
 -- what the outside hands in at a turn
-abbrev turn_ticks : ℕ → Result Turn Refused → List Tick
-turn_ticks moment answer = answered moment (end_of answer) ∷ []
+abbrev turn_ticks : ℕ → Result Turn Refused → List OutsideAnswer
+turn_ticks moment answer = turn_answer moment (end_of answer) ∷ []
 
 turned_tape : (ask : Ask) (moment : ℕ) (answer : Result Turn Refused) → answer ≢ Err refusals.OutOfMemory → tape (acts_of moment ask answer) ≡ turn_ticks moment answer
 turned_tape ask moment (Ok turn) other = turn_alone moment ask turn
@@ -91,55 +94,55 @@ turned_tape ask moment (Err refusals.HistoryFull) other = refl
 turned_tape ask moment (Err (refusals.Full kind)) other = refl
 turned_tape ask moment (Err refusals.OutOfMemory) other = absurd (other refl)
 
-ticks_one : (m m2 : ℕ) (a a2 : Result Turn Refused) (t t2 : List Tick) → turn_ticks m a ++ t ≡ turn_ticks m2 a2 ++ t2 → (m ≡ m2) × (a ≡ a2) × (t ≡ t2)
+ticks_one : (m m2 : ℕ) (a a2 : Result Turn Refused) (t t2 : List OutsideAnswer) → turn_ticks m a ++ t ≡ turn_ticks m2 a2 ++ t2 → (m ≡ m2) × (a ≡ a2) × (t ≡ t2)
 ticks_one m m2 (Ok turn) (Ok turn2) t t2 same = ((cc), (cc), (cc))
 ticks_one m m2 (Ok turn) (Err refusal) t t2 same = absurd (cc)
 ticks_one m m2 (Err refusal) (Ok turn) t t2 same = absurd (cc)
 ticks_one m m2 (Err refusal) (Err refusal2) t t2 same = ((cc), (cc), (cc))
 
-barred_same : (m m2 : SystemMethod) (a a2 : Arguments) (b b2 : Bar) → m ≡ m2 → a ≡ a2 → b ≡ b2 → barred m a b ≡ barred m2 a2 b2
-barred_same m m2 a a2 b b2 ms args bs = ap (λ x. barred x a b) ms ∙ ap (λ x. barred m2 x b) args ∙ ap (λ x. barred m2 a2 x) bs
+barred_same : (m m2 : SystemMethod) (a a2 : Arguments) (b b2 : Rejection) → m ≡ m2 → a ≡ a2 → b ≡ b2 → rejected m a b ≡ rejected m2 a2 b2
+barred_same m m2 a a2 b b2 ms args bs = ap (λ x. rejected x a b) ms ∙ ap (λ x. rejected m2 x b) args ∙ ap (λ x. rejected m2 a2 x) bs
 
 turned_same : (m m2 : SystemMethod) (a a2 : Arguments) (k k2 : Ask) (x x2 : ℕ) (r r2 : Result Turn Refused) (w w2 : List ℕ) → m ≡ m2 → a ≡ a2 → k ≡ k2 → x ≡ x2 → r ≡ r2 → w ≡ w2 → turned m a k x r w ≡ turned m2 a2 k2 x2 r2 w2
 turned_same m m2 a a2 k k2 x x2 r r2 w w2 ms args ks xs rs ws =
     ap (λ z. turned z a k x r w) ms ∙ ap (λ z. turned m2 z k x r w) args ∙ ap (λ z. turned m2 a2 z x r w) ks ∙ ap (λ z. turned m2 a2 k2 z r w) xs ∙ ap (λ z. turned m2 a2 k2 x2 z w) rs ∙ ap (λ z. turned m2 a2 k2 x2 r2 z) ws
 
-abbrev asks : Ask → Result Ask Bar
+abbrev asks : Ask → Result Ask Rejection
 asks ask = Ok ask
 
-abbrev bars : Bar → Result Ask Bar
+abbrev bars : Rejection → Result Ask Rejection
 bars bar = Err bar
 
 asks_same : (a b : Ask) → asks a ≡ asks b → a ≡ b
 asks_same a b e = cc
 
-bars_same : (a b : Bar) → bars a ≡ bars b → a ≡ b
+bars_same : (a b : Rejection) → bars a ≡ bars b → a ≡ b
 bars_same a b e = cc
 
-not_barred : (ask : Ask) (bar : Bar) → asks ask ≡ bars bar → ⊥
+not_barred : (ask : Ask) (bar : Rejection) → asks ask ≡ bars bar → ⊥
 not_barred ask bar e = cc
 
-abbrev OneSystem : Uid → Uid → System → System → List ℕ → List ℕ → List Tick → List Tick → Type 0
+abbrev OneSystem : Uid → Uid → System → System → List ℕ → List ℕ → List OutsideAnswer → List OutsideAnswer → Type 0
 OneSystem uid uid2 s s2 bytes bytes2 t t2 = (uid ≡ uid2) × (s ≡ s2) × (bytes ≡ bytes2) × (t ≡ t2)
 
 -- A Call of one head is answered in one way.
-pub system_one : (terms : Terms) (drawn : ℕ) (head : CallHead) (bytes bytes2 : List ℕ) (uid uid2 : Uid) (s s2 : System) (rest rest2 : List ℕ) (t t2 : List Tick) → IsSystem terms drawn head bytes uid s → IsSystem terms drawn head bytes2 uid2 s2
+pub system_one : (terms : Terms) (drawn : ℕ) (head : CallHead) (bytes bytes2 : List ℕ) (uid uid2 : Uid) (s s2 : System) (rest rest2 : List ℕ) (t t2 : List OutsideAnswer) → IsSystem terms drawn head bytes uid s → IsSystem terms drawn head bytes2 uid2 s2
     → bytes ++ rest ≡ bytes2 ++ rest2 → tape (system_acts s) ++ t ≡ tape (system_acts s2) ++ t2 → OneSystem uid uid2 s s2 bytes bytes2 t t2
 system_one terms drawn head bytes bytes2 uid uid2 unknown unknown rest rest2 t t2 ((left, a), none, is) ((left2, b), none2, is2) input ticking =
     (is ∙ sym is2, refl, front_same head bytes bytes2 rest rest2 left left2 a b input, ticking)
-system_one terms drawn head bytes bytes2 uid uid2 unknown (barred m2 a2 bar2) rest rest2 t t2 (h, none, is) (known2, call2, is2, e2) input ticking = absurd (no_method m2 (sym known2 ∙ none))
+system_one terms drawn head bytes bytes2 uid uid2 unknown (rejected m2 a2 bar2) rest rest2 t t2 (h, none, is) (known2, call2, is2, e2) input ticking = absurd (no_method m2 (sym known2 ∙ none))
 system_one terms drawn head bytes bytes2 uid uid2 unknown (turned m2 a2 ask2 moment2 answer2 w2) rest rest2 t t2 (h, none, is) (known2, call2, is2, e2, fits2, ws2) input ticking = absurd (no_method m2 (sym known2 ∙ none))
-system_one terms drawn head bytes bytes2 uid uid2 (barred m a bar) unknown rest rest2 t t2 (known, call, is, e) (h, none, is2) input ticking = absurd (no_method m (sym known ∙ none))
+system_one terms drawn head bytes bytes2 uid uid2 (rejected m a bar) unknown rest rest2 t t2 (known, call, is, e) (h, none, is2) input ticking = absurd (no_method m (sym known ∙ none))
 system_one terms drawn head bytes bytes2 uid uid2 (turned m a ask moment answer w) unknown rest rest2 t t2 (known, call, is, e, fits, ws) (h, none, is2) input ticking = absurd (no_method m (sym known ∙ none))
-system_one terms drawn head bytes bytes2 uid uid2 (barred m a bar) (barred m2 a2 bar2) rest rest2 t t2 (known, call, is, e) (known2, call2, is2, e2) input ticking =
+system_one terms drawn head bytes bytes2 uid uid2 (rejected m a bar) (rejected m2 a2 bar2) rest rest2 t t2 (known, call, is, e) (known2, call2, is2, e2) input ticking =
     let read = read_same head m m2 a a2 bytes bytes2 rest rest2 known known2 call call2 input in
     let same = demanded_same terms drawn m m2 a a2 uid uid2 (bars bar) (bars bar2) read.0 read.1 is is2 e e2 in
     (same.0, barred_same m m2 a a2 bar bar2 read.0 read.1 (bars_same bar bar2 same.1), read.2, ticking)
-system_one terms drawn head bytes bytes2 uid uid2 (barred m a bar) (turned m2 a2 ask2 moment2 answer2 w2) rest rest2 t t2 (known, call, is, e) (known2, call2, is2, e2, fits2, ws2) input ticking =
+system_one terms drawn head bytes bytes2 uid uid2 (rejected m a bar) (turned m2 a2 ask2 moment2 answer2 w2) rest rest2 t t2 (known, call, is, e) (known2, call2, is2, e2, fits2, ws2) input ticking =
     let read = read_same head m m2 a a2 bytes bytes2 rest rest2 known known2 call call2 input in
     let same = demanded_same terms drawn m m2 a a2 uid uid2 (bars bar) (asks ask2) read.0 read.1 is is2 e e2 in
     absurd (not_barred ask2 bar (sym same.1))
-system_one terms drawn head bytes bytes2 uid uid2 (turned m a ask moment answer w) (barred m2 a2 bar2) rest rest2 t t2 (known, call, is, e, fits, ws) (known2, call2, is2, e2) input ticking =
+system_one terms drawn head bytes bytes2 uid uid2 (turned m a ask moment answer w) (rejected m2 a2 bar2) rest rest2 t t2 (known, call, is, e, fits, ws) (known2, call2, is2, e2) input ticking =
     let read = read_same head m m2 a a2 bytes bytes2 rest rest2 known known2 call call2 input in
     let same = demanded_same terms drawn m m2 a a2 uid uid2 (asks ask) (bars bar2) read.0 read.1 is is2 e e2 in
     absurd (not_barred ask bar2 same.1)
@@ -148,13 +151,13 @@ system_one terms drawn head bytes bytes2 uid uid2 (turned m a ask moment answer 
     let same = demanded_same terms drawn m m2 a a2 uid uid2 (asks ask) (asks ask2) read.0 read.1 is is2 e e2 in
     let ask_same : ask ≡ ask2 = asks_same ask ask2 same.1 in
     let handed : turn_ticks moment answer ++ t ≡ turn_ticks moment2 answer2 ++ t2 =
-    ap (λ (l : List Tick). l ++ t) (sym (turned_tape ask moment answer other)) ∙ ticking ∙ ap (λ (l : List Tick). l ++ t2) (turned_tape ask2 moment2 answer2 other2) in
+    ap (λ (l : List OutsideAnswer). l ++ t) (sym (turned_tape ask moment answer other)) ∙ ticking ∙ ap (λ (l : List OutsideAnswer). l ++ t2) (turned_tape ask2 moment2 answer2 other2) in
     let told = ticks_one moment moment2 answer answer2 t t2 handed in
     let written : w ≡ w2 = ws ∙ ap (λ x. answer_written terms x ask answer) same.0 ∙ ap (λ x. answer_written terms uid2 x answer) ask_same ∙ ap (λ x. answer_written terms uid2 ask2 x) told.1 ∙ sym ws2 in
     (same.0, turned_same m m2 a a2 ask ask2 moment moment2 answer answer2 w w2 read.0 read.1 ask_same told.0 told.1 written, read.2, told.2)
 
 -- A Call is answered in one way, by one head.
-pub system_exchange_one : (terms : Terms) (drawn : ℕ) (head head2 : CallHead) (bytes bytes2 : List ℕ) (uid uid2 : Uid) (s s2 : System) (rest rest2 : List ℕ) (t t2 : List Tick) → FitsHead head → FitsHead head2
+pub system_exchange_one : (terms : Terms) (drawn : ℕ) (head head2 : CallHead) (bytes bytes2 : List ℕ) (uid uid2 : Uid) (s s2 : System) (rest rest2 : List ℕ) (t t2 : List OutsideAnswer) → FitsHead head → FitsHead head2
     → IsSystem terms drawn head bytes uid s → IsSystem terms drawn head2 bytes2 uid2 s2 → bytes ++ rest ≡ bytes2 ++ rest2 → tape (system_acts s) ++ t ≡ tape (system_acts s2) ++ t2
     → (head ≡ head2) × OneSystem uid uid2 s s2 bytes bytes2 t t2
 system_exchange_one terms drawn head head2 bytes bytes2 uid uid2 s s2 rest rest2 t t2 fits fits2 is is2 input ticking =
@@ -199,7 +202,7 @@ arguments_read head params arguments bytes b n r call =
 
 -- ---- ends in a Call
 
-abbrev pub InAnyCall : List Kind → ℕ → Course → List ℕ → ConnEnd → Type 0
+abbrev pub InAnyCall : List Kind → ℕ → Transcript → List ℕ → ConnEnd → Type 0
 InAnyCall kinds at tail rest end = EndsInHead at tail (Some rest) end ⊎ (EndsInArguments kinds at tail (Some rest) end ⊎ EndsInSystem at tail (Some rest) end)
 
 -- what is read behind a head, of the arguments of a method
@@ -208,14 +211,14 @@ SystemBreak at rest end head front left method more =
     BreaksAt (λ last. serve_to_close last (wants_of (params_of method)) (inside_block (head_bytes head) left)) (at + 1 + length front) (at + MESSAGE_BYTES) more (Some rest) end
 
 -- what comes behind the code
-system_behind : (at : ℕ) (tail : Course) (rest more2 rest2 : List ℕ) (end : ConnEnd) (a : EndsInSystem at tail (Some rest) end) → tail.taken ++ rest ≡ code_byte Call ∷ (more2 ++ rest2) → (a.front ++ a.more) ++ rest ≡ more2 ++ rest2
-system_behind at tail rest more2 rest2 end a input = ap (drop 1) (sym (ap (λ (c : Course). c.taken ++ rest) a.tail_is) ∙ input)
+system_behind : (at : ℕ) (tail : Transcript) (rest more2 rest2 : List ℕ) (end : ConnEnd) (a : EndsInSystem at tail (Some rest) end) → tail.taken ++ rest ≡ code_byte Call ∷ (more2 ++ rest2) → (a.front ++ a.more) ++ rest ≡ more2 ++ rest2
+system_behind at tail rest more2 rest2 end a input = ap (drop 1) (sym (ap (λ (c : Transcript). c.taken ++ rest) a.tail_is) ∙ input)
 
-begins_so : (at : ℕ) (tail : Course) (rest : List ℕ) (end : ConnEnd) (a : EndsInSystem at tail (Some rest) end) → Begins a.head (a.front ++ a.more)
+begins_so : (at : ℕ) (tail : Transcript) (rest : List ℕ) (end : ConnEnd) (a : EndsInSystem at tail (Some rest) end) → Begins a.head (a.front ++ a.more)
 begins_so at tail rest end a = record { front = a.front; left = a.left; more = a.more; is = refl; heading = a.heading }
 
 -- Reading ends in a head or behind it, not both.
-head_or_system : (at : ℕ) (more rest : List ℕ) (tail2 : Course) (rest2 : List ℕ) (end end2 : ConnEnd) → BreaksAt head_at (at + 1) (at + MESSAGE_BYTES) more (Some rest) end → IsSettled end
+head_or_system : (at : ℕ) (more rest : List ℕ) (tail2 : Transcript) (rest2 : List ℕ) (end end2 : ConnEnd) → BreaksAt head_at (at + 1) (at + MESSAGE_BYTES) more (Some rest) end → IsSettled end
     → (a : EndsInSystem at tail2 (Some rest2) end2) → IsSettled end2 → more ++ rest ≡ (a.front ++ a.more) ++ rest2 → ⊥
 head_or_system at more rest tail2 rest2 end end2 breaks settled a settled2 input =
     let whole : (a.front ++ a.more) ++ rest2 ≡ a.front ++ (a.more ++ rest2) = append_assoc a.front a.more rest2 in
@@ -224,10 +227,10 @@ head_or_system at more rest tail2 rest2 end end2 breaks settled a settled2 input
     (sym whole ∙ sym input)
 
 -- Reading ends in the arguments of such a Call in one way.
-system_ends_one : (at : ℕ) (tail tail2 : Course) (rest rest2 : List ℕ) (end end2 : ConnEnd) → (a : EndsInSystem at tail (Some rest) end) → IsSettled end → (b : EndsInSystem at tail2 (Some rest2) end2) → IsSettled end2
+system_ends_one : (at : ℕ) (tail tail2 : Transcript) (rest rest2 : List ℕ) (end end2 : ConnEnd) → (a : EndsInSystem at tail (Some rest) end) → IsSettled end → (b : EndsInSystem at tail2 (Some rest2) end2) → IsSettled end2
     → tail.taken ++ rest ≡ tail2.taken ++ rest2 → (end ≡ end2) × (tail ≡ tail2)
 system_ends_one at tail tail2 rest rest2 end end2 a settled b settled2 input =
-    let behind : (a.front ++ a.more) ++ rest ≡ (b.front ++ b.more) ++ rest2 = system_behind at tail rest (b.front ++ b.more) rest2 end a (input ∙ ap (λ (c : Course). c.taken ++ rest2) b.tail_is) in
+    let behind : (a.front ++ a.more) ++ rest ≡ (b.front ++ b.more) ++ rest2 = system_behind at tail rest (b.front ++ b.more) rest2 end a (input ∙ ap (λ (c : Transcript). c.taken ++ rest2) b.tail_is) in
     let parts : a.front ++ (a.more ++ rest) ≡ b.front ++ (b.more ++ rest2) = sym (append_assoc a.front a.more rest) ∙ behind ∙ append_assoc b.front b.more rest2 in
     let same = one_front a.head b.head a.front b.front (a.more ++ rest) (b.more ++ rest2) a.left b.left a.heading b.heading parts in
     let heads : a.head ≡ b.head = same_head a.head b.head a.numbers b.numbers same.0 in
@@ -239,10 +242,10 @@ system_ends_one at tail tail2 rest rest2 end end2 a settled b settled2 input =
     let breaks : SystemBreak at rest2 end2 a.head a.front a.left a.method b.more = subst U (sym heads) (subst T (sym same.2) (subst S (sym same.1) (subst R (sym methods) b.breaks))) in
     let one = breaks_one (λ last. serve_to_close last (wants_of (params_of a.method)) (inside_block (head_bytes a.head) a.left)) (at + 1 + length a.front) (at + MESSAGE_BYTES) a.more b.more rest rest2 end end2
     a.breaks settled breaks settled2 same.3 in
-    (one.0, a.tail_is ∙ ap (λ (l : List ℕ). took (code_byte Call ∷ l ++ a.more)) same.2 ∙ ap (λ (l : List ℕ). took (code_byte Call ∷ b.front ++ l)) one.1 ∙ sym b.tail_is)
+    (one.0, a.tail_is ∙ ap (λ (l : List ℕ). bytes_taken (code_byte Call ∷ l ++ a.more)) same.2 ∙ ap (λ (l : List ℕ). bytes_taken (code_byte Call ∷ b.front ++ l)) one.1 ∙ sym b.tail_is)
 
 -- Reading doesn't end in the arguments of a Call that was read whole.
-system_not_read : (at : ℕ) (tail : Course) (rest : List ℕ) (end : ConnEnd) (method : SystemMethod) (arguments : Arguments) (bytes xs : List ℕ) → (a : EndsInSystem at tail (Some rest) end) → IsSettled end
+system_not_read : (at : ℕ) (tail : Transcript) (rest : List ℕ) (end : ConnEnd) (method : SystemMethod) (arguments : Arguments) (bytes xs : List ℕ) → (a : EndsInSystem at tail (Some rest) end) → IsSettled end
     → 1 + length bytes ≤ MESSAGE_BYTES → system_method a.head ≡ Some method → CallBytes a.head (params_of method) arguments (0x50 ∷ bytes) → (a.front ++ a.more) ++ rest ≡ bytes ++ xs → ⊥
 system_not_read at tail rest end method arguments bytes xs a settled few known call input =
     let methods : method ≡ a.method = method_same method a.method (sym known ∙ a.known) in
@@ -258,46 +261,46 @@ system_not_read at tail rest end method arguments bytes xs a settled few known c
     (λ n r. arguments_read a.head (params_of a.method) arguments bytes b n r mine) (omega (arith, few, long, fronts)) (sym same.3)
 
 -- Nor in those of a Call that is answered.
-system_not_answered : (terms : Terms) (drawn at : ℕ) (tail : Course) (rest : List ℕ) (end : ConnEnd) (head : CallHead) (bytes : List ℕ) (uid : Uid) (s : System) (xs : List ℕ) → (a : EndsInSystem at tail (Some rest) end) → IsSettled end
+system_not_answered : (terms : Terms) (drawn at : ℕ) (tail : Transcript) (rest : List ℕ) (end : ConnEnd) (head : CallHead) (bytes : List ℕ) (uid : Uid) (s : System) (xs : List ℕ) → (a : EndsInSystem at tail (Some rest) end) → IsSettled end
     → head ≡ a.head → 1 + length bytes ≤ MESSAGE_BYTES → IsSystem terms drawn head bytes uid s → (a.front ++ a.more) ++ rest ≡ bytes ++ xs → ⊥
 system_not_answered terms drawn at tail rest end head bytes uid unknown xs a settled heads few (h, none, is) input = no_method a.method (sym a.known ∙ ap system_method (sym heads) ∙ none)
-system_not_answered terms drawn at tail rest end head bytes uid (barred method arguments bar) xs a settled heads few (known, call, is, e) input =
+system_not_answered terms drawn at tail rest end head bytes uid (rejected method arguments bar) xs a settled heads few (known, call, is, e) input =
     let P : CallHead → Type 0 = λ h. CallBytes h (params_of method) arguments (0x50 ∷ bytes) in
     system_not_read at tail rest end method arguments bytes xs a settled few (ap system_method (sym heads) ∙ known) (subst P heads call) input
 system_not_answered terms drawn at tail rest end head bytes uid (turned method arguments ask moment answer written) xs a settled heads few (known, call, is, e, fits, ws) input =
     let P : CallHead → Type 0 = λ h. CallBytes h (params_of method) arguments (0x50 ∷ bytes) in
     system_not_read at tail rest end method arguments bytes xs a settled few (ap system_method (sym heads) ∙ known) (subst P heads call) input
 
-abbrev OneEnd : ConnEnd → ConnEnd → Course → Course → List ℕ → List ℕ → Type 0
+abbrev OneEnd : ConnEnd → ConnEnd → Transcript → Transcript → List ℕ → List ℕ → Type 0
 OneEnd end end2 tail tail2 rest rest2 = (end ≡ end2) × (tail ≡ tail2) × (rest ≡ rest2)
 
 -- Reading doesn't end in the arguments of a Call of the two objects and of another.
-objects_differ : (kinds : List Kind) (at : ℕ) (tail tail2 : Course) (rest rest2 : List ℕ) (end end2 : ConnEnd) → (a : EndsInSystem at tail (Some rest) end) → (b : EndsInArguments kinds at tail2 (Some rest2) end2)
+objects_differ : (kinds : List Kind) (at : ℕ) (tail tail2 : Transcript) (rest rest2 : List ℕ) (end end2 : ConnEnd) → (a : EndsInSystem at tail (Some rest) end) → (b : EndsInArguments kinds at tail2 (Some rest2) end2)
     → tail.taken ++ rest ≡ tail2.taken ++ rest2 → ⊥
 objects_differ kinds at tail tail2 rest rest2 end end2 a b input =
     let other : Begins b.head (b.front ++ b.more) = record { front = b.front; left = b.left; more = b.more; is = refl; heading = b.heading } in
-    let behind = system_behind at tail rest (b.front ++ b.more) rest2 end a (input ∙ ap (λ (c : Course). c.taken ++ rest2) b.tail_is) in
+    let behind = system_behind at tail rest (b.front ++ b.more) rest2 end a (input ∙ ap (λ (c : Transcript). c.taken ++ rest2) b.tail_is) in
     heads_differ a.head b.head (begin_same a.head b.head (a.front ++ a.more) (b.front ++ b.more) rest rest2 a.numbers b.numbers (begins_so at tail rest end a) other behind) a.own b.other
 
 -- Reading ends in a Call in one way.
-pub in_any_one : (kinds : List Kind) (at : ℕ) (tail tail2 : Course) (rest rest2 : List ℕ) (end end2 : ConnEnd) (t t2 : List Tick) → InAnyCall kinds at tail rest end → IsSettled end → InAnyCall kinds at tail2 rest2 end2 → IsSettled end2
+pub in_any_one : (kinds : List Kind) (at : ℕ) (tail tail2 : Transcript) (rest rest2 : List ℕ) (end end2 : ConnEnd) (t t2 : List OutsideAnswer) → InAnyCall kinds at tail rest end → IsSettled end → InAnyCall kinds at tail2 rest2 end2 → IsSettled end2
     → tail.taken ++ rest ≡ tail2.taken ++ rest2 → tape tail.acts ++ t ≡ tape tail2.acts ++ t2 → (end ≡ end2) × (tail ≡ tail2) × (rest ≡ rest2)
 in_any_one kinds at tail tail2 rest rest2 end end2 t t2 (inl a) settled (inl b) settled2 input ticking = in_call_one kinds at tail tail2 rest rest2 end end2 t t2 (inl a) settled (inl b) settled2 input ticking
 in_any_one kinds at tail tail2 rest rest2 end end2 t t2 (inl a) settled (inr (inl b)) settled2 input ticking = in_call_one kinds at tail tail2 rest rest2 end end2 t t2 (inl a) settled (inr b) settled2 input ticking
 in_any_one kinds at tail tail2 rest rest2 end end2 t t2 (inr (inl a)) settled (inl b) settled2 input ticking = in_call_one kinds at tail tail2 rest rest2 end end2 t t2 (inr a) settled (inl b) settled2 input ticking
 in_any_one kinds at tail tail2 rest rest2 end end2 t t2 (inr (inl a)) settled (inr (inl b)) settled2 input ticking = in_call_one kinds at tail tail2 rest rest2 end end2 t t2 (inr a) settled (inr b) settled2 input ticking
 in_any_one kinds at tail tail2 rest rest2 end end2 t t2 (inl (more, is, breaks)) settled (inr (inr b)) settled2 input ticking =
-    absurd (head_or_system at more rest tail2 rest2 end end2 breaks settled b settled2 (head_behind at tail rest (b.front ++ b.more) rest2 end (more, is, breaks) (input ∙ ap (λ (c : Course). c.taken ++ rest2) b.tail_is)))
+    absurd (head_or_system at more rest tail2 rest2 end end2 breaks settled b settled2 (head_behind at tail rest (b.front ++ b.more) rest2 end (more, is, breaks) (input ∙ ap (λ (c : Transcript). c.taken ++ rest2) b.tail_is)))
 in_any_one kinds at tail tail2 rest rest2 end end2 t t2 (inr (inr a)) settled (inl (more2, is2, breaks2)) settled2 input ticking =
-    absurd (head_or_system at more2 rest2 tail rest end2 end breaks2 settled2 a settled (head_behind at tail2 rest2 (a.front ++ a.more) rest end2 (more2, is2, breaks2) (sym input ∙ ap (λ (c : Course). c.taken ++ rest) a.tail_is)))
+    absurd (head_or_system at more2 rest2 tail rest end2 end breaks2 settled2 a settled (head_behind at tail2 rest2 (a.front ++ a.more) rest end2 (more2, is2, breaks2) (sym input ∙ ap (λ (c : Transcript). c.taken ++ rest) a.tail_is)))
 in_any_one kinds at tail tail2 rest rest2 end end2 t t2 (inr (inl a)) settled (inr (inr b)) settled2 input ticking = absurd (objects_differ kinds at tail2 tail rest2 rest end2 end b a (sym input))
 in_any_one kinds at tail tail2 rest rest2 end end2 t t2 (inr (inr a)) settled (inr (inl b)) settled2 input ticking = absurd (objects_differ kinds at tail tail2 rest rest2 end end2 a b input)
 in_any_one kinds at tail tail2 rest rest2 end end2 t t2 (inr (inr a)) settled (inr (inr b)) settled2 input ticking =
     let one = system_ends_one at tail tail2 rest rest2 end end2 a settled b settled2 input in
-    (one.0, one.1, same_behind tail.taken tail2.taken rest rest2 (ap (λ (c : Course). c.taken) one.1) input)
+    (one.0, one.1, same_behind tail.taken tail2.taken rest rest2 (ap (λ (c : Transcript). c.taken) one.1) input)
 
 -- Reading doesn't end in a Call that is served.
-pub in_any_not_served : (terms : Terms) (at : ℕ) (tail : Course) (rest : List ℕ) (end : ConnEnd) (head : CallHead) (bytes : List ℕ) (uid : Uid) (s : AtHead) (xs : List ℕ) (t u : List Tick)
+pub in_any_not_served : (terms : Terms) (at : ℕ) (tail : Transcript) (rest : List ℕ) (end : ConnEnd) (head : CallHead) (bytes : List ℕ) (uid : Uid) (s : AtHead) (xs : List ℕ) (t u : List OutsideAnswer)
     → InAnyCall terms.kinds at tail rest end → IsSettled end → is_system head.id ≡ false → FitsHead head → 1 + length bytes ≤ MESSAGE_BYTES → IsServed terms head bytes uid s
     → tail.taken ++ rest ≡ code_byte Call ∷ (bytes ++ xs) → tape tail.acts ++ t ≡ tape (served_acts head uid s) ++ u → ⊥
 in_any_not_served terms at tail rest end head bytes uid s xs t u (inl a) settled other fits few legal input ticking = in_call_not_served terms at tail rest end head bytes uid s xs t u (inl a) settled fits few legal input ticking
@@ -307,14 +310,14 @@ in_any_not_served terms at tail rest end head bytes uid s xs t u (inr (inr a)) s
     heads_differ a.head head (begin_same a.head head (a.front ++ a.more) bytes rest xs a.numbers fits (begins_so at tail rest end a) (served_begins terms head bytes uid s legal) behind) a.own other
 
 -- Nor in a Call of the registry or the collector that is answered.
-pub in_any_not_answered : (terms : Terms) (drawn at : ℕ) (tail : Course) (rest : List ℕ) (end : ConnEnd) (head : CallHead) (bytes : List ℕ) (uid : Uid) (s : System) (xs : List ℕ)
+pub in_any_not_answered : (terms : Terms) (drawn at : ℕ) (tail : Transcript) (rest : List ℕ) (end : ConnEnd) (head : CallHead) (bytes : List ℕ) (uid : Uid) (s : System) (xs : List ℕ)
     → InAnyCall terms.kinds at tail rest end → IsSettled end → is_system head.id ≡ true → FitsHead head → 1 + length bytes ≤ MESSAGE_BYTES → IsSystem terms drawn head bytes uid s
     → tail.taken ++ rest ≡ code_byte Call ∷ (bytes ++ xs) → ⊥
 in_any_not_answered terms drawn at tail rest end head bytes uid s xs (inl (more, is, breaks)) settled own fits few legal input =
     head_not_served at more rest bytes xs end head breaks settled (system_begins terms drawn head bytes uid s legal) few (head_behind at tail rest bytes xs end (more, is, breaks) input)
 in_any_not_answered terms drawn at tail rest end head bytes uid s xs (inr (inl a)) settled own fits few legal input =
     let mine : Begins a.head (a.front ++ a.more) = record { front = a.front; left = a.left; more = a.more; is = refl; heading = a.heading } in
-    let behind : (a.front ++ a.more) ++ rest ≡ bytes ++ xs = ap (drop 1) (sym (ap (λ (c : Course). c.taken ++ rest) a.tail_is) ∙ input) in
+    let behind : (a.front ++ a.more) ++ rest ≡ bytes ++ xs = ap (drop 1) (sym (ap (λ (c : Transcript). c.taken ++ rest) a.tail_is) ∙ input) in
     heads_differ head a.head (sym (begin_same a.head head (a.front ++ a.more) bytes rest xs a.numbers fits mine (system_begins terms drawn head bytes uid s legal) behind)) own a.other
 in_any_not_answered terms drawn at tail rest end head bytes uid s xs (inr (inr a)) settled own fits few legal input =
     let behind = system_behind at tail rest bytes xs end a input in

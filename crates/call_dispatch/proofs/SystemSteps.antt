@@ -15,18 +15,20 @@ use Rattle.call_dispatch.specs.declared.end.ConnEnd.TheVariants as ends
 use Rattle.call_dispatch.specs.declared.outcome.Invocation.{Invocation}
 use Rattle.call_dispatch.specs.declared.outcome.Outcome.{Outcome}
 use Rattle.call_dispatch.specs.declared.returns.Answer.{Answer}
-use Rattle.call_dispatch.specs.Terms.{Terms}
-use Rattle.call_dispatch.specs.Acts.{Act, Call, States, Side, Led}
-use Rattle.call_dispatch.specs.Spot.{Spot, Course, took}
+use Rattle.system_objects.specs.Terms.{Terms}
+use Rattle.call_dispatch.specs.Acts.{Act, Call, States, Observed, Led}
+use Rattle.call_dispatch.specs.ConnectionState.{ConnectionState, Transcript, bytes_taken}
 use Rattle.call_dispatch.specs.Served.{FitsHead}
 use Rattle.ser_values.specs.declared.limits.TheConstants.{MESSAGE_BYTES}
-use Rattle.call_dispatch.specs.Rows.{Exchange, system, draws_in, course_by, IsExchange, IsCut}
-use Rattle.call_dispatch.specs.Dialogue.{Opening, Whole, opened, IsClosed, Ends}
+use Rattle.call_dispatch.specs.Rows.{Exchange, system, draws_in, transcript_by, IsExchange, IsCut}
+use Rattle.call_dispatch.specs.Dialogue.{Opening, Completed, opened, IsClosed, Ends}
 use Rattle.call_dispatch.specs.Faults.{Blames, BlamesIn}
 use Rattle.call_dispatch.specs.Progress.{StandsWhole, Talked, IsCoded, StepsTo, Writes, end_from}
-use Rattle.call_dispatch.specs.Serving.{closing, Sends}
+use Rattle.call_dispatch.specs.Serving.{result_or_close, Sends}
 use Rattle.call_dispatch.specs.ServingSystem.{BreaksSystem, AnswersSystem, AnswersAny}
-use Rattle.call_dispatch.specs.Systems.{is_system, params_of, System, unknown, barred, turned, system_acts, system_draws, system_written, system_closes, IsSystem}
+use Rattle.call_dispatch.specs.Systems.{System, unknown, rejected, turned, system_acts, system_draws, system_written, system_closes, IsSystem}
+use Rattle.system_ids.specs.SystemIds.{is_system}
+use Rattle.system_ids.specs.SystemMethods.{params_of}
 use Rattle.call_dispatch.proofs.Blaming.{counts, AreBlameless, memory_blames, broken_blames, sent_blames, ended_blames, call_blames}
 use Rattle.call_dispatch.proofs.Breaking.{breaks_at}
 use Rattle.call_dispatch.proofs.CallSteps.{so_far, call_goes, moved, breaks_talk, closed_more, some_is, call_done, call_ended, answered_within}
@@ -38,7 +40,7 @@ use Rattle.call_dispatch.proofs.Steps.{spot_at, talks_on, talks_took, talks_cut,
 -- ---- reading ends in it
 
 -- Reading ended in the arguments.
-system_breaks : (may : Invocation → Outcome → Type 0) (moves : States → Call → States → Type 0) (terms : Terms) (start first : Spot) (p q : PullState) (held : Option (List ℕ)) (side : Side) (drawn sent : ℕ) (opening : Opening) (exchanges : List Exchange)
+system_breaks : (may : Invocation → Outcome → Type 0) (moves : States → Call → States → Type 0) (terms : Terms) (start first : ConnectionState) (p q : PullState) (held : Option (List ℕ)) (side : Observed) (drawn sent : ℕ) (opening : Opening) (exchanges : List Exchange)
     (head : CallHead) (end : ConnEnd)
     → IsCoded may moves terms start first (spot_at p held side drawn) p.at p.stop sent opening exchanges → is_system head.id ≡ true → FitsHead head → q.at ≤ q.stop → BreaksSystem head p q end
     → Talked may moves terms start (spot_at q held side drawn) end
@@ -68,15 +70,15 @@ system_breaks may moves terms start first p q held side drawn sent opening excha
 -- ---- it is answered
 
 -- Where the last exchange closes the connection, this is its end.
-closed_ends : (terms : Terms) (drawn : ℕ) (w : Whole) (rest : Option (List ℕ)) (head : CallHead) (s : System) (end : ConnEnd) → system_closes head s ≡ Some end → IsClosed w end → Ends terms drawn w (took []) rest end
+closed_ends : (terms : Terms) (drawn : ℕ) (w : Completed) (rest : Option (List ℕ)) (head : CallHead) (s : System) (end : ConnEnd) → system_closes head s ≡ Some end → IsClosed w end → Ends terms drawn w (bytes_taken []) rest end
 closed_ends terms drawn w rest head unknown end same closed =
-    let P : ConnEnd → Type 0 = λ e. IsClosed w e → Ends terms drawn w (took []) rest e in
+    let P : ConnEnd → Type 0 = λ e. IsClosed w e → Ends terms drawn w (bytes_taken []) rest e in
     subst P (some_is (ends.NoSuchMethod head.operation head.hash) end same) (λ c. (c, refl)) closed
-closed_ends terms drawn w rest head (barred method arguments bar) end same closed = absurd (cc)
+closed_ends terms drawn w rest head (rejected method arguments bar) end same closed = absurd (cc)
 closed_ends terms drawn w rest head (turned method arguments ask moment answer written) end same closed = absurd (cc)
 
 -- The exchange may come where so many were drawn since the beginning.
-may_come : (may : Invocation → Outcome → Type 0) (moves : States → Call → States → Type 0) (terms : Terms) (start first : Spot) (p q : PullState) (held : Option (List ℕ)) (side : Side) (drawn sent : ℕ) (opening : Opening) (exchanges : List Exchange) (bytes : List ℕ) (head : CallHead) (uid : Uid) (s : System)
+may_come : (may : Invocation → Outcome → Type 0) (moves : States → Call → States → Type 0) (terms : Terms) (start first : ConnectionState) (p q : PullState) (held : Option (List ℕ)) (side : Observed) (drawn sent : ℕ) (opening : Opening) (exchanges : List Exchange) (bytes : List ℕ) (head : CallHead) (uid : Uid) (s : System)
     → IsCoded may moves terms start first (spot_at p held side drawn) p.at p.stop sent opening exchanges → is_system head.id ≡ true → FitsHead head → q.at ≤ q.stop → Takes p q bytes → IsSystem terms drawn head bytes uid s
     → IsExchange terms (start.drawn + draws_in exchanges) (system bytes head uid s)
 may_come may moves terms start first p q held side drawn sent opening exchanges bytes head uid s h own fits within takes legal =
@@ -85,16 +87,16 @@ may_come may moves terms start first p q held side drawn sent opening exchanges 
 
 draws_some : (s : System) → 0 < system_draws s
 draws_some unknown = omega arith
-draws_some (barred method arguments bar) = omega arith
+draws_some (rejected method arguments bar) = omega arith
 draws_some (turned method arguments ask moment answer written) = omega arith
 
 -- There was no memory for all of its row.
-system_cut : (may : Invocation → Outcome → Type 0) (moves : States → Call → States → Type 0) (terms : Terms) (start first : Spot) (p q : PullState) (held : Option (List ℕ)) (side side2 : Side) (drawn drew sent : ℕ) (opening : Opening) (exchanges : List Exchange)
+system_cut : (may : Invocation → Outcome → Type 0) (moves : States → Call → States → Type 0) (terms : Terms) (start first : ConnectionState) (p q : PullState) (held : Option (List ℕ)) (side side2 : Observed) (drawn drew sent : ℕ) (opening : Opening) (exchanges : List Exchange)
     (bytes : List ℕ) (head : CallHead) (uid : Uid) (s : System) (acts : List Act) (draws : ℕ) (end : ConnEnd)
     → IsCoded may moves terms start first (spot_at p held side drawn) p.at p.stop sent opening exchanges → is_system head.id ≡ true → FitsHead head → q.at ≤ q.stop → Takes p q bytes → IsSystem terms drawn head bytes uid s
     → Led may moves side side2 acts → IsCut [] (system_acts s) acts → drew ≡ drawn + draws → draws ≤ system_draws s → end ≡ ends.OutOfMemory → Talked may moves terms start (spot_at q held side2 drew) end
 system_cut may moves terms start first p q held side side2 drawn drew sent opening exchanges bytes head uid s acts draws end h own fits within takes legal led cut drew_is few memory =
-    let tail : Course = so_far bytes acts draws [] in
+    let tail : Transcript = so_far bytes acts draws [] in
     let one = draws_some s in
     let some : 0 < length (system_acts s) + system_draws s = omega (arith, one) in
     let T : ConnEnd → Type 0 = λ e. Talked may moves terms start (spot_at q held side2 drew) e in
@@ -113,11 +115,11 @@ system_cut may moves terms start first p q held side side2 drawn drew sent openi
     ))))
 
 -- It was answered, and its answer written or cut.
-system_sent : (may : Invocation → Outcome → Type 0) (moves : States → Call → States → Type 0) (terms : Terms) (start first : Spot) (p q : PullState) (held held2 : Option (List ℕ)) (side side2 : Side) (drawn drew sent : ℕ) (opening : Opening) (exchanges : List Exchange)
+system_sent : (may : Invocation → Outcome → Type 0) (moves : States → Call → States → Type 0) (terms : Terms) (start first : ConnectionState) (p q : PullState) (held held2 : Option (List ℕ)) (side side2 : Observed) (drawn drew sent : ℕ) (opening : Opening) (exchanges : List Exchange)
     (bytes : List ℕ) (head : CallHead) (uid : Uid) (s : System) (close : Option ConnEnd) (written : Result ℕ ConnEnd)
     → IsCoded may moves terms start first (spot_at p held side drawn) p.at p.stop sent opening exchanges → is_system head.id ≡ true → FitsHead head → q.at ≤ q.stop → Takes p q bytes → IsSystem terms drawn head bytes uid s
     → Led may moves side side2 (system_acts s) → drew ≡ drawn + system_draws s → close ≡ system_closes head s → Writes held held2 sent (system_written uid s) written
-    → StepsTo may moves terms start (spot_at q held2 side2 drew) q.at opening exchanges (closing written close)
+    → StepsTo may moves terms start (spot_at q held2 side2 drew) q.at opening exchanges (result_or_close written close)
 system_sent may moves terms start first p q held held2 side side2 drawn drew sent opening exchanges bytes head uid s None (Ok sent2) h own fits within takes legal led drew_is closes writes =
     let e : Exchange = system bytes head uid s in
     let ats : q.at ≡ h.place + length (code_byte CallCode ∷ bytes) = omega (arith, takes.at, h.position) in (
@@ -130,7 +132,7 @@ system_sent may moves terms start first p q held held2 side side2 drawn drew sen
     )
 system_sent may moves terms start first p q held held2 side side2 drawn drew sent opening exchanges bytes head uid s (Some end) (Ok sent2) h own fits within takes legal led drew_is closes writes =
     let e : Exchange = system bytes head uid s in
-    let now : Spot = spot_at q held2 side2 drew in
+    let now : ConnectionState = spot_at q held2 side2 drew in
     let ats : q.at ≡ h.place + length (code_byte CallCode ∷ bytes) = omega (arith, takes.at, h.position) in
     let stood : StandsWhole may moves terms start now q.at sent2 (opened opening (exchanges ++ e ∷ [])) =
     stands_more may moves terms start first now h.place sent q.at sent2 opening exchanges e h.stands h.code (limit_left opening exchanges h.code h.few)
@@ -142,12 +144,12 @@ system_sent may moves terms start first p q held held2 side side2 drawn drew sen
 system_sent may moves terms start first p q held held2 side side2 drawn drew sent opening exchanges bytes head uid s close (Err end) h own fits within takes legal led drew_is closes (part, less, how, wrote) =
     let e : Exchange = system bytes head uid s in
     let T : ConnEnd → Type 0 = λ x. Talked may moves terms start (spot_at q held2 side2 drew) x in
-    subst T (sym how) (talks_cut may moves terms start first (spot_at q held2 side2 drew) h.place sent part (opened opening exchanges) (course_by e) h.stands
+    subst T (sym how) (talks_cut may moves terms start first (spot_at q held2 side2 drew) h.place sent part (opened opening exchanges) (transcript_by e) h.stands
     (inr (inr (e, (h.code, h.few, may_come may moves terms start first p q held side drawn sent opening exchanges bytes head uid s h own fits within takes legal), refl))) less
     (call_goes may moves terms start first (spot_at p held side drawn) (spot_at q held2 side2 drew) p.at p.stop sent opening exchanges bytes (system_acts s) (system_draws s) (take part (system_written uid s)) h takes.left wrote led drew_is))
 
 -- It was answered as its row says, and its answer sent.
-system_done : (may : Invocation → Outcome → Type 0) (moves : States → Call → States → Type 0) (terms : Terms) (start first : Spot) (p q : PullState) (held held2 : Option (List ℕ)) (side side2 : Side) (drawn drew sent faults faults2 : ℕ) (opening : Opening) (exchanges : List Exchange)
+system_done : (may : Invocation → Outcome → Type 0) (moves : States → Call → States → Type 0) (terms : Terms) (start first : ConnectionState) (p q : PullState) (held held2 : Option (List ℕ)) (side side2 : Observed) (drawn drew sent faults faults2 : ℕ) (opening : Opening) (exchanges : List Exchange)
     (head : CallHead) (answer : Answer) (result : Result ℕ ConnEnd)
     → IsCoded may moves terms start first (spot_at p held side drawn) p.at p.stop sent opening exchanges → is_system head.id ≡ true → FitsHead head → q.at ≤ q.stop
     → AnswersSystem may moves terms head p q side side2 drawn drew (Ok answer) → Sends held held2 faults faults2 sent answer result
@@ -158,7 +160,7 @@ system_done may moves terms start first p q held held2 side side2 drawn drew sen
     subst T (sym sends.is) (system_sent may moves terms start first p q held held2 side side2 drawn drew sent opening exchanges bytes head uid s answer.close sends.written h own fits within takes is led drew_is closes (subst W bytes_are sends.writes))
 
 -- The connection ended in it.
-system_ended : (may : Invocation → Outcome → Type 0) (moves : States → Call → States → Type 0) (terms : Terms) (start first : Spot) (p q : PullState) (held : Option (List ℕ)) (side side2 : Side) (drawn drew sent : ℕ) (opening : Opening) (exchanges : List Exchange)
+system_ended : (may : Invocation → Outcome → Type 0) (moves : States → Call → States → Type 0) (terms : Terms) (start first : ConnectionState) (p q : PullState) (held : Option (List ℕ)) (side side2 : Observed) (drawn drew sent : ℕ) (opening : Opening) (exchanges : List Exchange)
     (head : CallHead) (end : ConnEnd)
     → IsCoded may moves terms start first (spot_at p held side drawn) p.at p.stop sent opening exchanges → is_system head.id ≡ true → FitsHead head → q.at ≤ q.stop
     → AnswersSystem may moves terms head p q side side2 drawn drew (Err end) → Talked may moves terms start (spot_at q held side2 drew) end
@@ -166,13 +168,13 @@ system_ended may moves terms start first p q held side side2 drawn drew sent ope
     system_cut may moves terms start first p q held side side2 drawn drew sent opening exchanges bytes head uid s acts draws end h own fits within takes is led cut drew_is few memory
 system_ended may moves terms start first p q held side side2 drawn drew sent opening exchanges head end h own fits within (inr (undrawn, same, broken)) =
     let P : ℕ → Type 0 = λ n. Talked may moves terms start (spot_at q held side2 n) end in
-    let Q : Side → Type 0 = λ s. Talked may moves terms start (spot_at q held s drawn) end in
+    let Q : Observed → Type 0 = λ s. Talked may moves terms start (spot_at q held s drawn) end in
     subst P (sym undrawn) (subst Q (sym same) (system_breaks may moves terms start first p q held side drawn sent opening exchanges head end h own fits within broken))
 
 -- ---- any Call
 
 -- A Call was answered as its row says, and its answer sent.
-pub any_done : (may : Invocation → Outcome → Type 0) (moves : States → Call → States → Type 0) (terms : Terms) (start first : Spot) (p q : PullState) (held held2 : Option (List ℕ)) (side side2 : Side) (drawn drew sent faults faults2 : ℕ) (opening : Opening) (exchanges : List Exchange)
+pub any_done : (may : Invocation → Outcome → Type 0) (moves : States → Call → States → Type 0) (terms : Terms) (start first : ConnectionState) (p q : PullState) (held held2 : Option (List ℕ)) (side side2 : Observed) (drawn drew sent faults faults2 : ℕ) (opening : Opening) (exchanges : List Exchange)
     (head : CallHead) (answer : Answer) (result : Result ℕ ConnEnd)
     → IsCoded may moves terms start first (spot_at p held side drawn) p.at p.stop sent opening exchanges → FitsHead head → q.at ≤ q.stop
     → AnswersAny may moves terms head p q side side2 drawn drew (Ok answer) → Sends held held2 faults faults2 sent answer result
@@ -183,7 +185,7 @@ any_done may moves terms start first p q held held2 side side2 drawn drew sent f
     call_done may moves terms start first p q held held2 side side2 drawn drew sent faults faults2 opening exchanges head answer result h other fits within answers drew_is sends
 
 -- The connection ended in a Call whose head was read.
-pub any_ended : (may : Invocation → Outcome → Type 0) (moves : States → Call → States → Type 0) (terms : Terms) (start first : Spot) (p q : PullState) (held : Option (List ℕ)) (side side2 : Side) (drawn drew sent : ℕ) (opening : Opening) (exchanges : List Exchange)
+pub any_ended : (may : Invocation → Outcome → Type 0) (moves : States → Call → States → Type 0) (terms : Terms) (start first : ConnectionState) (p q : PullState) (held : Option (List ℕ)) (side side2 : Observed) (drawn drew sent : ℕ) (opening : Opening) (exchanges : List Exchange)
     (head : CallHead) (end : ConnEnd)
     → IsCoded may moves terms start first (spot_at p held side drawn) p.at p.stop sent opening exchanges → FitsHead head → q.at ≤ q.stop
     → AnswersAny may moves terms head p q side side2 drawn drew (Err end) → Talked may moves terms start (spot_at q held side2 drew) end
@@ -193,7 +195,7 @@ any_ended may moves terms start first p q held side side2 drawn drew sent openin
     call_ended may moves terms start first p q held side side2 drawn drew sent opening exchanges head end h other fits within answers low high
 
 -- What was taken of a Call that was answered stays within its limit.
-pub any_within : (may : Invocation → Outcome → Type 0) (moves : States → Call → States → Type 0) (terms : Terms) (head : CallHead) (p q : PullState) (a b : Side) (drawn drew : ℕ) (answer : Answer)
+pub any_within : (may : Invocation → Outcome → Type 0) (moves : States → Call → States → Type 0) (terms : Terms) (head : CallHead) (p q : PullState) (a b : Observed) (drawn drew : ℕ) (answer : Answer)
     → q.at ≤ q.stop → AnswersAny may moves terms head p q a b drawn drew (Ok answer) → q.at ≤ p.stop
 any_within may moves terms head p q a b drawn drew answer within (inl (own, (bytes, takes, answers))) = omega (arith, within, takes.stop)
 any_within may moves terms head p q a b drawn drew answer within (inr (other, answers, drew_is, low, high)) = answered_within may moves terms _ head p q a b drawn drew answer within answers
@@ -203,11 +205,11 @@ any_within may moves terms head p q a b drawn drew answer within (inr (other, an
 -- No exchange closes the connection for a failure of the outside.
 closes_blameless : (head : CallHead) (s : System) → AreBlameless (system_closes head s)
 closes_blameless head unknown = ((λ same. cc), (λ w. w))
-closes_blameless head (barred method arguments bar) = tt
+closes_blameless head (rejected method arguments bar) = tt
 closes_blameless head (turned method arguments ask moment answer written) = tt
 
 -- The connection ended in a Call whose head was read behind these counts.
-pub any_ended_blames : (may : Invocation → Outcome → Type 0) (moves : States → Call → States → Type 0) (terms : Terms) (head : CallHead) (first now : PullState) (a b : Side) (drawn drew k : ℕ) (end : ConnEnd)
+pub any_ended_blames : (may : Invocation → Outcome → Type 0) (moves : States → Call → States → Type 0) (terms : Terms) (head : CallHead) (first now : PullState) (a b : Observed) (drawn drew k : ℕ) (end : ConnEnd)
     → AnswersAny may moves terms head first now a b drawn drew (Err end) → Blames (counts first.faults k) (counts now.faults k) end
 any_ended_blames may moves terms head first now a b drawn drew k end (inl (own, inl (bytes, takes, (memory, others)))) = memory_blames first.faults now.faults k end takes.faults memory
 any_ended_blames may moves terms head first now a b drawn drew k end (inl (own, inr (undrawn, same, (mid, stand, method, fault, reads, known, broken, is)))) =
@@ -216,7 +218,7 @@ any_ended_blames may moves terms head first now a b drawn drew k end (inl (own, 
 any_ended_blames may moves terms head first now a b drawn drew k end (inr (other, answers, drew_is, low, high)) = ended_blames may moves terms _ head first now a b drawn drew k end answers
 
 -- A Call was answered, and its answer sent.
-pub any_blames : (may : Invocation → Outcome → Type 0) (moves : States → Call → States → Type 0) (terms : Terms) (head : CallHead) (first now : PullState) (a b : Side) (drawn drew k l sent : ℕ) (held held2 : Option (List ℕ)) (answer : Answer) (result : Result ℕ ConnEnd)
+pub any_blames : (may : Invocation → Outcome → Type 0) (moves : States → Call → States → Type 0) (terms : Terms) (head : CallHead) (first now : PullState) (a b : Observed) (drawn drew k l sent : ℕ) (held held2 : Option (List ℕ)) (answer : Answer) (result : Result ℕ ConnEnd)
     → AnswersAny may moves terms head first now a b drawn drew (Ok answer) → Sends held held2 k l sent answer result → BlamesIn (counts first.faults k) (counts now.faults l) result
 any_blames may moves terms head first now a b drawn drew k l sent held held2 answer result (inl (own, (bytes, takes, (uid, s, is, led, drew_is, bytes_are, closes)))) sends =
     let P : Result ℕ ConnEnd → Type 0 = λ r. BlamesIn (counts first.faults k) (counts now.faults l) r in

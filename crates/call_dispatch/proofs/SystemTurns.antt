@@ -12,29 +12,32 @@ use Rattle.history.specs.declared.replies.Refused.TheVariants as refusals
 use Rattle.space.specs.declared.asked.Asked.{Asked}
 use Rattle.space.specs.declared.asked.AskedEnd.{AskedEnd}
 use Rattle.space.specs.Entries.{entry_of, end_of}
-use Rattle.space.specs.Ports.{begins, ends, begins_with, ends_with, Shows, IsAnswerTo}
-use Rattle.space.specs.Balance.{Balanced}
+use Rattle.space.specs.TurnAnswers.{IsAnswerTo}
+use Rattle.ports.specs.Ports.{begins, ends, begins_with, ends_with, Shows}
+use Rattle.ports.specs.Balance.{Balanced}
 use Rattle.ser_read.specs.Wants.{Stand}
 use Rattle.jrmp_frames.specs.declared.arguments.Arguments.{Arguments}
 use Rattle.jrmp_frames.specs.declared.head.CallHead.{CallHead}
 use Rattle.jrmp_frames.specs.Messages.{CallBytes}
 use Rattle.jrmp_frames.specs.Calls.{ReadsHead}
-use Rattle.call_dispatch.specs.declared.demand.Bar.{Bar}
+use Rattle.system_objects.specs.declared.request.Rejection.{Rejection}
 use Rattle.call_dispatch.specs.declared.end.ConnEnd.{ConnEnd}
 use Rattle.call_dispatch.specs.declared.end.ConnEnd.TheVariants as conn
 use Rattle.call_dispatch.specs.declared.outcome.Invocation.{Invocation}
 use Rattle.call_dispatch.specs.declared.outcome.Outcome.{Outcome}
 use Rattle.call_dispatch.specs.declared.returns.Answer.{Answer}
-use Rattle.call_dispatch.specs.declared.system.SystemMethod.{SystemMethod}
-use Rattle.call_dispatch.specs.Acts.{Act, Call, States, Side, Led, lost, entries, acts_of}
-use Rattle.call_dispatch.specs.Demands.{bar_message, demand_of, client_draws}
-use Rattle.call_dispatch.specs.Returns.{fault_return, no_method}
+use Rattle.system_ids.specs.declared.methods.SystemMethod.{SystemMethod}
+use Rattle.call_dispatch.specs.Acts.{Act, Call, States, Observed, Led, lost, entries, acts_of}
+use Rattle.system_objects.specs.SystemRequests.{rejection_message, request_of, client_draws, IsQuiet}
+use Rattle.system_objects.specs.ReturnBytes.{fault_return, no_method}
 use Rattle.call_dispatch.specs.Rows.{IsCut, IsFailed}
 use Rattle.call_dispatch.specs.Serving.{IsPrepared}
-use Rattle.call_dispatch.specs.ServingSystem.{IsQuiet, AsksTurn, AnswersRead, AnswersSystem}
-use Rattle.call_dispatch.specs.SystemReturns.{answer_written}
-use Rattle.call_dispatch.specs.Systems.{system_method, params_of, System, unknown, barred, turned, system_acts, system_draws, drawn_at, IsSystem}
-use Rattle.call_dispatch.specs.Terms.{Terms}
+use Rattle.call_dispatch.specs.ServingSystem.{AsksTurn, AnswersRead, AnswersSystem}
+use Rattle.system_objects.specs.SystemReturns.{answer_written}
+use Rattle.call_dispatch.specs.Systems.{System, unknown, rejected, turned, system_acts, system_draws, drawn_at, IsSystem}
+use Rattle.system_objects.specs.MethodByHead.{system_method}
+use Rattle.system_ids.specs.SystemMethods.{params_of}
+use Rattle.system_objects.specs.Terms.{Terms}
 use Rattle.call_dispatch.proofs.Balancing.{filter_one, even_on, turn_entries, balanced_quiet}
 use Rattle.call_dispatch.proofs.Calling.{head_ends}
 use Rattle.call_dispatch.proofs.Cutting.{cut_whole}
@@ -90,19 +93,19 @@ turn_even ask moment (Err refusals.OutOfMemory) xs quiet even = let P : List Ask
 -- ---- asking
 
 -- A turn was taken, and its Return prepared.
-pub turn_asked : (may : Invocation → Outcome → Type 0) (moves : States → Call → States → Type 0) (terms : Terms) (uid : Uid) (ask : Ask) (shown : List Asked) (moment : ℕ) (reply : Result Turn Refused) (a b : Side) (answer : Answer)
+pub turn_asked : (may : Invocation → Outcome → Type 0) (moves : States → Call → States → Type 0) (terms : Terms) (uid : Uid) (ask : Ask) (shown : List Asked) (moment : ℕ) (reply : Result Turn Refused) (a b : Observed) (answer : Answer)
     → IsAnswerTo (Shows shown) ask reply → reply ≢ Err refusals.OutOfMemory → Led may moves a b (acts_of moment ask reply) → answer.bytes ≡ answer_written terms uid ask reply → answer.close ≡ None
     → AsksTurn may moves terms uid ask a b (Ok answer)
 turn_asked may moves terms uid ask shown moment reply a b answer answers other led bytes_are unclosed = (moment, reply, (other, (shown, answers)), led, bytes_are, unclosed)
 
 -- A turn was taken, and there was no memory for its Return.
-pub turn_untold : (may : Invocation → Outcome → Type 0) (moves : States → Call → States → Type 0) (terms : Terms) (uid : Uid) (ask : Ask) (shown : List Asked) (moment : ℕ) (reply : Result Turn Refused) (a b : Side)
+pub turn_untold : (may : Invocation → Outcome → Type 0) (moves : States → Call → States → Type 0) (terms : Terms) (uid : Uid) (ask : Ask) (shown : List Asked) (moment : ℕ) (reply : Result Turn Refused) (a b : Observed)
     → IsQuiet ask → IsAnswerTo (Shows shown) ask reply → reply ≢ Err refusals.OutOfMemory → Led may moves a b (acts_of moment ask reply) → AsksTurn may moves terms uid ask a b (Err conn.OutOfMemory)
 turn_untold may moves terms uid ask shown moment reply a b quiet answers other led =
     (refl, (moment, reply, (other, (shown, answers)), (acts_of moment ask reply, led, cut_whole [] (acts_of moment ask reply) (turn_even ask moment reply [] quiet (λ o. refl)))))
 
 -- There was no memory for the turn.
-pub turn_lost : (may : Invocation → Outcome → Type 0) (moves : States → Call → States → Type 0) (terms : Terms) (uid : Uid) (ask : Ask) (moment : ℕ) (a b : Side)
+pub turn_lost : (may : Invocation → Outcome → Type 0) (moves : States → Call → States → Type 0) (terms : Terms) (uid : Uid) (ask : Ask) (moment : ℕ) (a b : Observed)
     → Led may moves a b (acts_of moment ask (Err refusals.OutOfMemory)) → AsksTurn may moves terms uid ask a b (Err conn.OutOfMemory)
 turn_lost may moves terms uid ask moment a b led = (
   refl,
@@ -142,7 +145,7 @@ record SomeRow (terms : Terms) (drawn : ℕ) (head : CallHead) (bytes : List ℕ
   draws : system_draws s ≡ client_draws method arguments + 1
 
 some_row : (terms : Terms) (drawn : ℕ) (head : CallHead) (bytes : List ℕ) (method : SystemMethod) (arguments : Arguments) → system_method head ≡ Some method → CallBytes head (params_of method) arguments (0x50 ∷ bytes)
-    → (r : Result Ask Bar) → demand_of terms method arguments (drawn_at terms drawn) (drawn_at terms (drawn + client_draws method arguments)) ≡ r → SomeRow terms drawn head bytes method arguments
+    → (r : Result Ask Rejection) → request_of terms method arguments (drawn_at terms drawn) (drawn_at terms (drawn + client_draws method arguments)) ≡ r → SomeRow terms drawn head bytes method arguments
 some_row terms drawn head bytes method arguments known call (Ok ask) e =
     let uid : Uid = drawn_at terms (drawn + client_draws method arguments) in
     record {
@@ -154,35 +157,35 @@ some_row terms drawn head bytes method arguments known call (Ok ask) e =
     }
 some_row terms drawn head bytes method arguments known call (Err bar) e = record {
   uid = drawn_at terms (drawn + client_draws method arguments);
-  s = barred method arguments bar;
+  s = rejected method arguments bar;
   is = (known, call, refl, e);
   failing = refl;
   draws = refl;
 }
 
 -- There was no memory before anything was done but drawing.
-pub read_unbegun : (may : Invocation → Outcome → Type 0) (moves : States → Call → States → Type 0) (terms : Terms) (head : CallHead) (bytes : List ℕ) (method : SystemMethod) (arguments : Arguments) (a : Side) (drawn drew draws : ℕ)
+pub read_unbegun : (may : Invocation → Outcome → Type 0) (moves : States → Call → States → Type 0) (terms : Terms) (head : CallHead) (bytes : List ℕ) (method : SystemMethod) (arguments : Arguments) (a : Observed) (drawn drew draws : ℕ)
     → system_method head ≡ Some method → CallBytes head (params_of method) arguments (0x50 ∷ bytes) → drew ≡ drawn + draws → draws ≤ client_draws method arguments + 1
     → AnswersRead may moves terms head bytes a a drawn drew (Err conn.OutOfMemory)
 read_unbegun may moves terms head bytes method arguments a drawn drew draws known call drew_is most =
-    let row = some_row terms drawn head bytes method arguments known call (demand_of terms method arguments (drawn_at terms drawn) (drawn_at terms (drawn + client_draws method arguments))) refl in
+    let row = some_row terms drawn head bytes method arguments known call (request_of terms method arguments (drawn_at terms drawn) (drawn_at terms (drawn + client_draws method arguments))) refl in
     (refl, (row.uid, row.s, row.is, ([], led_nothing may moves a, cut_nothing (system_acts row.s) row.failing), (draws, drew_is, omega (arith, most, row.draws))))
 
--- What it asks for is barred.
-pub read_barred : (may : Invocation → Outcome → Type 0) (moves : States → Call → States → Type 0) (terms : Terms) (head : CallHead) (bytes : List ℕ) (method : SystemMethod) (arguments : Arguments) (bar : Bar) (uid : Uid) (a : Side) (drawn drew : ℕ) (result : Result Answer ConnEnd)
+-- The call is rejected.
+pub read_barred : (may : Invocation → Outcome → Type 0) (moves : States → Call → States → Type 0) (terms : Terms) (head : CallHead) (bytes : List ℕ) (method : SystemMethod) (arguments : Arguments) (bar : Rejection) (uid : Uid) (a : Observed) (drawn drew : ℕ) (result : Result Answer ConnEnd)
     → system_method head ≡ Some method → CallBytes head (params_of method) arguments (0x50 ∷ bytes) → uid ≡ drawn_at terms (drawn + client_draws method arguments)
-    → demand_of terms method arguments (drawn_at terms drawn) uid ≡ Err bar → drew ≡ drawn + (client_draws method arguments + 1) → IsPrepared (fault_return uid (bar_message bar)) None result
+    → request_of terms method arguments (drawn_at terms drawn) uid ≡ Err bar → drew ≡ drawn + (client_draws method arguments + 1) → IsPrepared (fault_return uid (rejection_message bar)) None result
     → AnswersRead may moves terms head bytes a a drawn drew result
 read_barred may moves terms head bytes method arguments bar uid a drawn drew (Ok answer) known call uid_is demands drew_is prepared =
-    (uid, barred method arguments bar, (known, call, uid_is, demands), led_nothing may moves a, drew_is, prepared.0, prepared.1)
+    (uid, rejected method arguments bar, (known, call, uid_is, demands), led_nothing may moves a, drew_is, prepared.0, prepared.1)
 read_barred may moves terms head bytes method arguments bar uid a drawn drew (Err end) known call uid_is demands drew_is prepared =
     let all : client_draws method arguments + 1 ≤ client_draws method arguments + 1 = omega arith in
-    (prepared, (uid, barred method arguments bar, (known, call, uid_is, demands), ([], led_nothing may moves a, cut_nothing [] refl), (client_draws method arguments + 1, drew_is, all)))
+    (prepared, (uid, rejected method arguments bar, (known, call, uid_is, demands), ([], led_nothing may moves a, cut_nothing [] refl), (client_draws method arguments + 1, drew_is, all)))
 
 -- It is asked in one turn.
-pub read_asked : (may : Invocation → Outcome → Type 0) (moves : States → Call → States → Type 0) (terms : Terms) (head : CallHead) (bytes : List ℕ) (method : SystemMethod) (arguments : Arguments) (ask : Ask) (uid : Uid) (a b : Side) (drawn drew : ℕ) (result : Result Answer ConnEnd)
+pub read_asked : (may : Invocation → Outcome → Type 0) (moves : States → Call → States → Type 0) (terms : Terms) (head : CallHead) (bytes : List ℕ) (method : SystemMethod) (arguments : Arguments) (ask : Ask) (uid : Uid) (a b : Observed) (drawn drew : ℕ) (result : Result Answer ConnEnd)
     → system_method head ≡ Some method → CallBytes head (params_of method) arguments (0x50 ∷ bytes) → uid ≡ drawn_at terms (drawn + client_draws method arguments)
-    → demand_of terms method arguments (drawn_at terms drawn) uid ≡ Ok ask → drew ≡ drawn + (client_draws method arguments + 1) → AsksTurn may moves terms uid ask a b result
+    → request_of terms method arguments (drawn_at terms drawn) uid ≡ Ok ask → drew ≡ drawn + (client_draws method arguments + 1) → AsksTurn may moves terms uid ask a b result
     → AnswersRead may moves terms head bytes a b drawn drew result
 read_asked may moves terms head bytes method arguments ask uid a b drawn drew (Ok answer) known call uid_is demands drew_is (moment, reply, turned_is, led, bytes_are, unclosed) =
     (uid, turned method arguments ask moment reply (answer_written terms uid ask reply), (known, call, uid_is, demands, turned_is, refl), led, drew_is, bytes_are, unclosed)
@@ -193,7 +196,7 @@ read_asked may moves terms head bytes method arguments ask uid a b drawn drew (E
 -- ---- calls whose head was read
 
 -- There is no such method.
-pub unknown_answers : (may : Invocation → Outcome → Type 0) (moves : States → Call → States → Type 0) (terms : Terms) (head : CallHead) (first now : PullState) (stand : Stand) (a : Side) (drawn drew : ℕ) (result : Result Answer ConnEnd)
+pub unknown_answers : (may : Invocation → Outcome → Type 0) (moves : States → Call → States → Type 0) (terms : Terms) (head : CallHead) (first now : PullState) (stand : Stand) (a : Observed) (drawn drew : ℕ) (result : Result Answer ConnEnd)
     → system_method head ≡ None → ReadsHead first now head stand → drew ≡ drawn + 1 → IsPrepared (fault_return (drawn_at terms drawn) no_method) (Some (conn.NoSuchMethod head.operation head.hash)) result
     → AnswersSystem may moves terms head first now a a drawn drew result
 unknown_answers may moves terms head first now stand a drawn drew (Ok answer) none reads drew_is prepared =
@@ -205,7 +208,7 @@ unknown_answers may moves terms head first now stand a drawn drew (Err end) none
     inl (bytes, takes, (prepared, (drawn_at terms drawn, unknown, (whole, none, refl), ([], led_nothing may moves a, cut_nothing [] refl), (1, drew_is, all))))
 
 -- The arguments were read.
-pub read_answers : (may : Invocation → Outcome → Type 0) (moves : States → Call → States → Type 0) (terms : Terms) (head : CallHead) (bytes : List ℕ) (first now : PullState) (a b : Side) (drawn drew : ℕ) (result : Result Answer ConnEnd)
+pub read_answers : (may : Invocation → Outcome → Type 0) (moves : States → Call → States → Type 0) (terms : Terms) (head : CallHead) (bytes : List ℕ) (first now : PullState) (a b : Observed) (drawn drew : ℕ) (result : Result Answer ConnEnd)
     → Takes first now bytes → AnswersRead may moves terms head bytes a b drawn drew result → AnswersSystem may moves terms head first now a b drawn drew result
 read_answers may moves terms head bytes first now a b drawn drew (Ok answer) takes answers = (bytes, takes, answers)
 read_answers may moves terms head bytes first now a b drawn drew (Err end) takes answers = inl (bytes, takes, answers)

@@ -14,8 +14,8 @@ use Rattle.call_dispatch.specs.declared.outcome.Outcome.{Outcome}
 use Rattle.call_dispatch.specs.Acts.{Act, tells_of, acts_of}
 use Rattle.call_dispatch.specs.Results.{finish_with}
 use Rattle.call_dispatch.specs.Served.{Conclusion, finished, denied, faulted, conclusion_acts, IsConclusion, Running, unknown, ran, running_acts, IsRunning, AtHead, absent, refused, begun, served_acts, IsServed}
-use Rattle.call_dispatch.specs.Terms.{Terms}
-use Rattle.call_dispatch.specs.Tape.{Tick, answered, gave, ticks, tape}
+use Rattle.system_objects.specs.Terms.{Terms}
+use Rattle.call_dispatch.specs.Tape.{OutsideAnswer, turn_answer, worker_outcome, outside_answers, tape}
 
 -- Telling the worker of what is gone hands nothing in.
 told_tape : (gone : List ObjId) → tape (tells_of gone) ≡ []
@@ -23,42 +23,42 @@ told_tape [] = refl
 told_tape (object ∷ gone) = told_tape gone
 
 -- A turn that was answered hands in its answer, and then what the later acts do.
-pub turn_tape : (moment : ℕ) (ask : Ask) (turn : Turn) (later : List Act) → tape (acts_of moment ask (Ok turn) ++ later) ≡ answered moment (Turned turn) ∷ tape later
+pub turn_tape : (moment : ℕ) (ask : Ask) (turn : Turn) (later : List Act) → tape (acts_of moment ask (Ok turn) ++ later) ≡ turn_answer moment (Turned turn) ∷ tape later
 turn_tape moment ask turn later =
-    ap (λ (l : List Tick). answered moment (Turned turn) ∷ l) (flat_map-append ticks (tells_of turn.gone) later ∙ ap (λ (l : List Tick). l ++ tape later) (told_tape turn.gone))
+    ap (λ (l : List OutsideAnswer). turn_answer moment (Turned turn) ∷ l) (flat_map-append outside_answers (tells_of turn.gone) later ∙ ap (λ (l : List OutsideAnswer). l ++ tape later) (told_tape turn.gone))
 
-pub turn_alone : (moment : ℕ) (ask : Ask) (turn : Turn) → tape (acts_of moment ask (Ok turn)) ≡ answered moment (Turned turn) ∷ []
-turn_alone moment ask turn = ap (λ (l : List Tick). answered moment (Turned turn) ∷ l) (told_tape turn.gone)
+pub turn_alone : (moment : ℕ) (ask : Ask) (turn : Turn) → tape (acts_of moment ask (Ok turn)) ≡ turn_answer moment (Turned turn) ∷ []
+turn_alone moment ask turn = ap (λ (l : List OutsideAnswer). turn_answer moment (Turned turn) ∷ l) (told_tape turn.gone)
 
-abbrev pub conclusion_ticks : Conclusion → List Tick
-conclusion_ticks (finished listed moment turn bytes) = answered moment (Turned turn) ∷ []
-conclusion_ticks (denied listed moment refusal moment2 place) = answered moment (Denied refusal) ∷ answered moment2 (Abandoned place) ∷ []
-conclusion_ticks (faulted moment place) = answered moment (Abandoned place) ∷ []
+abbrev pub conclusion_ticks : Conclusion → List OutsideAnswer
+conclusion_ticks (finished listed moment turn bytes) = turn_answer moment (Turned turn) ∷ []
+conclusion_ticks (denied listed moment refusal moment2 place) = turn_answer moment (Denied refusal) ∷ turn_answer moment2 (Abandoned place) ∷ []
+conclusion_ticks (faulted moment place) = turn_answer moment (Abandoned place) ∷ []
 
-abbrev pub running_ticks : Running → List Tick
-running_ticks (unknown moment place) = answered moment (Abandoned place) ∷ []
-running_ticks (ran place arguments outcome conclusion) = gave outcome ∷ conclusion_ticks conclusion
+abbrev pub running_ticks : Running → List OutsideAnswer
+running_ticks (unknown moment place) = turn_answer moment (Abandoned place) ∷ []
+running_ticks (ran place arguments outcome conclusion) = worker_outcome outcome ∷ conclusion_ticks conclusion
 
-abbrev pub served_ticks : AtHead → List Tick
-served_ticks (absent moment turn) = answered moment (Turned turn) ∷ []
-served_ticks (refused moment) = answered moment (Denied refusals.HistoryFull) ∷ []
-served_ticks (begun moment turn kind running) = answered moment (Turned turn) ∷ running_ticks running
+abbrev pub served_ticks : AtHead → List OutsideAnswer
+served_ticks (absent moment turn) = turn_answer moment (Turned turn) ∷ []
+served_ticks (refused moment) = turn_answer moment (Denied refusals.HistoryFull) ∷ []
+served_ticks (begun moment turn kind running) = turn_answer moment (Turned turn) ∷ running_ticks running
 
-conclusion_tape : (terms : Terms) (object : ObjId) (uid : Uid) (returned : Option TypeCode) (outcome : Outcome) (c : Conclusion) → IsConclusion terms uid returned outcome c → tape (conclusion_acts object uid outcome c) ≡ conclusion_ticks c
-conclusion_tape terms object uid returned outcome (finished listed moment turn bytes) is = turn_alone moment (finish_with object outcome listed uid) turn
-conclusion_tape terms object uid returned outcome (denied listed moment refusals.HistoryFull moment2 place) is = refl
-conclusion_tape terms object uid returned outcome (denied listed moment (refusals.Full kind) moment2 place) is = refl
-conclusion_tape terms object uid returned outcome (denied listed moment refusals.OutOfMemory moment2 place) (fit, (same, other)) = absurd (other refl)
-conclusion_tape terms object uid returned outcome (faulted moment place) is = refl
+conclusion_tape : (terms : Terms) (object : ObjId) (uid : Uid) (result_type : Option TypeCode) (outcome : Outcome) (c : Conclusion) → IsConclusion terms uid result_type outcome c → tape (conclusion_acts object uid outcome c) ≡ conclusion_ticks c
+conclusion_tape terms object uid result_type outcome (finished listed moment turn bytes) is = turn_alone moment (finish_with object outcome listed uid) turn
+conclusion_tape terms object uid result_type outcome (denied listed moment refusals.HistoryFull moment2 place) is = refl
+conclusion_tape terms object uid result_type outcome (denied listed moment (refusals.Full kind) moment2 place) is = refl
+conclusion_tape terms object uid result_type outcome (denied listed moment refusals.OutOfMemory moment2 place) (fit, (same, other)) = absurd (other refl)
+conclusion_tape terms object uid result_type outcome (faulted moment place) is = refl
 
 running_tape : (terms : Terms) (head : CallHead) (kind : ℕ) (bytes : List ℕ) (uid : Uid) (r : Running) → IsRunning terms head kind bytes uid r → tape (running_acts head uid kind r) ≡ running_ticks r
 running_tape terms head kind bytes uid (unknown moment place) is = refl
 running_tape terms head kind bytes uid (ran place arguments outcome conclusion) (known, (method, method_is, call, concluded)) =
-    ap (λ (l : List Tick). gave outcome ∷ l) (conclusion_tape terms head.id uid method.result outcome conclusion concluded)
+    ap (λ (l : List OutsideAnswer). worker_outcome outcome ∷ l) (conclusion_tape terms head.id uid method.result outcome conclusion concluded)
 
 -- What a Call's acts hand in.
 pub served_tape : (terms : Terms) (head : CallHead) (bytes : List ℕ) (uid : Uid) (s : AtHead) → IsServed terms head bytes uid s → tape (served_acts head uid s) ≡ served_ticks s
 served_tape terms head bytes uid (absent moment turn) is = turn_alone moment (Begin head.id) turn
 served_tape terms head bytes uid (refused moment) is = refl
 served_tape terms head bytes uid (begun moment turn kind running) (started, is) =
-    turn_tape moment (Begin head.id) turn (running_acts head uid kind running) ∙ ap (λ (l : List Tick). answered moment (Turned turn) ∷ l) (running_tape terms head kind bytes uid running is)
+    turn_tape moment (Begin head.id) turn (running_acts head uid kind running) ∙ ap (λ (l : List OutsideAnswer). turn_answer moment (Turned turn) ∷ l) (running_tape terms head kind bytes uid running is)

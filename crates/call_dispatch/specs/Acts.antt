@@ -9,7 +9,7 @@ use Rattle.history.specs.declared.replies.Refused.{Refused}
 use Rattle.history.specs.declared.replies.Refused.TheVariants.{HistoryFull, Full, OutOfMemory}
 use Rattle.space.specs.declared.asked.Asked.{Asked}
 use Rattle.space.specs.Entries.{entry_of}
-use Rattle.space.specs.Ports.{abandoned_at}
+use Rattle.ports.specs.Ports.{abandoned_at}
 use Rattle.call_dispatch.specs.declared.outcome.Invocation.{Invocation}
 use Rattle.call_dispatch.specs.declared.outcome.Outcome.{Outcome}
 
@@ -59,8 +59,8 @@ acts_of moment ask (Err (Full kind)) = asks (entry_of moment ask (Err (Full kind
 acts_of moment ask (Err OutOfMemory) = lost moment ∷ []
 
 -- A call of an object is ended without an answer, at this place of the history.
-abbrev pub abandoned : ℕ → ObjId → ℕ → Act
-abandoned moment object place = asks (abandoned_at moment object place)
+abbrev pub abandon_act : ℕ → ObjId → ℕ → Act
+abandon_act moment object place = asks (abandoned_at moment object place)
 
 -- ---- what is told
 
@@ -88,7 +88,7 @@ MayAll may (invokes call outcome ∷ more) = may call outcome × MayAll may more
 MayAll may (unreferenced object ∷ more) = MayAll may more
 
 -- what is shown beside the bytes and the draw: a port's entries, a clock's moments, and a worker's count, calls and state
-pub record Side : Type 0 where
+pub record Observed : Type 0 where
   pub asked : List Asked
   pub given : Option (List ℕ)
   pub invoked : ℕ
@@ -96,7 +96,7 @@ pub record Side : Type 0 where
   pub state : Option States
 
 -- These acts lead from what was shown to what is shown. Nothing shows in which order entries and calls came among each other.
-pub record Led (may : Invocation → Outcome → Type 0) (moves : States → Call → States → Type 0) (before after : Side) (acts : List Act) : Type 0 where
+pub record Led (may : Invocation → Outcome → Type 0) (moves : States → Call → States → Type 0) (before after : Observed) (acts : List Act) : Type 0 where
   pub asked : after.asked ≡ before.asked ++ flat_map entries acts
   pub given : Gave before.given after.given (flat_map moments acts)
   pub invoked : after.invoked ≡ before.invoked + length (flat_map invocations (flat_map calls acts))
@@ -105,9 +105,9 @@ pub record Led (may : Invocation → Outcome → Type 0) (moves : States → Cal
   pub state : LeadsStates moves before.state (flat_map calls acts) after.state
 
 -- A turn was made at some moment, and the worker told what is gone.
-abbrev pub TakesTurn : (Invocation → Outcome → Type 0) → (States → Call → States → Type 0) → Side → Side → Ask → Result Turn Refused → Type 0
+abbrev pub TakesTurn : (Invocation → Outcome → Type 0) → (States → Call → States → Type 0) → Observed → Observed → Ask → Result Turn Refused → Type 0
 TakesTurn may moves before after ask answer = (moment : ℕ) × Led may moves before after (acts_of moment ask answer)
 
 -- A call of an object was ended without an answer.
-abbrev pub GivesUp : (Invocation → Outcome → Type 0) → (States → Call → States → Type 0) → Side → Side → ObjId → Type 0
-GivesUp may moves before after object = (moment place : ℕ) × Led may moves before after (abandoned moment object place ∷ [])
+abbrev pub GivesUp : (Invocation → Outcome → Type 0) → (States → Call → States → Type 0) → Observed → Observed → ObjId → Type 0
+GivesUp may moves before after object = (moment place : ℕ) × Led may moves before after (abandon_act moment object place ∷ [])

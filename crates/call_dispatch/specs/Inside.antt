@@ -1,7 +1,7 @@
 -- Where reading ends inside a Call.
 use Rattle.std.specs.Prelude.{◌≡◌, ℕ, ◌+◌, ◌≤◌, List, [], ◌∷◌, ◌++◌, length, Option, Result, Err}
 use Rattle.wire_io.specs.Wire.{NothingLeft}
-use Rattle.ser_values.specs.Reading.{short, too_many, too_deep}
+use Rattle.stream_grammar.specs.Reading.{short, too_many, too_deep}
 use Rattle.ser_read.specs.declared.fault.Large.TheVariants.{Bytes, Nodes, Depth}
 use Rattle.ser_read.specs.Here.{NeedsAll}
 use Rattle.ser_read.specs.Wants.{WantFault, inside, WantIsBad}

@@ -6,16 +6,16 @@ use Rattle.object_ids.specs.declared.ids.Uid.{Uid}
 use Rattle.method_hash.specs.declared.method.Method.{Method}
 use Rattle.jrmp_frames.specs.declared.head.CallHead.{CallHead}
 use Rattle.jrmp_frames.specs.Messages.{CallBytes}
-use Rattle.call_dispatch.specs.declared.book.Kind.{Kind}
+use Rattle.system_objects.specs.declared.book.Kind.{Kind}
 use Rattle.call_dispatch.specs.declared.outcome.Invocation.{Invocation}
 use Rattle.call_dispatch.specs.Acts.{Act, Call, calls, invocations, TellsMore}
-use Rattle.call_dispatch.specs.Book.{methods_of}
+use Rattle.system_objects.specs.Book.{methods_of}
 use Rattle.call_dispatch.specs.Served.{AtHead, IsMethodOf, served_acts, IsServed}
-use Rattle.call_dispatch.specs.Terms.{Terms}
-use Rattle.call_dispatch.specs.Spot.{Spot, Course}
+use Rattle.system_objects.specs.Terms.{Terms}
+use Rattle.call_dispatch.specs.ConnectionState.{ConnectionState, Transcript}
 use Rattle.call_dispatch.specs.declared.end.ConnEnd.{ConnEnd}
 use Rattle.call_dispatch.specs.Rows.{taken_by}
-use Rattle.call_dispatch.specs.Dialogue.{Whole, IsWhole, taken_in, exchanges_in, Dialogue}
+use Rattle.call_dispatch.specs.Dialogue.{Completed, IsCompleted, taken_in, exchanges_in, Dialogue}
 
 -- the invocations among some acts, in their order
 abbrev pub invocations_in : List Act → List Invocation
@@ -56,24 +56,24 @@ LeadTo kinds (message ∷ more) invoked =
 -- A connection that began at `before` invoked each message that it read at most once, and each with what it spells: the bytes taken are an opening,
 -- whole messages and what was taken behind them; the worker was given so many invocations more, and its calls, where it tells them, are these;
 -- and the messages, what was taken behind them among them, lead to the invocations.
-pub record InvokesEachOnce (terms : Terms) (before now : Spot) : Type 0 where
-  pub whole : Whole
+pub record InvokesEachOnce (terms : Terms) (before now : ConnectionState) : Type 0 where
+  pub whole : Completed
   pub behind : List ℕ
-  pub is_whole : IsWhole terms before.drawn whole
+  pub is_whole : IsCompleted terms before.drawn whole
   pub taken : before.wires.left ≡ with_front (taken_in whole ++ behind) now.wires.left
   pub told : List Call
   pub count : now.side.invoked ≡ before.side.invoked + length (flat_map invocations told)
   pub seen : TellsMore before.side.seen told now.side.seen
   pub once : LeadTo terms.kinds (map taken_by (exchanges_in whole) ++ behind ∷ []) (flat_map invocations told)
 
--- What a course took is what stands whole and what came behind it, and these messages lead to its invocations.
-pub record InvokesIn (terms : Terms) (drawn : ℕ) (c : Course) : Type 0 where
-  pub whole : Whole
+-- What a transcript took is what stands whole and what came behind it, and these messages lead to its invocations.
+pub record InvokesIn (terms : Terms) (drawn : ℕ) (c : Transcript) : Type 0 where
+  pub whole : Completed
   pub behind : List ℕ
-  pub is_whole : IsWhole terms drawn whole
+  pub is_whole : IsCompleted terms drawn whole
   pub taken : c.taken ≡ taken_in whole ++ behind
   pub once : LeadTo terms.kinds (map taken_by (exchanges_in whole) ++ behind ∷ []) (invocations_in c.acts)
 
 -- In each dialogue a message leads to at most one invocation, which is its own, and nothing else leads to one.
 abbrev pub DialogueInvokesEachOnce : Type 0
-DialogueInvokesEachOnce = (terms : Terms) (drawn : ℕ) (c : Course) (rest : Option (List ℕ)) (end : ConnEnd) → Dialogue terms drawn c rest end → InvokesIn terms drawn c
+DialogueInvokesEachOnce = (terms : Terms) (drawn : ℕ) (c : Transcript) (rest : Option (List ℕ)) (end : ConnEnd) → Dialogue terms drawn c rest end → InvokesIn terms drawn c

@@ -1,5 +1,5 @@
 -- What calls are answered: the bytes of Returns (Java RMI Specification, 10.2), and which outcomes a method can have.
-use Rattle.std.specs.Prelude.{ℕ, Bool, true, false, ◌&&◌, not, nat_le, codes, List, [], ◌∷◌, ◌++◌, length, Option, None, Some, if◌then◌else◌}
+use Rattle.std.specs.Prelude.{ℕ, Bool, true, false, ◌&&◌, not, nat_le, List, [], ◌∷◌, length, Option, None, Some, if◌then◌else◌}
 use Rattle.class_desc.specs.declared.field.TypeCode.{TypeCode}
 use Rattle.class_desc.specs.declared.field.TypeCode.TheVariants as types
 use Rattle.class_desc.specs.TypeCode.{is_primitive}
@@ -7,38 +7,29 @@ use Rattle.class_desc.specs.declared.slot.Item.{Item}
 use Rattle.class_desc.specs.declared.slot.Item.TheVariants as items
 use Rattle.ser_values.specs.declared.value.Value.{Value}
 use Rattle.ser_values.specs.declared.value.Value.TheVariants as values
-use Rattle.ser_values.specs.Spelled.{put_block}
-use Rattle.ser_write.specs.Canonical.{contents}
 use Rattle.object_ids.specs.declared.ids.Uid.{Uid}
-use Rattle.object_ids.specs.declared.ids.FullKind.{FullKind}
-use Rattle.object_ids.specs.declared.ids.FullKind.TheVariants.{Exports, Awaiting, Clients, Pairs, Names}
 use Rattle.history.specs.declared.replies.Refused.{Refused}
 use Rattle.history.specs.declared.replies.Refused.TheVariants as refusals
-use Rattle.java_shapes.specs.Fault.{fault_nodes, fault_items}
-use Rattle.jrmp_frames.specs.Messages.{return_front}
-use Rattle.call_dispatch.specs.declared.book.Kind.{Kind}
+use Rattle.system_objects.specs.declared.book.Kind.{Kind}
 use Rattle.call_dispatch.specs.declared.outcome.Outcome.{Outcome}
 use Rattle.call_dispatch.specs.declared.outcome.Outcome.TheVariants.{Void, Prim, Tree, NewRemote, OldRemote, Fault}
 use Rattle.call_dispatch.specs.Results.{is_place, plain_return}
-use Rattle.call_dispatch.specs.Terms.{Terms}
-use Rattle.call_dispatch.specs.declared.results.TheConstants.{RETURN_BYTES}
-
--- the exceptional Return with this message
-unfoldable pub fault_return : Uid → List ℕ → List ℕ
-fault_return uid message = 0x51 ∷ 0xAC ∷ 0xED ∷ 0x00 ∷ 0x05 ∷ contents (fault_nodes message) (put_block (return_front false uid) fault_items)
+use Rattle.system_objects.specs.Terms.{Terms}
+use Rattle.system_objects.specs.declared.returns.TheConstants.{RETURN_BYTES}
+use Rattle.system_objects.specs.ReturnBytes.{wrong_outcome, fault_return}
 
 -- ---- outcomes
 
 -- The value is of this primitive type.
 abbrev pub is_of : TypeCode → Value → Bool
-is_of types.B (values.B v) = true
-is_of types.C (values.C v) = true
-is_of types.D (values.D v) = true
-is_of types.F (values.F v) = true
-is_of types.I (values.I v) = true
-is_of types.J (values.J v) = true
-is_of types.S (values.S v) = true
-is_of types.Z (values.Z v) = true
+is_of types.Byte (values.Byte v) = true
+is_of types.Char (values.Char v) = true
+is_of types.Double (values.Double v) = true
+is_of types.Float (values.Float v) = true
+is_of types.Int (values.Int v) = true
+is_of types.Long (values.Long v) = true
+is_of types.Short (values.Short v) = true
+is_of types.Boolean (values.Boolean v) = true
 is_of _ _ = false
 
 -- one reference and nothing else
@@ -74,29 +65,6 @@ abbrev pub fits : Terms → Uid → Option TypeCode → Outcome → Bool
 fits terms uid result outcome = suits terms.kinds result outcome && is_sent uid outcome
 
 -- ---- messages of exceptional Returns
-
-abbrev pub no_object : List ℕ
-no_object = codes "java.rmi.NoSuchObjectException: no such object"
-
-abbrev pub no_method : List ℕ
-no_method = codes "java.rmi.UnmarshalException: no such method"
-
-abbrev pub wrong_outcome : List ℕ
-wrong_outcome = codes "java.rmi.ServerException: wrong outcome"
-
-abbrev pub table_word : FullKind → List ℕ
-table_word Exports = codes "exports"
-table_word Awaiting = codes "awaiting"
-table_word Clients = codes "clients"
-table_word Pairs = codes "pairs"
-table_word Names = codes "names"
-
-abbrev pub full_word : Refused → List ℕ
-full_word (refusals.Full kind) = table_word kind
-full_word _ = codes "history"
-
-abbrev pub full : Refused → List ℕ
-full refused = codes "java.rmi.ServerException: full: " ++ full_word refused
 
 -- The worker's own message, where its Return can be sent.
 abbrev pub fault_message : Uid → Outcome → List ℕ

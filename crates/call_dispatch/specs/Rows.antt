@@ -1,6 +1,5 @@
 -- The table of exchanges: what each message takes, does, draws and writes, and how a row is cut.
-use Rattle.std.specs.Prelude.{◌≡◌, true, false, ℕ, ◌+◌, ◌≤◌, List, [], ◌∷◌, ◌++◌, ◌⊎◌, length, Option, None, Result, Ok, Err, FitsSigned}
-use Rattle.std.specs.Int.{w16, w32, w64}
+use Rattle.std.specs.Prelude.{◌≡◌, true, false, ℕ, ◌+◌, ◌≤◌, List, [], ◌∷◌, ◌++◌, ◌⊎◌, length, Option, None, Result, Ok, Err}
 use Rattle.std.specs.List.{flat_map}
 use Rattle.object_ids.specs.declared.ids.ObjId.{ObjId}
 use Rattle.history.specs.declared.asks.Ask.TheVariants.{Ack}
@@ -11,8 +10,9 @@ use Rattle.history.specs.declared.replies.Refused.TheVariants.{HistoryFull}
 use Rattle.space.specs.declared.asked.Asked.{Asked}
 use Rattle.space.specs.declared.asked.AskedEnd.{AskedEnd}
 use Rattle.space.specs.declared.asked.AskedEnd.TheVariants.{Abandoned}
-use Rattle.space.specs.Ports.{abandoned_at, Shows}
+use Rattle.ports.specs.Ports.{abandoned_at, Shows}
 use Rattle.object_ids.specs.declared.ids.Uid.{Uid}
+use Rattle.object_ids.specs.Bytes.{FitsUid}
 use Rattle.object_ids.specs.Draw.{uid_drawn}
 use Rattle.ser_values.specs.declared.limits.TheConstants.{MESSAGE_BYTES}
 use Rattle.jrmp_frames.specs.declared.head.CallHead.{CallHead}
@@ -20,11 +20,12 @@ use Rattle.jrmp_frames.specs.declared.code.Code.TheVariants.{Ping, Call}
 use Rattle.jrmp_frames.specs.Frames.{code_byte, ping_ack, dgc_ack}
 use Rattle.call_dispatch.specs.declared.outcome.Outcome.TheVariants.{OutOfMemory}
 use Rattle.call_dispatch.specs.declared.end.ConnEnd.{ConnEnd}
-use Rattle.call_dispatch.specs.Terms.{Terms}
+use Rattle.system_objects.specs.Terms.{Terms}
 use Rattle.call_dispatch.specs.Acts.{Act, asks, lost, called, invokes, unreferenced, entries, acts_of}
 use Rattle.call_dispatch.specs.Served.{FitsHead, AtHead, served_acts, served_written, served_closes, IsServed}
-use Rattle.call_dispatch.specs.Spot.{Course}
-use Rattle.call_dispatch.specs.Systems.{is_system, System, system_acts, system_draws, system_written, system_closes, IsSystem}
+use Rattle.call_dispatch.specs.ConnectionState.{Transcript}
+use Rattle.call_dispatch.specs.Systems.{System, system_acts, system_draws, system_written, system_closes, IsSystem}
+use Rattle.system_ids.specs.SystemIds.{is_system}
 
 -- a row of the table: the bytes of the message, what is done at it in order, how many identifiers are drawn, the bytes of
 -- the answer, and the end of the connection, where it ends with this answer
@@ -50,12 +51,6 @@ row_of (served bytes head uid s) =
     record { message = code_byte Call ∷ bytes; acts = served_acts head uid s; draws = 1; written = served_written uid s; closes = served_closes head s }
 row_of (system bytes head uid s) =
     record { message = code_byte Call ∷ bytes; acts = system_acts s; draws = system_draws s; written = system_written uid s; closes = system_closes head s }
-
--- The identifier's numbers are in range, so that its bytes tell them.
-pub record FitsUid (uid : Uid) : Type 0 where
-  pub unique : FitsSigned w32 uid.unique
-  pub time : FitsSigned w64 uid.time
-  pub count : FitsSigned w16 uid.count
 
 -- An acknowledgement was noted, or passed over where the history was full.
 abbrev pub IsNoted : Result Turn Refused → Type 0
@@ -89,8 +84,8 @@ draws_in [] = 0
 draws_in (e ∷ more) = draws_by e + draws_in more
 
 -- what an exchange takes, does, draws and writes
-abbrev pub course_by : Exchange → Course
-course_by e = record { taken = taken_by e; acts = acts_by e; draws = draws_by e; written = written_by e }
+abbrev pub transcript_by : Exchange → Transcript
+transcript_by e = record { taken = taken_by e; acts = acts_by e; draws = draws_by e; written = written_by e }
 
 -- The connection goes on after it.
 abbrev pub IsOpen : Exchange → Type 0
@@ -103,8 +98,8 @@ closed_by (e ∷ []) = (row_of e).closes
 closed_by (e ∷ f ∷ more) = closed_by (f ∷ more)
 
 -- After these exchanges the connection goes on.
-abbrev pub GoOn : List Exchange → Type 0
-GoOn exchanges = closed_by exchanges ≡ None
+abbrev pub StaysOpen : List Exchange → Type 0
+StaysOpen exchanges = closed_by exchanges ≡ None
 
 -- Where so many identifiers were drawn, these exchanges may come one after the other, each where it stands, and none after
 -- one that closes the connection.
@@ -121,18 +116,18 @@ lost_at moment (Abandoned place) = []
 lost_at moment _ = lost moment ∷ []
 
 -- what an act leaves for which there was no memory
-abbrev pub failed : Act → List Act
-failed (asks entry) = lost_at entry.moment entry.end
-failed (lost moment) = []
-failed (called (invokes call outcome)) = called (invokes call OutOfMemory) ∷ []
-failed (called (unreferenced object)) = []
+abbrev pub acts_at_failure : Act → List Act
+acts_at_failure (asks entry) = lost_at entry.moment entry.end
+acts_at_failure (lost moment) = []
+acts_at_failure (called (invokes call outcome)) = called (invokes call OutOfMemory) ∷ []
+acts_at_failure (called (unreferenced object)) = []
 
 -- There was no memory for the next act, or another thing ended the row before it. Nothing ends it before the worker is told of an object: that
 -- takes no memory.
 abbrev pub IsFailed : List Act → List Act → Type 0
 IsFailed [] fails = fails ≡ []
 IsFailed (called (unreferenced object) ∷ later) fails = ⊥
-IsFailed (act ∷ later) fails = (fails ≡ []) ⊎ (fails ≡ failed act)
+IsFailed (act ∷ later) fails = (fails ≡ []) ⊎ (fails ≡ acts_at_failure act)
 
 -- A call that these entries show running is given up by an Abandon, and nothing else is done.
 abbrev pub IsGivenUp : List Asked → List Act → Type 0

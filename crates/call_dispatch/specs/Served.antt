@@ -1,5 +1,5 @@
 -- What is done at a call of an object that is exported.
-use Rattle.std.specs.Prelude.{◌≡◌, ◌≢◌, ℕ, ℤ, negsuc, ◌⊎◌, true, false, List, [], ◌∷◌, ◌++◌, length, slice_get, Option, None, Some, Ok, Err, FitsSigned}
+use Rattle.std.specs.Prelude.{◌≡◌, ◌≢◌, ℕ, ◌⊎◌, true, false, List, [], ◌∷◌, ◌++◌, length, slice_get, Option, None, Some, Ok, Err, FitsSigned}
 use Rattle.std.specs.Int.{w16, w32, w64}
 use Rattle.class_desc.specs.declared.field.TypeCode.{TypeCode}
 use Rattle.method_hash.specs.declared.method.Method.{Method}
@@ -15,17 +15,19 @@ use Rattle.jrmp_frames.specs.declared.arguments.Arguments.{Arguments}
 use Rattle.ser_read.specs.Heading.{EndsInBlock}
 use Rattle.jrmp_frames.specs.declared.head.CallHead.{CallHead}
 use Rattle.jrmp_frames.specs.Messages.{head_bytes, CallBytes}
-use Rattle.call_dispatch.specs.declared.book.Kind.{Kind}
+use Rattle.system_objects.specs.declared.book.Kind.{Kind}
 use Rattle.call_dispatch.specs.declared.end.ConnEnd.{ConnEnd}
 use Rattle.call_dispatch.specs.declared.end.ConnEnd.TheVariants as ends
 use Rattle.call_dispatch.specs.declared.outcome.Invocation.{Invocation}
 use Rattle.call_dispatch.specs.declared.outcome.Outcome.{Outcome}
 use Rattle.call_dispatch.specs.declared.outcome.Outcome.TheVariants.{OutOfMemory}
-use Rattle.call_dispatch.specs.Acts.{Act, called, invokes, acts_of, abandoned}
-use Rattle.call_dispatch.specs.Book.{methods_of, first_with}
+use Rattle.call_dispatch.specs.Acts.{Act, called, invokes, acts_of, abandon_act}
+use Rattle.system_objects.specs.Book.{methods_of, first_with}
 use Rattle.call_dispatch.specs.Results.{made_by, listed_by, finish_with, normal_return}
-use Rattle.call_dispatch.specs.Returns.{fault_return, fits, no_object, no_method, full, fault_message}
-use Rattle.call_dispatch.specs.Terms.{Terms}
+use Rattle.call_dispatch.specs.Returns.{fits, fault_message}
+use Rattle.system_objects.specs.ReturnBytes.{fault_return, no_object, no_method, full}
+use Rattle.system_objects.specs.Terms.{Terms}
+use Rattle.system_ids.specs.SystemMethods.{minus_one}
 
 -- The bytes, which stand behind a Call's code, end with this head: the stream's magic number and version, and then whole blocks and a front of
 -- one, with so many of its bytes left, which hold the head's 34 bytes.
@@ -57,12 +59,12 @@ pub data Conclusion : Type 0 where
 
 abbrev pub conclusion_acts : ObjId → Uid → Outcome → Conclusion → List Act
 conclusion_acts object uid outcome (finished listed moment turn bytes) = acts_of moment (finish_with object outcome listed uid) (Ok turn)
-conclusion_acts object uid outcome (denied listed moment refused moment2 place) = acts_of moment (finish_with object outcome listed uid) (Err refused) ++ abandoned moment2 object place ∷ []
-conclusion_acts object uid outcome (faulted moment place) = abandoned moment object place ∷ []
+conclusion_acts object uid outcome (denied listed moment refused end_moment place) = acts_of moment (finish_with object outcome listed uid) (Err refused) ++ abandon_act end_moment object place ∷ []
+conclusion_acts object uid outcome (faulted moment place) = abandon_act moment object place ∷ []
 
 abbrev pub conclusion_written : Uid → Outcome → Conclusion → List ℕ
 conclusion_written uid outcome (finished listed moment turn bytes) = bytes
-conclusion_written uid outcome (denied listed moment refused moment2 place) = fault_return uid (full refused)
+conclusion_written uid outcome (denied listed moment refused end_moment place) = fault_return uid (full refused)
 conclusion_written uid outcome (faulted moment place) = fault_return uid (fault_message uid outcome)
 
 -- The reply is that the call was finished, with an identifier for each object that its Return makes.
@@ -73,13 +75,13 @@ IsFinished made _ = ⊥
 -- Finish, which lists what the outcome's Return refers to, is answered, and the bytes are those of the Return; or it is refused for a limit.
 abbrev pub IsGranted : Terms → Uid → Outcome → Conclusion → Type 0
 IsGranted terms uid outcome (finished listed moment turn bytes) = (listed ≡ listed_by terms outcome) × IsFinished (made_by outcome) turn.reply × (bytes ≡ normal_return terms uid outcome turn.reply)
-IsGranted terms uid outcome (denied listed moment refused moment2 place) = (listed ≡ listed_by terms outcome) × (refused ≢ refusals.OutOfMemory)
+IsGranted terms uid outcome (denied listed moment refused end_moment place) = (listed ≡ listed_by terms outcome) × (refused ≢ refusals.OutOfMemory)
 IsGranted terms uid outcome (faulted moment place) = ⊥
 
 -- It may come so of an outcome of a method with this result.
 abbrev pub IsConclusion : Terms → Uid → Option TypeCode → Outcome → Conclusion → Type 0
 IsConclusion terms uid result outcome (finished listed moment turn bytes) = (fits terms uid result outcome ≡ true) × IsGranted terms uid outcome (finished listed moment turn bytes)
-IsConclusion terms uid result outcome (denied listed moment refused moment2 place) = (fits terms uid result outcome ≡ true) × IsGranted terms uid outcome (denied listed moment refused moment2 place)
+IsConclusion terms uid result outcome (denied listed moment refused end_moment place) = (fits terms uid result outcome ≡ true) × IsGranted terms uid outcome (denied listed moment refused end_moment place)
 IsConclusion terms uid result outcome (faulted moment place) = (fits terms uid result outcome ≡ false) × (outcome ≢ OutOfMemory)
 
 -- ---- a Call
@@ -94,7 +96,7 @@ abbrev pub invocation_of : ObjId → ℕ → ℕ → Arguments → Invocation
 invocation_of object kind method arguments = record { object = object; kind = kind; method = method; arguments = arguments }
 
 abbrev pub running_acts : CallHead → Uid → ℕ → Running → List Act
-running_acts head uid kind (unknown moment place) = abandoned moment head.id place ∷ []
+running_acts head uid kind (unknown moment place) = abandon_act moment head.id place ∷ []
 running_acts head uid kind (ran method arguments outcome conclusion) =
     called (invokes (invocation_of head.id kind method arguments) outcome) ∷ conclusion_acts head.id uid outcome conclusion
 
@@ -105,10 +107,6 @@ running_written uid (ran method arguments outcome conclusion) = conclusion_writt
 abbrev pub running_closes : CallHead → Running → Option ConnEnd
 running_closes head (unknown moment place) = Some (ends.NoSuchMethod head.operation head.hash)
 running_closes head (ran method arguments outcome conclusion) = None
-
--- A call is made by its method's hash, beside the operation -1.
-abbrev pub minus_one : ℤ
-minus_one = negsuc 0
 
 -- The kind's method at this place is the first with the head's hash.
 abbrev pub IsMethodOf : List Kind → ℕ → CallHead → ℕ → Type 0

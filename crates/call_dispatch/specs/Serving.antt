@@ -4,7 +4,7 @@ use Rattle.class_desc.specs.declared.field.TypeCode.{TypeCode}
 use Rattle.method_hash.specs.declared.method.Method.{Method}
 use Rattle.object_ids.specs.declared.ids.ObjId.{ObjId}
 use Rattle.object_ids.specs.declared.ids.Uid.{Uid}
-use Rattle.object_ids.specs.Bytes.{bytes_of_uid}
+use Rattle.object_ids.specs.Bytes.{FitsUid, bytes_of_uid}
 use Rattle.object_ids.specs.Draw.{uid_drawn}
 use Rattle.object_ids.specs.Same.{same_id}
 use Rattle.ser_values.specs.declared.graph.Graph.{Graph}
@@ -17,7 +17,7 @@ use Rattle.history.specs.declared.replies.Refused.TheVariants as refusals
 use Rattle.wire_io.specs.Wire.{Rose}
 use Rattle.wire_io.specs.Pulled.{PullState, Takes}
 use Rattle.space.specs.declared.asked.Asked.{Asked}
-use Rattle.space.specs.Balance.{calls_begun, calls_ended}
+use Rattle.ports.specs.Balance.{calls_begun, calls_ended}
 use Rattle.ser_read.specs.Wants.{Stand, serve_to_close}
 use Rattle.jrmp_frames.specs.declared.head.CallHead.{CallHead}
 use Rattle.ser_read.specs.declared.fault.StreamFault.{StreamFault}
@@ -26,7 +26,7 @@ use Rattle.jrmp_frames.specs.declared.fault.FrameFault.TheVariants.{Stream}
 use Rattle.jrmp_frames.specs.Gives.{StopsIn}
 use Rattle.jrmp_frames.specs.Messages.{wants_of}
 use Rattle.jrmp_frames.specs.Calls.{ReadsHead, BreaksIn}
-use Rattle.call_dispatch.specs.declared.book.Kind.{Kind}
+use Rattle.system_objects.specs.declared.book.Kind.{Kind}
 use Rattle.call_dispatch.specs.declared.end.ConnEnd.{ConnEnd}
 use Rattle.call_dispatch.specs.declared.end.ConnEnd.TheVariants as ends
 use Rattle.call_dispatch.specs.declared.outcome.Invocation.{Invocation}
@@ -38,15 +38,16 @@ use Rattle.call_dispatch.specs.declared.returns.Prepared.{Prepared}
 use Rattle.call_dispatch.specs.declared.returns.Prepared.TheVariants.{Normal, Exceptional}
 use Rattle.call_dispatch.specs.declared.results.Sent.{Sent}
 use Rattle.call_dispatch.specs.declared.results.Sent.TheVariants.{Whole, New}
-use Rattle.call_dispatch.specs.Terms.{Terms}
-use Rattle.call_dispatch.specs.Acts.{Act, Call, States, Side, Led, acts_of, abandoned, GivesUp}
-use Rattle.call_dispatch.specs.Book.{methods_of}
+use Rattle.system_objects.specs.Terms.{Terms}
+use Rattle.call_dispatch.specs.Acts.{Act, Call, States, Observed, Led, acts_of, abandon_act, GivesUp}
+use Rattle.system_objects.specs.Book.{methods_of}
 use Rattle.call_dispatch.specs.Results.{made_by, listed_by, interface_of, plain_return, normal_return}
-use Rattle.call_dispatch.specs.Returns.{fault_return, is_short, fits, full, fault_message, wrong_outcome}
+use Rattle.call_dispatch.specs.Returns.{is_short, fits, fault_message}
+use Rattle.system_objects.specs.ReturnBytes.{fault_return, full, wrong_outcome}
 use Rattle.call_dispatch.specs.Served.{Conclusion, conclusion_acts, conclusion_written, IsFinished, IsGranted, IsConclusion, Running, running_acts, running_written, running_closes, IsRunning, AtHead, served_acts, served_written, served_closes, IsServed, IsMethodOf}
-use Rattle.call_dispatch.specs.Rows.{FitsUid, IsNoted, IsCut}
+use Rattle.call_dispatch.specs.Rows.{IsNoted, IsCut}
 use Rattle.call_dispatch.specs.Progress.{Writes, end_from}
-use Rattle.call_dispatch.specs.declared.results.TheConstants.{RETURN_BYTES}
+use Rattle.system_objects.specs.declared.returns.TheConstants.{RETURN_BYTES}
 
 -- the identifier that is drawn next
 abbrev pub next_of : Terms → ℕ → Uid
@@ -57,7 +58,7 @@ abbrev pub RunsOne : ObjId → List Asked → Type 0
 RunsOne object entries = (o : ObjId) → calls_begun entries o ≡ calls_ended entries o + (if same_id object o then 1 else 0)
 
 -- The rest of a row, in which a call of this object runs, was cut.
-pub record CutShort (may : Invocation → Outcome → Type 0) (moves : States → Call → States → Type 0) (before after : Side) (object : ObjId) (row : List Act) : Type 0 where
+pub record CutShort (may : Invocation → Outcome → Type 0) (moves : States → Call → States → Type 0) (before after : Observed) (object : ObjId) (row : List Act) : Type 0 where
   pub acts : List Act
   pub led : Led may moves before after acts
   pub cut : (shown : List Asked) → RunsOne object shown → IsCut shown row acts
@@ -115,9 +116,9 @@ PreparesGraph uid graph listed (Err e) = Unit {0}
 
 -- What was prepared of an outcome.
 abbrev pub Prepares : {E : Type 0} → Terms → Uid → Option TypeCode → Outcome → Result Prepared E → Type 0
-Prepares terms uid returned outcome (Ok (Normal pending)) = (fits terms uid returned outcome ≡ true) × IsPending terms uid outcome pending
-Prepares terms uid returned outcome (Ok (Exceptional bytes)) = (fits terms uid returned outcome ≡ false) × (outcome ≢ OutOfMemory) × (bytes ≡ fault_return uid (fault_message uid outcome))
-Prepares terms uid returned outcome (Err e) = Unit {0}
+Prepares terms uid result_type outcome (Ok (Normal pending)) = (fits terms uid result_type outcome ≡ true) × IsPending terms uid outcome pending
+Prepares terms uid result_type outcome (Ok (Exceptional bytes)) = (fits terms uid result_type outcome ≡ false) × (outcome ≢ OutOfMemory) × (bytes ≡ fault_return uid (fault_message uid outcome))
+Prepares terms uid result_type outcome (Err e) = Unit {0}
 
 -- What a call is answered whose Finish was refused.
 abbrev pub IsDenied : Uid → Refused → Result Answer ConnEnd → Type 0
@@ -125,19 +126,19 @@ IsDenied uid refused (Ok answer) = (refused ≢ refusals.OutOfMemory) × (answer
 IsDenied uid refused (Err end) = end ≡ ends.OutOfMemory
 
 -- A running call of which this is pending is finished.
-abbrev pub Finishes : (Invocation → Outcome → Type 0) → (States → Call → States → Type 0) → Terms → ObjId → Uid → Outcome → Side → Side → Result Answer ConnEnd → Type 0
+abbrev pub Finishes : (Invocation → Outcome → Type 0) → (States → Call → States → Type 0) → Terms → ObjId → Uid → Outcome → Observed → Observed → Result Answer ConnEnd → Type 0
 Finishes may moves terms object uid outcome before after (Ok answer) = (c : Conclusion) × IsGranted terms uid outcome c × Led may moves before after (conclusion_acts object uid outcome c)
     × (answer.bytes ≡ conclusion_written uid outcome c) × (answer.close ≡ None)
 Finishes may moves terms object uid outcome before after (Err end) = (end ≡ ends.OutOfMemory)
     × ((c : Conclusion) × IsGranted terms uid outcome c × CutShort may moves before after object (conclusion_acts object uid outcome c))
 
 -- A running call whose worker answered so is concluded.
-abbrev pub Concludes : (Invocation → Outcome → Type 0) → (States → Call → States → Type 0) → Terms → ObjId → Uid → Option TypeCode → Outcome → Side → Side → Result Answer ConnEnd → Type 0
-Concludes may moves terms object uid returned outcome before after (Ok answer) = (c : Conclusion) × IsConclusion terms uid returned outcome c × Led may moves before after (conclusion_acts object uid outcome c)
+abbrev pub Concludes : (Invocation → Outcome → Type 0) → (States → Call → States → Type 0) → Terms → ObjId → Uid → Option TypeCode → Outcome → Observed → Observed → Result Answer ConnEnd → Type 0
+Concludes may moves terms object uid result_type outcome before after (Ok answer) = (c : Conclusion) × IsConclusion terms uid result_type outcome c × Led may moves before after (conclusion_acts object uid outcome c)
     × (answer.bytes ≡ conclusion_written uid outcome c) × (answer.close ≡ None)
-Concludes may moves terms object uid returned outcome before after (Err end) = (end ≡ ends.OutOfMemory)
+Concludes may moves terms object uid result_type outcome before after (Err end) = (end ≡ ends.OutOfMemory)
     × (((outcome ≡ OutOfMemory) × GivesUp may moves before after object)
-    ⊎ ((c : Conclusion) × IsConclusion terms uid returned outcome c × CutShort may moves before after object (conclusion_acts object uid outcome c)))
+    ⊎ ((c : Conclusion) × IsConclusion terms uid result_type outcome c × CutShort may moves before after object (conclusion_acts object uid outcome c)))
 
 -- The arguments of a call whose head was read, and whose method was found, break off.
 abbrev pub BreaksOff : List Kind → CallHead → ℕ → PullState → PullState → ConnEnd → Type 0
@@ -147,7 +148,7 @@ BreaksOff kinds head kind first now end = (mid : PullState) × (stand : Stand) �
 
 -- A call whose head was read behind `first`, and that runs, goes on. So many identifiers were drawn before and after; none where its arguments
 -- break off.
-abbrev pub RunsOn : (Invocation → Outcome → Type 0) → (States → Call → States → Type 0) → Terms → Uid → CallHead → ℕ → PullState → PullState → Side → Side → ℕ → ℕ → Result Answer ConnEnd → Type 0
+abbrev pub RunsOn : (Invocation → Outcome → Type 0) → (States → Call → States → Type 0) → Terms → Uid → CallHead → ℕ → PullState → PullState → Observed → Observed → ℕ → ℕ → Result Answer ConnEnd → Type 0
 RunsOn may moves terms uid head kind first now before after drawn drew (Ok answer) = (r : Running) × (bytes : List ℕ) × Takes first now bytes × IsRunning terms head kind bytes uid r
     × Led may moves before after (running_acts head uid kind r) × (answer.bytes ≡ running_written uid r) × (answer.close ≡ running_closes head r)
 RunsOn may moves terms uid head kind first now before after drawn drew (Err end) =
@@ -161,42 +162,42 @@ IsPrepared bytes close (Ok answer) = (answer.bytes ≡ bytes) × (answer.close �
 IsPrepared bytes close (Err end) = end ≡ ends.OutOfMemory
 
 -- A Call whose head was read behind `first` is answered, or the connection ends in it. So many identifiers were drawn before and after.
-abbrev pub Answers : (Invocation → Outcome → Type 0) → (States → Call → States → Type 0) → Terms → Uid → CallHead → PullState → PullState → Side → Side → ℕ → ℕ → Result Answer ConnEnd → Type 0
+abbrev pub Answers : (Invocation → Outcome → Type 0) → (States → Call → States → Type 0) → Terms → Uid → CallHead → PullState → PullState → Observed → Observed → ℕ → ℕ → Result Answer ConnEnd → Type 0
 Answers may moves terms uid head first now before after drawn drew (Ok answer) = (s : AtHead) × (bytes : List ℕ) × Takes first now bytes × IsServed terms head bytes uid s
     × Led may moves before after (served_acts head uid s) × (answer.bytes ≡ served_written uid s) × (answer.close ≡ served_closes head s)
 Answers may moves terms uid head first now before after drawn drew (Err end) =
     ((end ≡ ends.OutOfMemory) × ((s : AtHead) × (bytes : List ℕ) × Takes first now bytes × IsServed terms head bytes uid s
     × ((acts : List Act) × Led may moves before after acts × IsCut [] (served_acts head uid s) acts)))
-    ⊎ ((moment : ℕ) × (turn : Turn) × (kind moment2 place : ℕ) × (turn.reply ≡ Started kind) × (drew ≡ drawn) × BreaksOff terms.kinds head kind first now end
-    × Led may moves before after (acts_of moment (Begin head.id) (Ok turn) ++ abandoned moment2 head.id place ∷ []))
+    ⊎ ((moment : ℕ) × (turn : Turn) × (kind end_moment place : ℕ) × (turn.reply ≡ Started kind) × (drew ≡ drawn) × BreaksOff terms.kinds head kind first now end
+    × Led may moves before after (acts_of moment (Begin head.id) (Ok turn) ++ abandon_act end_moment head.id place ∷ []))
 
 -- ---- answers
 
 -- What comes of an answer that was written so, where the connection ends with it or doesn't.
-abbrev pub closing : Result ℕ ConnEnd → Option ConnEnd → Result ℕ ConnEnd
-closing (Ok sent) None = Ok sent
-closing (Ok sent) (Some end) = Err end
-closing (Err end) close = Err end
+abbrev pub result_or_close : Result ℕ ConnEnd → Option ConnEnd → Result ℕ ConnEnd
+result_or_close (Ok sent) None = Ok sent
+result_or_close (Ok sent) (Some end) = Err end
+result_or_close (Err end) close = Err end
 
 -- What sending an answer after `sent` bytes does: it is written, or cut and the sink failed, and then the connection goes on or ends.
-pub record Sends (before after : Option (List ℕ)) (faults faults2 : ℕ) (sent : ℕ) (answer : Answer) (result : Result ℕ ConnEnd) : Type 0 where
+pub record Sends (before after : Option (List ℕ)) (faults faults_after : ℕ) (sent : ℕ) (answer : Answer) (result : Result ℕ ConnEnd) : Type 0 where
   pub written : Result ℕ ConnEnd
   pub writes : Writes before after sent answer.bytes written
-  pub rose : OnErr written (Rose faults faults2)
-  pub kept : faults ≤ faults2
-  pub is : result ≡ closing written answer.close
+  pub rose : OnErr written (Rose faults faults_after)
+  pub kept : faults ≤ faults_after
+  pub is : result ≡ result_or_close written answer.close
 
 -- ---- acknowledgements
 
 -- An identifier was noted, or passed over, or there was no memory for it. So many bytes were sent before, and none is sent.
-abbrev pub Notes : (Invocation → Outcome → Type 0) → (States → Call → States → Type 0) → Uid → Side → Side → ℕ → Result ℕ ConnEnd → Type 0
-Notes may moves uid before after sent (Ok sent2) = (sent2 ≡ sent) × ((moment : ℕ) × (answer : Result Turn Refused) × IsNoted answer × Led may moves before after (acts_of moment (Ack uid) answer))
+abbrev pub Notes : (Invocation → Outcome → Type 0) → (States → Call → States → Type 0) → Uid → Observed → Observed → ℕ → Result ℕ ConnEnd → Type 0
+Notes may moves uid before after sent (Ok sent_after) = (sent_after ≡ sent) × ((moment : ℕ) × (answer : Result Turn Refused) × IsNoted answer × Led may moves before after (acts_of moment (Ack uid) answer))
 Notes may moves uid before after sent (Err end) = (end ≡ ends.OutOfMemory) × ((moment : ℕ) × Led may moves before after (acts_of moment (Ack uid) (Err refusals.OutOfMemory)))
 
 -- What an acknowledgement does whose code was just taken, where so many bytes were sent before: none is sent. The identifier is taken and noted, or passed over; or
 -- there is no memory for its turn; or the input stops in it, and nothing is done.
-abbrev pub Acknowledges : (Invocation → Outcome → Type 0) → (States → Call → States → Type 0) → PullState → PullState → Side → Side → ℕ → Result ℕ ConnEnd → Type 0
-Acknowledges may moves first now before after sent (Ok sent2) = (sent2 ≡ sent) × ((uid : Uid) × (moment : ℕ) × (answer : Result Turn Refused) × FitsUid uid × IsNoted answer
+abbrev pub Acknowledges : (Invocation → Outcome → Type 0) → (States → Call → States → Type 0) → PullState → PullState → Observed → Observed → ℕ → Result ℕ ConnEnd → Type 0
+Acknowledges may moves first now before after sent (Ok sent_after) = (sent_after ≡ sent) × ((uid : Uid) × (moment : ℕ) × (answer : Result Turn Refused) × FitsUid uid × IsNoted answer
     × Takes first now (bytes_of_uid uid) × Led may moves before after (acts_of moment (Ack uid) answer))
 Acknowledges may moves first now before after sent (Err end) =
     ((end ≡ ends.OutOfMemory) × ((uid : Uid) × (moment : ℕ) × FitsUid uid × Takes first now (bytes_of_uid uid) × Led may moves before after (acts_of moment (Ack uid) (Err refusals.OutOfMemory))))

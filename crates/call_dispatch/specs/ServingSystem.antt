@@ -1,7 +1,6 @@
 -- How far a call of the registry or the collector has come, for the functions that serve it step by step.
 use Rattle.std.specs.Prelude.{◌≡◌, ℕ, ◌+◌, ◌≤◌, ◌⊎◌, true, false, List, [], ◌∷◌, None, Some, Result, Ok, Err, OnOk}
 use Rattle.history.specs.declared.asks.Ask.{Ask}
-use Rattle.history.specs.declared.asks.Ask.TheVariants.{Begin, Finish, Abandon}
 use Rattle.history.specs.declared.replies.Turn.{Turn}
 use Rattle.history.specs.declared.replies.Refused.{Refused}
 use Rattle.object_ids.specs.declared.ids.Uid.{Uid}
@@ -17,24 +16,20 @@ use Rattle.call_dispatch.specs.declared.end.ConnEnd.TheVariants as ends
 use Rattle.call_dispatch.specs.declared.outcome.Invocation.{Invocation}
 use Rattle.call_dispatch.specs.declared.outcome.Outcome.{Outcome}
 use Rattle.call_dispatch.specs.declared.returns.Answer.{Answer}
-use Rattle.call_dispatch.specs.declared.system.SystemMethod.{SystemMethod}
-use Rattle.call_dispatch.specs.Acts.{Act, Call, States, Side, Led, acts_of}
+use Rattle.system_ids.specs.declared.methods.SystemMethod.{SystemMethod}
+use Rattle.call_dispatch.specs.Acts.{Act, Call, States, Observed, Led, acts_of}
 use Rattle.call_dispatch.specs.Progress.{end_from}
 use Rattle.call_dispatch.specs.Rows.{IsCut}
 use Rattle.call_dispatch.specs.Serving.{Answers, next_of}
-use Rattle.call_dispatch.specs.SystemReturns.{answer_written}
-use Rattle.call_dispatch.specs.Systems.{is_system, system_method, params_of, System, system_acts, system_draws, system_written, system_closes, IsTurned, IsSystem}
-use Rattle.call_dispatch.specs.Terms.{Terms}
-
--- The ask begins and ends no call.
-abbrev pub IsQuiet : Ask → Type 0
-IsQuiet (Begin object) = ⊥
-IsQuiet (Finish object made listed uid) = ⊥
-IsQuiet (Abandon object) = ⊥
-IsQuiet _ = Unit {0}
+use Rattle.system_objects.specs.SystemReturns.{answer_written}
+use Rattle.call_dispatch.specs.Systems.{System, system_acts, system_draws, system_written, system_closes, IsTurned, IsSystem}
+use Rattle.system_ids.specs.SystemIds.{is_system}
+use Rattle.system_objects.specs.MethodByHead.{system_method}
+use Rattle.system_ids.specs.SystemMethods.{params_of}
+use Rattle.system_objects.specs.Terms.{Terms}
 
 -- This was asked in one turn, and the Return prepared; or there was no memory for the turn or the Return.
-abbrev pub AsksTurn : (Invocation → Outcome → Type 0) → (States → Call → States → Type 0) → Terms → Uid → Ask → Side → Side → Result Answer ConnEnd → Type 0
+abbrev pub AsksTurn : (Invocation → Outcome → Type 0) → (States → Call → States → Type 0) → Terms → Uid → Ask → Observed → Observed → Result Answer ConnEnd → Type 0
 AsksTurn may moves terms uid ask before after (Ok answer) = (moment : ℕ) × (reply : Result Turn Refused) × IsTurned ask reply × Led may moves before after (acts_of moment ask reply)
     × (answer.bytes ≡ answer_written terms uid ask reply) × (answer.close ≡ None)
 AsksTurn may moves terms uid ask before after (Err end) = (end ≡ ends.OutOfMemory)
@@ -42,7 +37,7 @@ AsksTurn may moves terms uid ask before after (Err end) = (end ≡ ends.OutOfMem
 
 -- A call of this head, of which these bytes were taken behind its code, is answered, or there is no memory for it. So many identifiers were drawn before
 -- and after.
-abbrev pub AnswersRead : (Invocation → Outcome → Type 0) → (States → Call → States → Type 0) → Terms → CallHead → List ℕ → Side → Side → ℕ → ℕ → Result Answer ConnEnd → Type 0
+abbrev pub AnswersRead : (Invocation → Outcome → Type 0) → (States → Call → States → Type 0) → Terms → CallHead → List ℕ → Observed → Observed → ℕ → ℕ → Result Answer ConnEnd → Type 0
 AnswersRead may moves terms head bytes before after drawn drew (Ok answer) = (uid : Uid) × (s : System) × IsSystem terms drawn head bytes uid s × Led may moves before after (system_acts s)
     × (drew ≡ drawn + system_draws s) × (answer.bytes ≡ system_written uid s) × (answer.close ≡ system_closes head s)
 AnswersRead may moves terms head bytes before after drawn drew (Err end) = (end ≡ ends.OutOfMemory)
@@ -50,7 +45,7 @@ AnswersRead may moves terms head bytes before after drawn drew (Err end) = (end 
     × ((draws : ℕ) × (drew ≡ drawn + draws) × (draws ≤ system_draws s)))
 
 -- Wherever this call's bytes were taken behind its code, it is answered.
-abbrev pub AnswersMethod : (Invocation → Outcome → Type 0) → (States → Call → States → Type 0) → Terms → SystemMethod → Arguments → Side → Side → ℕ → ℕ → Result Answer ConnEnd → Type 0
+abbrev pub AnswersMethod : (Invocation → Outcome → Type 0) → (States → Call → States → Type 0) → Terms → SystemMethod → Arguments → Observed → Observed → ℕ → ℕ → Result Answer ConnEnd → Type 0
 AnswersMethod may moves terms method arguments before after drawn drew result = (head : CallHead) (bytes : List ℕ) → system_method head ≡ Some method
     → CallBytes head (params_of method) arguments (0x50 ∷ bytes) → AnswersRead may moves terms head bytes before after drawn drew result
 
@@ -62,14 +57,14 @@ BreaksSystem head first now end = (mid : PullState) × (stand : Stand) × (metho
 
 -- A call of the registry or the collector whose head was read behind `first` is answered, or the connection ends in it. So many identifiers were drawn
 -- before and after.
-abbrev pub AnswersSystem : (Invocation → Outcome → Type 0) → (States → Call → States → Type 0) → Terms → CallHead → PullState → PullState → Side → Side → ℕ → ℕ → Result Answer ConnEnd → Type 0
+abbrev pub AnswersSystem : (Invocation → Outcome → Type 0) → (States → Call → States → Type 0) → Terms → CallHead → PullState → PullState → Observed → Observed → ℕ → ℕ → Result Answer ConnEnd → Type 0
 AnswersSystem may moves terms head first now before after drawn drew (Ok answer) = (bytes : List ℕ) × Takes first now bytes × AnswersRead may moves terms head bytes before after drawn drew (Ok answer)
 AnswersSystem may moves terms head first now before after drawn drew (Err end) =
     ((bytes : List ℕ) × Takes first now bytes × AnswersRead may moves terms head bytes before after drawn drew (Err end))
     ⊎ ((drew ≡ drawn) × (after ≡ before) × BreaksSystem head first now end)
 
 -- A Call whose head was read behind `first` is answered, or the connection ends in it: a call of the registry or the collector, or any other.
-abbrev pub AnswersAny : (Invocation → Outcome → Type 0) → (States → Call → States → Type 0) → Terms → CallHead → PullState → PullState → Side → Side → ℕ → ℕ → Result Answer ConnEnd → Type 0
+abbrev pub AnswersAny : (Invocation → Outcome → Type 0) → (States → Call → States → Type 0) → Terms → CallHead → PullState → PullState → Observed → Observed → ℕ → ℕ → Result Answer ConnEnd → Type 0
 AnswersAny may moves terms head first now before after drawn drew result =
     ((is_system head.id ≡ true) × AnswersSystem may moves terms head first now before after drawn drew result)
     ⊎ ((is_system head.id ≡ false) × Answers may moves terms (next_of terms drawn) head first now before after drawn drew result

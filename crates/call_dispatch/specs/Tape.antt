@@ -5,16 +5,16 @@ use Rattle.space.specs.declared.asked.AskedEnd.{AskedEnd}
 use Rattle.call_dispatch.specs.declared.outcome.Outcome.{Outcome}
 use Rattle.call_dispatch.specs.Acts.{Act, asks, lost, called, invokes, unreferenced}
 
-pub data Tick : Type 0 where
-  answered : ℕ → AskedEnd → Tick
-  gave : Outcome → Tick
+pub data OutsideAnswer : Type 0 where
+  turn_answer : ℕ → AskedEnd → OutsideAnswer
+  worker_outcome : Outcome → OutsideAnswer
 
-abbrev pub ticks : Act → List Tick
-ticks (asks entry) = answered entry.moment entry.end ∷ []
-ticks (lost moment) = []
-ticks (called (invokes call outcome)) = gave outcome ∷ []
-ticks (called (unreferenced object)) = []
+abbrev pub outside_answers : Act → List OutsideAnswer
+outside_answers (asks entry) = turn_answer entry.moment entry.end ∷ []
+outside_answers (lost moment) = []
+outside_answers (called (invokes call outcome)) = worker_outcome outcome ∷ []
+outside_answers (called (unreferenced object)) = []
 
 -- what the outside handed in at these acts
-abbrev pub tape : List Act → List Tick
-tape acts = flat_map ticks acts
+abbrev pub tape : List Act → List OutsideAnswer
+tape acts = flat_map outside_answers acts

@@ -2,45 +2,37 @@
 ghost use Rattle.std.specs.Prelude.{◌≡◌, ◌≤◌, ◌<◌, ◌+◌, ◌^◌, ◌∷◌, pos, ◌<ℤ◌, List, length, IfOk, IfSome, IfNone, OnOk, None, Some, []};
 ghost use Rattle.history.specs.declared.replies.Reply.TheVariants.{Finished};
 ghost use Rattle.wire_io.specs.Pulled.{PullState, pull_state};
-ghost use Rattle.space.specs.Balance.{Balanced};
+ghost use Rattle.ports.specs.Balance.{Balanced};
 ghost use Rattle.jrmp_frames.specs.Calls.{ReadsHead, HasHead};
-ghost use Rattle.call_dispatch.specs.Spot.{side_of, IsLent};
-ghost use Rattle.call_dispatch.specs.declared.book.Kind.{Kind};
+ghost use Rattle.call_dispatch.specs.ConnectionState.{observed_of, IsLent};
+ghost use Rattle.system_objects.specs.declared.book.Kind.{Kind};
 ghost use Rattle.call_dispatch.specs.declared.outcome.Outcome.{Outcome};
 ghost use Rattle.call_dispatch.specs.Results.{normal_return};
-ghost use Rattle.call_dispatch.specs.Returns.{fault_return};
+ghost use Rattle.system_objects.specs.ReturnBytes.{fault_return};
 ghost use Rattle.call_dispatch.specs.Served.{IsMethodOf, HasNoMethod};
 ghost use Rattle.call_dispatch.specs.Serving.{next_of, RunsOne, IsReady, IsReadyFor, MakesOne, IsSent, IsPending, Finishes, Concludes, IsDenied, IsPrepared, RunsOn, Answers};
-ghost use Rattle.call_dispatch.specs.Terms.{terms_of};
-ghost use Rattle.call_dispatch.specs.declared.results.TheConstants.{RETURN_BYTES};
-ghost use Rattle.call_dispatch.specs.declared.setup.TheConstants.{DRAWS_BEGIN_BELOW};
+ghost use Rattle.system_objects.specs.Terms.{terms_of};
+ghost use Rattle.system_objects.specs.declared.returns.TheConstants.{RETURN_BYTES};
+ghost use Rattle.system_objects.specs.declared.setup.TheConstants.{DRAWS_BEGIN_BELOW};
 
-use crate::book::Book;
 use crate::connection::Connection;
 use crate::end::{ConnEnd, end_of};
 use crate::outcome::{Invocation, Outcome};
-use crate::results::{Pending, Sent, own_return};
-use crate::returns::{Answer, Prepared, exceptional_ascii, full_message, next_uid, prepare};
-use crate::setup::Setup;
+use crate::results::{Pending, Sent};
+use crate::returns::{Answer, Prepared, next_uid, prepare};
 use crate::turns::{give_up, take_turn};
 use crate::worker::Worker;
 use class_desc::TypeCode;
 use history::{Ask, Refused, Reply};
 use jrmp_frames::{CallHead, read_arguments};
 use object_ids::{ObjId, Uid};
+use ports::Port;
 use ser_read::Reader;
-use space::Port;
 use std::alloc::Global;
+use system_objects::faults::{HISTORY_FULL, NO_SUCH_METHOD, NO_SUCH_OBJECT, full_message};
+use system_objects::returns::{exceptional_ascii, own_return};
+use system_objects::{Book, Setup};
 use wire_io::{Clock, Sink, Source};
-
-/// The message where the object is not exported.
-const NO_OBJECT: &[u8] = b"java.rmi.NoSuchObjectException: no such object";
-
-/// The message where the object's kind has no such method.
-pub const NO_METHOD: &[u8] = b"java.rmi.UnmarshalException: no such method";
-
-/// The message where the space's history is full.
-const FULL_HISTORY: &[u8] = b"java.rmi.ServerException: full: history";
 
 /// An exceptional Return with a message in ASCII, after which the connection ends so, or goes on.
 pub fn fault_answer(
@@ -62,7 +54,7 @@ fn denied(alloc: Global, uid: Uid, refused: Refused) -> Result<Answer, ConnEnd>
     ensures short { IfOk result (λ answer. length answer.bytes ≤ RETURN_BYTES) }
 {
     match refused {
-        Refused::HistoryFull => fault_answer(alloc, uid, FULL_HISTORY, None),
+        Refused::HistoryFull => fault_answer(alloc, uid, HISTORY_FULL, None),
         Refused::Full(kind) => fault_answer(alloc, uid, full_message(kind), None),
         Refused::OutOfMemory => Err(ConnEnd::OutOfMemory),
     }
@@ -138,8 +130,8 @@ fn finish<S: Source, K: Sink, C: Clock, P: Port, W: Worker>(
     requires pending { IsReady pending }
     ensures finishes { (outcome : Outcome) → IsPending (terms_of connection.old.book.now connection.old.setup.now) uid outcome pending →
         Finishes W.may W.moves (terms_of connection.old.book.now connection.old.setup.now) object uid outcome
-        (side_of C.given P.asked W.calls W.seen W.state connection.old)
-        (side_of C.given P.asked W.calls W.seen W.state connection.new) result }
+        (observed_of C.given P.asked W.calls W.seen W.state connection.old)
+        (observed_of C.given P.asked W.calls W.seen W.state connection.new) result }
     ensures short { IfOk result (λ answer. length answer.bytes ≤ RETURN_BYTES) }
     ensures balanced { Balanced (P.asked connection.new.port.now) }
     ensures pull { connection.new.pull ≡ connection.old.pull }
@@ -172,7 +164,7 @@ fn conclude<S: Source, K: Sink, C: Clock, P: Port, W: Worker>(
     alloc: Global,
     connection: &mut Connection<S, K, C, P, W>,
     object: ObjId,
-    returned: Option<TypeCode>,
+    result_type: Option<TypeCode>,
     outcome: Outcome,
 ) -> Result<Answer, ConnEnd>
     requires time { connection.old.setup.now.draw.time <ℤ pos DRAWS_BEGIN_BELOW }
@@ -180,9 +172,9 @@ fn conclude<S: Source, K: Sink, C: Clock, P: Port, W: Worker>(
     requires ready { P.ready connection.old.port.now }
     requires room { 1 < P.room_of connection.old.port.now }
     requires runs { RunsOne object (P.asked connection.old.port.now) }
-    ensures concludes { Concludes W.may W.moves (terms_of connection.old.book.now connection.old.setup.now) object (next_of (terms_of connection.old.book.now connection.old.setup.now) connection.old.setup.now.draw.drawn) returned outcome
-        (side_of C.given P.asked W.calls W.seen W.state connection.old)
-        (side_of C.given P.asked W.calls W.seen W.state connection.new) result }
+    ensures concludes { Concludes W.may W.moves (terms_of connection.old.book.now connection.old.setup.now) object (next_of (terms_of connection.old.book.now connection.old.setup.now) connection.old.setup.now.draw.drawn) result_type outcome
+        (observed_of C.given P.asked W.calls W.seen W.state connection.old)
+        (observed_of C.given P.asked W.calls W.seen W.state connection.new) result }
     ensures short { IfOk result (λ answer. length answer.bytes ≤ RETURN_BYTES) }
     ensures balanced { Balanced (P.asked connection.new.port.now) }
     ensures pull { connection.new.pull ≡ connection.old.pull }
@@ -200,7 +192,7 @@ fn conclude<S: Source, K: Sink, C: Clock, P: Port, W: Worker>(
         connection.setup,
         connection.book,
         uid,
-        returned,
+        result_type,
         outcome,
     ) {
         Ok(Prepared::Normal(pending)) => finish(alloc, connection, object, uid, pending),
@@ -254,8 +246,8 @@ fn run_call<S: Source, K: Sink, C: Clock, P: Port, W: Worker>(
     ensures runs_on { (first : PullState) → ReadsHead first (pull_state S.left S.faults connection.old.pull) head reader.stand → RunsOn W.may W.moves (terms_of connection.old.book.now connection.old.setup.now)
         (next_of (terms_of connection.old.book.now connection.old.setup.now) connection.old.setup.now.draw.drawn) head kind
         first (pull_state S.left S.faults connection.new.pull)
-        (side_of C.given P.asked W.calls W.seen W.state connection.old)
-        (side_of C.given P.asked W.calls W.seen W.state connection.new)
+        (observed_of C.given P.asked W.calls W.seen W.state connection.old)
+        (observed_of C.given P.asked W.calls W.seen W.state connection.new)
         connection.old.setup.now.draw.drawn connection.new.setup.now.draw.drawn result }
     ensures short { IfOk result (λ answer. length answer.bytes ≤ RETURN_BYTES) }
     ensures balanced { Balanced (P.asked connection.new.port.now) }
@@ -271,7 +263,12 @@ fn run_call<S: Source, K: Sink, C: Clock, P: Port, W: Worker>(
     let book = connection.book;
     let Some(method_place) = method_of(book, kind, &head) else {
         give_up(connection, head.id);
-        return refuse(alloc, connection.setup, NO_METHOD, no_such_method(&head));
+        return refuse(
+            alloc,
+            connection.setup,
+            NO_SUCH_METHOD,
+            no_such_method(&head),
+        );
     };
     let Some(method) = book.method(kind, method_place) else {
         unreachable!()
@@ -294,7 +291,7 @@ fn run_call<S: Source, K: Sink, C: Clock, P: Port, W: Worker>(
 }
 
 /// Serves a Call whose head was read.
-pub fn answer_call<S: Source, K: Sink, C: Clock, P: Port, W: Worker>(
+pub fn call_object<S: Source, K: Sink, C: Clock, P: Port, W: Worker>(
     alloc: Global,
     connection: &mut Connection<S, K, C, P, W>,
     head: CallHead,
@@ -310,8 +307,8 @@ pub fn answer_call<S: Source, K: Sink, C: Clock, P: Port, W: Worker>(
     ensures answers { (first : PullState) → ReadsHead first (pull_state S.left S.faults connection.old.pull) head reader.stand → Answers W.may W.moves (terms_of connection.old.book.now connection.old.setup.now)
         (next_of (terms_of connection.old.book.now connection.old.setup.now) connection.old.setup.now.draw.drawn) head
         first (pull_state S.left S.faults connection.new.pull)
-        (side_of C.given P.asked W.calls W.seen W.state connection.old)
-        (side_of C.given P.asked W.calls W.seen W.state connection.new)
+        (observed_of C.given P.asked W.calls W.seen W.state connection.old)
+        (observed_of C.given P.asked W.calls W.seen W.state connection.new)
         connection.old.setup.now.draw.drawn connection.new.setup.now.draw.drawn result }
     ensures short { IfOk result (λ answer. length answer.bytes ≤ RETURN_BYTES) }
     ensures balanced { Balanced (P.asked connection.new.port.now) }
@@ -329,12 +326,12 @@ pub fn answer_call<S: Source, K: Sink, C: Clock, P: Port, W: Worker>(
             Reply::Started(kind) => run_call(alloc, connection, head, reader, kind),
             Reply::NoObject => {
                 let end = ConnEnd::NoSuchObject { id: head.id };
-                refuse(alloc, connection.setup, NO_OBJECT, end)
+                refuse(alloc, connection.setup, NO_SUCH_OBJECT, end)
             }
             _ => unreachable!(),
         },
         Err(Refused::HistoryFull) => {
-            refuse(alloc, connection.setup, FULL_HISTORY, ConnEnd::SpaceFull)
+            refuse(alloc, connection.setup, HISTORY_FULL, ConnEnd::SpaceFull)
         }
         Err(Refused::Full(_kind)) => unreachable!(),
         Err(Refused::OutOfMemory) => Err(ConnEnd::OutOfMemory),

@@ -1,6 +1,5 @@
 //! What a connection is served with.
-use crate::book::Book;
-use crate::setup::Setup;
+use system_objects::{Book, Setup};
 use wire_io::Pull;
 
 /// What a connection is served with: all of it is lent, and it owns no memory.

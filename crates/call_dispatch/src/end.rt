@@ -40,35 +40,6 @@ pub enum ConnEnd {
     OutOfMemory,
 }
 
-impl ConnEnd {
-    ghost use Rattle.call_dispatch.specs.End.{status_of};
-
-    /// The status of a process that ends so.
-    pub fn status(&self) -> u8
-        ensures { result ≡ status_of self.now }
-    {
-        match self {
-            ConnEnd::Ended => 0,
-            ConnEnd::BadHeader { at: _ } => 2,
-            ConnEnd::UnknownProtocol { byte: _ } => 2,
-            ConnEnd::BadMessage { byte: _, at: _ } => 2,
-            ConnEnd::BadStream { kind: _, at: _ } => 2,
-            ConnEnd::Truncated { at: _ } => 2,
-            ConnEnd::ReadFault => 3,
-            ConnEnd::WriteFault { sent: _ } => 4,
-            ConnEnd::OutOfMemory => 5,
-            ConnEnd::TooLarge { what: _, at: _ } => 6,
-            ConnEnd::SpaceFull => 6,
-            ConnEnd::MessageLimit => 6,
-            ConnEnd::NoSuchObject { id: _ } => 7,
-            ConnEnd::NoSuchMethod {
-                operation: _,
-                hash: _,
-            } => 7,
-        }
-    }
-}
-
 impl From<AllocError> for ConnEnd {
     ghost use Rattle.call_dispatch.specs.declared.end.ConnEnd.TheVariants.{OutOfMemory};
 

@@ -2,32 +2,32 @@
 ghost use Rattle.std.specs.Prelude.{◌≡◌, ◌<◌, ◌≤◌, ◌+◌, ◌^◌, pos, ◌<ℤ◌, length, IfOk, OnOk};
 ghost use Rattle.mod_utf.specs.Utf.{utf};
 ghost use Rattle.ser_values.specs.declared.limits.TheConstants.{MESSAGE_BYTES};
-ghost use Rattle.space.specs.Balance.{Balanced};
+ghost use Rattle.ports.specs.Balance.{Balanced};
 ghost use Rattle.jrmp_frames.specs.declared.header.Protocol.TheVariants.{Stream, SingleOp};
 ghost use Rattle.call_dispatch.specs.Faults.{counts_of, Blames, BlamesIn};
 ghost use Rattle.wire_io.specs.Pulled.{pull_state};
 ghost use Rattle.wire_io.specs.declared.limits.TheConstants.{MAX_HOST_BYTES};
-ghost use Rattle.call_dispatch.specs.Spot.{spot_of, side_of, IsLent};
-ghost use Rattle.call_dispatch.specs.Terms.{terms_of};
-ghost use Rattle.call_dispatch.specs.Progress.{GoesOn, Steps, ServesCall};
+ghost use Rattle.call_dispatch.specs.ConnectionState.{state_of_connection, observed_of, IsLent};
+ghost use Rattle.system_objects.specs.Terms.{terms_of};
+ghost use Rattle.call_dispatch.specs.Progress.{FinishesDialogue, Steps, ServesCall};
 ghost use Rattle.call_dispatch.specs.Serving.{Sends, Notes, Acknowledges};
-ghost use Rattle.call_dispatch.specs.declared.results.TheConstants.{RETURN_BYTES};
+ghost use Rattle.system_objects.specs.declared.returns.TheConstants.{RETURN_BYTES};
 ghost use Rattle.call_dispatch.specs.declared.messages.TheConstants.{MAX_MESSAGES};
-ghost use Rattle.call_dispatch.specs.declared.setup.TheConstants.{DRAWS_BEGIN_BELOW};
+ghost use Rattle.system_objects.specs.declared.setup.TheConstants.{DRAWS_BEGIN_BELOW};
 
 use crate::answer::write_answer;
 use crate::connection::Connection;
 use crate::end::{ConnEnd, end_of};
 use crate::opening::Opened;
 use crate::returns::Answer;
-use crate::system_calls::answer_any;
+use crate::system_calls::dispatch_call;
 use crate::turns::take_turn;
 use crate::worker::Worker;
 use history::{Ask, Refused};
 use jrmp_frames::{Code, Protocol, read_code, read_head, read_uid};
 use object_ids::Uid;
+use ports::Port;
 use ser_values::limits::MESSAGE_BYTES;
-use space::Port;
 use std::alloc::Global;
 use wire_io::{Clock, Sink, Source};
 
@@ -54,9 +54,9 @@ pub fn serve_messages<S: Source, K: Sink, C: Clock, P: Port, W: Worker>(
     requires room { 2 ^ 30 ≤ P.room_of connection.old.port.now }
     requires balanced { Balanced (P.asked connection.old.port.now) }
     requires calls { W.calls connection.old.worker.now < 2 ^ 61 }
-    ensures goes_on { GoesOn W.may W.moves (terms_of connection.old.book.now connection.old.setup.now) opened.protocol
-        (spot_of S.left K.held C.given P.asked W.calls W.seen W.state connection.old)
-        (spot_of S.left K.held C.given P.asked W.calls W.seen W.state connection.new) connection.old.pull.at opened.sent result }
+    ensures goes_on { FinishesDialogue W.may W.moves (terms_of connection.old.book.now connection.old.setup.now) opened.protocol
+        (state_of_connection S.left K.held C.given P.asked W.calls W.seen W.state connection.old)
+        (state_of_connection S.left K.held C.given P.asked W.calls W.seen W.state connection.new) connection.old.pull.at opened.sent result }
     ensures lent { IsLent connection.old connection.new }
     ensures balanced { Balanced (P.asked connection.new.port.now) }
     ensures ready { P.ready connection.new.port.now }
@@ -84,9 +84,9 @@ fn serve_one<S: Source, K: Sink, C: Clock, P: Port, W: Worker>(
     requires room { 2 ^ 30 ≤ P.room_of connection.old.port.now }
     requires balanced { Balanced (P.asked connection.old.port.now) }
     requires calls { W.calls connection.old.worker.now < 2 ^ 61 }
-    ensures goes_on { GoesOn W.may W.moves (terms_of connection.old.book.now connection.old.setup.now) SingleOp
-        (spot_of S.left K.held C.given P.asked W.calls W.seen W.state connection.old)
-        (spot_of S.left K.held C.given P.asked W.calls W.seen W.state connection.new) connection.old.pull.at before result }
+    ensures goes_on { FinishesDialogue W.may W.moves (terms_of connection.old.book.now connection.old.setup.now) SingleOp
+        (state_of_connection S.left K.held C.given P.asked W.calls W.seen W.state connection.old)
+        (state_of_connection S.left K.held C.given P.asked W.calls W.seen W.state connection.new) connection.old.pull.at before result }
     ensures lent { IsLent connection.old connection.new }
     ensures balanced { Balanced (P.asked connection.new.port.now) }
     ensures ready { P.ready connection.new.port.now }
@@ -114,9 +114,9 @@ fn serve_many<S: Source, K: Sink, C: Clock, P: Port, W: Worker>(
     requires room { 2 ^ 30 ≤ P.room_of connection.old.port.now }
     requires balanced { Balanced (P.asked connection.old.port.now) }
     requires calls { W.calls connection.old.worker.now < 2 ^ 61 }
-    ensures goes_on { GoesOn W.may W.moves (terms_of connection.old.book.now connection.old.setup.now) Stream
-        (spot_of S.left K.held C.given P.asked W.calls W.seen W.state connection.old)
-        (spot_of S.left K.held C.given P.asked W.calls W.seen W.state connection.new) connection.old.pull.at before result }
+    ensures goes_on { FinishesDialogue W.may W.moves (terms_of connection.old.book.now connection.old.setup.now) Stream
+        (state_of_connection S.left K.held C.given P.asked W.calls W.seen W.state connection.old)
+        (state_of_connection S.left K.held C.given P.asked W.calls W.seen W.state connection.new) connection.old.pull.at before result }
     ensures lent { IsLent connection.old connection.new }
     ensures balanced { Balanced (P.asked connection.new.port.now) }
     ensures ready { P.ready connection.new.port.now }
@@ -153,8 +153,8 @@ fn serve_message<S: Source, K: Sink, C: Clock, P: Port, W: Worker>(
     requires balanced { Balanced (P.asked connection.old.port.now) }
     requires calls { W.calls connection.old.worker.now < 2 ^ 62 }
     ensures steps { Steps W.may W.moves (terms_of connection.old.book.now connection.old.setup.now)
-        (spot_of S.left K.held C.given P.asked W.calls W.seen W.state connection.old)
-        (spot_of S.left K.held C.given P.asked W.calls W.seen W.state connection.new) connection.old.pull.at sent served connection.new.pull.at result }
+        (state_of_connection S.left K.held C.given P.asked W.calls W.seen W.state connection.old)
+        (state_of_connection S.left K.held C.given P.asked W.calls W.seen W.state connection.new) connection.old.pull.at sent served connection.new.pull.at result }
     ensures going { OnOk result (served < MAX_MESSAGES) }
     ensures most { IfOk result (λ after. (after ≤ sent + RETURN_BYTES) × (connection.new.pull.at ≤ connection.old.pull.at + MESSAGE_BYTES)) }
     ensures lent { IsLent connection.old connection.new }
@@ -192,8 +192,8 @@ fn note<S: Source, K: Sink, C: Clock, P: Port, W: Worker>(
     requires room { 0 < P.room_of connection.old.port.now }
     requires balanced { Balanced (P.asked connection.old.port.now) }
     ensures notes { Notes W.may W.moves uid
-        (side_of C.given P.asked W.calls W.seen W.state connection.old)
-        (side_of C.given P.asked W.calls W.seen W.state connection.new) sent result }
+        (observed_of C.given P.asked W.calls W.seen W.state connection.old)
+        (observed_of C.given P.asked W.calls W.seen W.state connection.new) sent result }
     ensures pull { connection.new.pull ≡ connection.old.pull }
     ensures sink { connection.new.sink ≡ connection.old.sink }
     ensures setup { connection.new.setup ≡ connection.old.setup }
@@ -222,8 +222,8 @@ fn acknowledge<S: Source, K: Sink, C: Clock, P: Port, W: Worker>(
     requires balanced { Balanced (P.asked connection.old.port.now) }
     ensures acknowledges { Acknowledges W.may W.moves
         (pull_state S.left S.faults connection.old.pull) (pull_state S.left S.faults connection.new.pull)
-        (side_of C.given P.asked W.calls W.seen W.state connection.old)
-        (side_of C.given P.asked W.calls W.seen W.state connection.new) sent result }
+        (observed_of C.given P.asked W.calls W.seen W.state connection.old)
+        (observed_of C.given P.asked W.calls W.seen W.state connection.new) sent result }
     ensures sink { connection.new.sink ≡ connection.old.sink }
     ensures setup { connection.new.setup ≡ connection.old.setup }
     ensures lent { IsLent connection.old connection.new }
@@ -255,8 +255,8 @@ fn serve_call<S: Source, K: Sink, C: Clock, P: Port, W: Worker>(
     requires balanced { Balanced (P.asked connection.old.port.now) }
     requires calls { W.calls connection.old.worker.now < 2 ^ 62 }
     ensures serves { ServesCall W.may W.moves (terms_of connection.old.book.now connection.old.setup.now)
-        (spot_of S.left K.held C.given P.asked W.calls W.seen W.state connection.old)
-        (spot_of S.left K.held C.given P.asked W.calls W.seen W.state connection.new) connection.old.pull.at connection.old.pull.stop sent connection.new.pull.at result }
+        (state_of_connection S.left K.held C.given P.asked W.calls W.seen W.state connection.old)
+        (state_of_connection S.left K.held C.given P.asked W.calls W.seen W.state connection.new) connection.old.pull.at connection.old.pull.stop sent connection.new.pull.at result }
     ensures most { IfOk result (λ after. (after ≤ sent + RETURN_BYTES) × (connection.new.pull.at ≤ connection.old.pull.stop)) }
     ensures lent { IsLent connection.old connection.new }
     ensures balanced { Balanced (P.asked connection.new.port.now) }
@@ -269,7 +269,7 @@ fn serve_call<S: Source, K: Sink, C: Clock, P: Port, W: Worker>(
 {
     match read_head(alloc, &mut connection.pull) {
         Ok((head, reader)) => {
-            let answer = answer_any(alloc, connection, head, reader)?;
+            let answer = dispatch_call(alloc, connection, head, reader)?;
             send(connection.sink, answer, sent)
         }
         Err(fault) => Err(end_of(fault)),

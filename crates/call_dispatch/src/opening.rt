@@ -6,19 +6,19 @@ ghost use Rattle.mod_utf.specs.Utf.{utf};
 ghost use Rattle.jrmp_frames.specs.Frames.{protocol_ack};
 ghost use Rattle.call_dispatch.specs.End.{IsWriteFault};
 ghost use Rattle.call_dispatch.specs.Faults.{counts_of, BlamesIn};
-ghost use Rattle.call_dispatch.specs.Spot.{spot_of, Stays};
-ghost use Rattle.call_dispatch.specs.Terms.{terms_of};
+ghost use Rattle.call_dispatch.specs.ConnectionState.{state_of_connection, Stays};
+ghost use Rattle.system_objects.specs.Terms.{terms_of};
 ghost use Rattle.call_dispatch.specs.Progress.{StandsOpened, OpensStream, Refuses};
 
 use crate::answer::write_answer;
 use crate::connection::Connection;
 use crate::end::{ConnEnd, end_of};
-use crate::setup::Setup;
 use crate::worker::Worker;
 use jrmp_frames::{FrameFault, Protocol, ack_bytes, read_header, skip_endpoint};
+use ports::Port;
 use sequence::ByteList;
-use space::Port;
 use std::alloc::{AllocError, Global};
+use system_objects::Setup;
 use wire_io::{Clock, Sink, Source};
 
 /// How a connection was opened.
@@ -40,8 +40,8 @@ pub fn open_connection<S: Source, K: Sink, C: Clock, P: Port, W: Worker>(
     requires at { connection.old.pull.at ≡ 0 }
     requires stop { connection.old.pull.stop ≡ LAST_POSITION }
     ensures opens { StandsOpened W.may W.moves (terms_of connection.old.book.now connection.old.setup.now)
-        (spot_of S.left K.held C.given P.asked W.calls W.seen W.state connection.old)
-        (spot_of S.left K.held C.given P.asked W.calls W.seen W.state connection.new) connection.new.pull.at result }
+        (state_of_connection S.left K.held C.given P.asked W.calls W.seen W.state connection.old)
+        (state_of_connection S.left K.held C.given P.asked W.calls W.seen W.state connection.new) connection.new.pull.at result }
     ensures stays { Stays connection.old connection.new }
     ensures blames { BlamesIn (counts_of S.faults K.faults connection.old) (counts_of S.faults K.faults connection.new) result }
 {
@@ -67,8 +67,8 @@ fn open_stream<S: Source, K: Sink, C: Clock, P: Port, W: Worker>(
     requires at { connection.old.pull.at ≡ 7 }
     requires stop { connection.old.pull.stop ≡ LAST_POSITION }
     ensures opens { OpensStream W.may W.moves (terms_of connection.old.book.now connection.old.setup.now)
-        (spot_of S.left K.held C.given P.asked W.calls W.seen W.state connection.old)
-        (spot_of S.left K.held C.given P.asked W.calls W.seen W.state connection.new) connection.new.pull.at result }
+        (state_of_connection S.left K.held C.given P.asked W.calls W.seen W.state connection.old)
+        (state_of_connection S.left K.held C.given P.asked W.calls W.seen W.state connection.new) connection.new.pull.at result }
     ensures stays { Stays connection.old connection.new }
     ensures blames { BlamesIn (counts_of S.faults K.faults connection.old) (counts_of S.faults K.faults connection.new) result }
 {

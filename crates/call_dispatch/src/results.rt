@@ -1,23 +1,17 @@
 //! Results that are remote objects, and results that refer to some.
-ghost use Rattle.std.specs.Prelude.{◌≡◌, ◌≤◌, [], true, false, length, IfOk, IfSome, IfNone};
-ghost use Rattle.call_dispatch.specs.Results.{flagged, graph_return, interface_of, own_return};
+ghost use Rattle.std.specs.Prelude.{◌≡◌, [], true, false, IfOk, IfSome, IfNone};
+ghost use Rattle.call_dispatch.specs.Results.{with_flags, interface_of};
+ghost use Rattle.system_objects.specs.ReturnBytes.{graph_return};
 ghost use Rattle.call_dispatch.specs.Returns.{returns_place};
-ghost use Rattle.call_dispatch.specs.Terms.{terms_of};
-ghost use Rattle.call_dispatch.specs.declared.results.TheConstants.{RETURN_BYTES};
 
-use crate::book::Book;
-use crate::fixed_returns::reference_bytes;
-use crate::setup::Setup;
 use class_desc::{TypeCode, is_primitive};
 use java_shapes::with_result_flag;
-use jrmp_frames::{Body, return_bytes};
-use object_ids::{ObjId, ObjIds, Uid};
+use object_ids::{ObjIds, Uid};
 use sequence::{ByteList, Kinds, Units};
 use ser_values::Graph;
 use std::alloc::{AllocError, Global};
-
-/// How many bytes a Return has at most.
-pub const RETURN_BYTES: usize = 1 << 30;
+use system_objects::Book;
+use system_objects::returns::graph_return;
 
 /// What is sent once a call was finished.
 #[derive(Drop)]
@@ -40,11 +34,11 @@ pub struct Pending {
 }
 
 /// The interface of a kind's objects, where a method with this result can return one of them.
-pub fn interface_for(book: &Book, returned: Option<TypeCode>, kind: u32) -> Option<&Units>
-    ensures some { IfSome result (λ interface. (returns_place book.now returned kind ≡ true) × (interface.now ≡ interface_of book.now kind)) }
-    ensures none { IfNone result (returns_place book.now returned kind ≡ false) }
+pub fn interface_for(book: &Book, result_type: Option<TypeCode>, kind: u32) -> Option<&Units>
+    ensures some { IfSome result (λ interface. (returns_place book.now result_type kind ≡ true) × (interface.now ≡ interface_of book.now kind)) }
+    ensures none { IfNone result (returns_place book.now result_type kind ≡ false) }
 {
-    let code = returned?;
+    let code = result_type?;
     if is_primitive(code) {
         return None;
     }
@@ -52,35 +46,9 @@ pub fn interface_for(book: &Book, returned: Option<TypeCode>, kind: u32) -> Opti
     Some(&found.interface)
 }
 
-/// The normal Return of a graph.
-pub(crate) fn graph_return(alloc: Global, uid: Uid, graph: Graph) -> Result<ByteList, AllocError>
-    ensures { IfOk result (λ bytes. bytes ≡ graph_return uid graph.nodes graph.items) }
-{
-    return_bytes(alloc, true, uid, &Body::Tree(graph))
-}
-
-/// The normal Return of a reference to an object of the server, whose interface has this name. There is no memory for one whose host has more
-/// than 65,535 bytes as modified UTF, or which has more than 2^30 bytes itself.
-pub fn own_return(
-    alloc: Global,
-    setup: &Setup,
-    uid: Uid,
-    interface: &Units,
-    object: ObjId,
-) -> Result<ByteList, AllocError>
-    ensures written { IfOk result (λ bytes. bytes ≡ own_return (terms_of [] setup.now) uid interface.now object) }
-    ensures short { IfOk result (λ bytes. length bytes ≤ RETURN_BYTES) }
-{
-    let bytes = reference_bytes(alloc, setup, uid, interface, object)?;
-    if bytes.len() > RETURN_BYTES {
-        return Err(AllocError);
-    }
-    Ok(bytes)
-}
-
 /// The normal Return of a graph, in which each reference says that it was made for a result.
 pub fn tree_return(alloc: Global, uid: Uid, graph: Graph) -> Result<ByteList, AllocError>
-    ensures { IfOk result (λ bytes. bytes ≡ graph_return uid (flagged graph.nodes) graph.items) }
+    ensures { IfOk result (λ bytes. bytes ≡ graph_return uid (with_flags graph.nodes) graph.items) }
 {
     graph_return(alloc, uid, with_result_flag(alloc, graph)?)
 }

@@ -1,29 +1,30 @@
 //! What calls are answered.
-ghost use Rattle.std.specs.Prelude.{◌≡◌, ◌+◌, ◌≤◌, ◌<◌, ◌^◌, pos, ◌<ℤ◌, true, false, List, Option, length, codes, ◌++◌, IfOk};
+ghost use Rattle.std.specs.Prelude.{◌≡◌, ◌+◌, ◌<◌, ◌^◌, pos, ◌<ℤ◌, true, false, List, Option, codes, IfOk};
 ghost use Rattle.object_ids.specs.Draw.{uid_drawn};
 ghost use Rattle.class_desc.specs.declared.field.TypeCode.{TypeCode};
 ghost use Rattle.jrmp_frames.specs.Messages.{return_message};
-ghost use Rattle.call_dispatch.specs.declared.book.Kind.{Kind};
-ghost use Rattle.call_dispatch.specs.declared.setup.Setup.{Setup};
-ghost use Rattle.call_dispatch.specs.Returns.{fault_return, is_of, is_one_reference, suits, table_word};
+ghost use Rattle.system_objects.specs.declared.book.Kind.{Kind};
+ghost use Rattle.system_objects.specs.declared.setup.Setup.{Setup};
+ghost use Rattle.call_dispatch.specs.Returns.{is_of, is_one_reference, suits};
+ghost use Rattle.system_objects.specs.ReturnBytes.{fault_return};
 ghost use Rattle.call_dispatch.specs.Serving.{IsPlain, Prepares, PreparesGraph, PreparesPlain, IsReadyReturn};
-ghost use Rattle.call_dispatch.specs.Terms.{Terms, terms_of};
-ghost use Rattle.call_dispatch.specs.declared.results.TheConstants.{RETURN_BYTES};
-ghost use Rattle.call_dispatch.specs.declared.setup.TheConstants.{DRAWS_BEGIN_BELOW};
+ghost use Rattle.system_objects.specs.Terms.{Terms, terms_of};
+ghost use Rattle.system_objects.specs.declared.returns.TheConstants.{RETURN_BYTES};
+ghost use Rattle.system_objects.specs.declared.setup.TheConstants.{DRAWS_BEGIN_BELOW};
 
-use crate::book::Book;
 use crate::end::ConnEnd;
 use crate::outcome::Outcome;
-use crate::results::{Pending, RETURN_BYTES, Sent, interface_for, own_return, tree_return};
-use crate::setup::Setup;
+use crate::results::{Pending, Sent, interface_for, tree_return};
 use class_desc::{Item, TypeCode, is_primitive};
-use java_shapes::{fault_graph, local_refs};
+use java_shapes::local_refs;
 use jrmp_frames::{Body, return_bytes};
-use mod_utf::utf::units_of_ascii;
-use object_ids::{FullKind, ObjId, ObjIds, Uid};
+use object_ids::{ObjId, ObjIds, Uid};
 use sequence::{ByteList, Kinds, Units};
 use ser_values::{Graph, Value};
 use std::alloc::{AllocError, Global};
+use system_objects::faults::WRONG_OUTCOME;
+use system_objects::returns::{RETURN_BYTES, exceptional, exceptional_ascii, own_return};
+use system_objects::{Book, Setup};
 
 /// An answer that is yet to be written.
 pub struct Answer {
@@ -63,33 +64,12 @@ pub fn next_uid(setup: &mut Setup) -> Uid
     }
 }
 
-/// The exceptional Return with a message.
-pub(crate) fn exceptional(alloc: Global, uid: Uid, message: &Units) -> Result<ByteList, AllocError>
-    ensures { IfOk result (λ bytes. bytes ≡ fault_return uid message.now) }
-{
-    let graph = fault_graph(alloc, message)?;
-    return_bytes(alloc, false, uid, &Body::Tree(graph))
-}
-
-/// The exceptional Return with a message in ASCII. There is no memory for one of more than 2^30 bytes.
-pub fn exceptional_ascii(alloc: Global, uid: Uid, message: &[u8]) -> Result<ByteList, AllocError>
-    ensures written { IfOk result (λ bytes. bytes ≡ fault_return uid message.now) }
-    ensures short { IfOk result (λ bytes. length bytes ≤ RETURN_BYTES) }
-{
-    let message = units_of_ascii(alloc, message)?;
-    let bytes = exceptional(alloc, uid, &message)?;
-    if bytes.len() > RETURN_BYTES {
-        return Err(AllocError);
-    }
-    Ok(bytes)
-}
-
 /// The exceptional Return where an outcome is none of its method.
 fn wrong_outcome(alloc: Global, uid: Uid) -> Result<Prepared, AllocError>
     ensures prepared { IfOk result (λ prepared. prepared ≡ Prepared.Exceptional (fault_return uid (codes "java.rmi.ServerException: wrong outcome"))) }
     ensures ready { IfOk result IsReadyReturn }
 {
-    let bytes = exceptional_ascii(alloc, uid, b"java.rmi.ServerException: wrong outcome")?;
+    let bytes = exceptional_ascii(alloc, uid, WRONG_OUTCOME)?;
     Ok(Prepared::Exceptional(bytes))
 }
 
@@ -98,14 +78,14 @@ fn is_of(code: TypeCode, value: Value) -> bool
     ensures { result ≡ is_of code value }
 {
     match (code, value) {
-        (TypeCode::B, Value::B(_)) => true,
-        (TypeCode::C, Value::C(_)) => true,
-        (TypeCode::D, Value::D(_)) => true,
-        (TypeCode::F, Value::F(_)) => true,
-        (TypeCode::I, Value::I(_)) => true,
-        (TypeCode::J, Value::J(_)) => true,
-        (TypeCode::S, Value::S(_)) => true,
-        (TypeCode::Z, Value::Z(_)) => true,
+        (TypeCode::Byte, Value::Byte(_)) => true,
+        (TypeCode::Char, Value::Char(_)) => true,
+        (TypeCode::Double, Value::Double(_)) => true,
+        (TypeCode::Float, Value::Float(_)) => true,
+        (TypeCode::Int, Value::Int(_)) => true,
+        (TypeCode::Long, Value::Long(_)) => true,
+        (TypeCode::Short, Value::Short(_)) => true,
+        (TypeCode::Boolean, Value::Boolean(_)) => true,
         _ => false,
     }
 }
@@ -121,30 +101,30 @@ fn is_one_reference(items: &[Item]) -> bool
 }
 
 /// Whether a method with this result returns nothing.
-fn returns_nothing(returned: Option<TypeCode>) -> bool
-    ensures { (kinds : List Kind) → result ≡ suits kinds returned Outcome.Void }
+fn returns_nothing(result_type: Option<TypeCode>) -> bool
+    ensures { (kinds : List Kind) → result ≡ suits kinds result_type Outcome.Void }
 {
-    match returned {
+    match result_type {
         Some(_code) => false,
         None => true,
     }
 }
 
 /// Whether a method with this result can return the value.
-fn returns_value(returned: Option<TypeCode>, value: Value) -> bool
-    ensures { (kinds : List Kind) → result ≡ suits kinds returned (Outcome.Prim value) }
+fn returns_value(result_type: Option<TypeCode>, value: Value) -> bool
+    ensures { (kinds : List Kind) → result ≡ suits kinds result_type (Outcome.Prim value) }
 {
-    match returned {
+    match result_type {
         Some(code) => is_of(code, value),
         None => false,
     }
 }
 
 /// Whether a method with this result can return the graph: as one reference.
-fn returns_graph(returned: Option<TypeCode>, graph: &Graph) -> bool
-    ensures { (kinds : List Kind) → result ≡ suits kinds returned (Outcome.Tree graph.now) }
+fn returns_graph(result_type: Option<TypeCode>, graph: &Graph) -> bool
+    ensures { (kinds : List Kind) → result ≡ suits kinds result_type (Outcome.Tree graph.now) }
 {
-    match returned {
+    match result_type {
         Some(code) => !is_primitive(code) && is_one_reference(graph.items().as_slice()),
         None => false,
     }
@@ -177,24 +157,28 @@ fn prepare_body(alloc: Global, uid: Uid, suits: bool, body: &Body) -> Result<Pre
 }
 
 /// The Return of a method without a result.
-fn prepare_void(alloc: Global, uid: Uid, returned: Option<TypeCode>) -> Result<Prepared, AllocError>
-    ensures prepares { (terms : Terms) → Prepares terms uid returned Outcome.Void result }
+fn prepare_void(
+    alloc: Global,
+    uid: Uid,
+    result_type: Option<TypeCode>,
+) -> Result<Prepared, AllocError>
+    ensures prepares { (terms : Terms) → Prepares terms uid result_type Outcome.Void result }
     ensures ready { IfOk result IsReadyReturn }
 {
-    prepare_body(alloc, uid, returns_nothing(returned), &Body::Void)
+    prepare_body(alloc, uid, returns_nothing(result_type), &Body::Void)
 }
 
 /// The Return of a method's result that is a number, a character or a truth value.
 fn prepare_value(
     alloc: Global,
     uid: Uid,
-    returned: Option<TypeCode>,
+    result_type: Option<TypeCode>,
     value: Value,
 ) -> Result<Prepared, AllocError>
-    ensures prepares { (terms : Terms) → Prepares terms uid returned (Outcome.Prim value) result }
+    ensures prepares { (terms : Terms) → Prepares terms uid result_type (Outcome.Prim value) result }
     ensures ready { IfOk result IsReadyReturn }
 {
-    let suits = returns_value(returned, value);
+    let suits = returns_value(result_type, value);
     prepare_body(alloc, uid, suits, &Body::Prim(value))
 }
 
@@ -224,13 +208,13 @@ fn prepare_tree(
     alloc: Global,
     setup: &Setup,
     uid: Uid,
-    returned: Option<TypeCode>,
+    result_type: Option<TypeCode>,
     graph: Graph,
 ) -> Result<Prepared, AllocError>
-    ensures prepares { (kinds : List Kind) → Prepares (terms_of kinds setup.now) uid returned (Outcome.Tree graph) result }
+    ensures prepares { (kinds : List Kind) → Prepares (terms_of kinds setup.now) uid result_type (Outcome.Tree graph) result }
     ensures ready { IfOk result IsReadyReturn }
 {
-    if !returns_graph(returned, &graph) {
+    if !returns_graph(result_type, &graph) {
         return wrong_outcome(alloc, uid);
     }
     let listed = local_refs(alloc, &graph, &setup.host, setup.port)?;
@@ -242,13 +226,13 @@ fn prepare_new(
     alloc: Global,
     book: &Book,
     uid: Uid,
-    returned: Option<TypeCode>,
+    result_type: Option<TypeCode>,
     kind: u32,
 ) -> Result<Prepared, AllocError>
-    ensures prepares { (setup : Setup) → Prepares (terms_of book.now setup) uid returned (Outcome.NewRemote kind) result }
+    ensures prepares { (setup : Setup) → Prepares (terms_of book.now setup) uid result_type (Outcome.NewRemote kind) result }
     ensures ready { IfOk result IsReadyReturn }
 {
-    let Some(interface) = interface_for(book, returned, kind) else {
+    let Some(interface) = interface_for(book, result_type, kind) else {
         return wrong_outcome(alloc, uid);
     };
     let interface = interface.copy(alloc)?;
@@ -265,14 +249,14 @@ fn prepare_old(
     setup: &Setup,
     book: &Book,
     uid: Uid,
-    returned: Option<TypeCode>,
+    result_type: Option<TypeCode>,
     object: ObjId,
     kind: u32,
 ) -> Result<Prepared, AllocError>
-    ensures prepares { Prepares (terms_of book.now setup.now) uid returned (Outcome.OldRemote object kind) result }
+    ensures prepares { Prepares (terms_of book.now setup.now) uid result_type (Outcome.OldRemote object kind) result }
     ensures ready { IfOk result IsReadyReturn }
 {
-    let Some(interface) = interface_for(book, returned, kind) else {
+    let Some(interface) = interface_for(book, result_type, kind) else {
         return wrong_outcome(alloc, uid);
     };
     let bytes = own_return(alloc, setup, uid, interface, object)?;
@@ -285,7 +269,7 @@ fn prepare_old(
 
 /// The exceptional Return of a worker's own message, where it can be sent.
 fn prepare_fault(alloc: Global, uid: Uid, message: &Units) -> Result<Prepared, AllocError>
-    ensures prepares { (terms : Terms) (returned : Option TypeCode) → Prepares terms uid returned (Outcome.Fault message.now) result }
+    ensures prepares { (terms : Terms) (result_type : Option TypeCode) → Prepares terms uid result_type (Outcome.Fault message.now) result }
     ensures ready { IfOk result IsReadyReturn }
 {
     let bytes = exceptional(alloc, uid, message)?;
@@ -302,34 +286,21 @@ pub fn prepare(
     setup: &Setup,
     book: &Book,
     uid: Uid,
-    returned: Option<TypeCode>,
+    result_type: Option<TypeCode>,
     outcome: Outcome,
 ) -> Result<Prepared, AllocError>
-    ensures prepares { Prepares (terms_of book.now setup.now) uid returned outcome result }
+    ensures prepares { Prepares (terms_of book.now setup.now) uid result_type outcome result }
     ensures ready { IfOk result IsReadyReturn }
 {
     match outcome {
-        Outcome::Void => prepare_void(alloc, uid, returned),
-        Outcome::Prim(value) => prepare_value(alloc, uid, returned, value),
-        Outcome::Tree(graph) => prepare_tree(alloc, setup, uid, returned, graph),
-        Outcome::NewRemote(kind) => prepare_new(alloc, book, uid, returned, kind),
+        Outcome::Void => prepare_void(alloc, uid, result_type),
+        Outcome::Prim(value) => prepare_value(alloc, uid, result_type, value),
+        Outcome::Tree(graph) => prepare_tree(alloc, setup, uid, result_type, graph),
+        Outcome::NewRemote(kind) => prepare_new(alloc, book, uid, result_type, kind),
         Outcome::OldRemote(object, kind) => {
-            prepare_old(alloc, setup, book, uid, returned, object, kind)
+            prepare_old(alloc, setup, book, uid, result_type, object, kind)
         }
         Outcome::Fault(message) => prepare_fault(alloc, uid, &message),
         Outcome::OutOfMemory => Err(AllocError),
-    }
-}
-
-/// The message where a table is full.
-pub fn full_message(kind: FullKind) -> &'static [u8]
-    ensures { result.now ≡ codes "java.rmi.ServerException: full: " ++ table_word kind }
-{
-    match kind {
-        FullKind::Exports => b"java.rmi.ServerException: full: exports",
-        FullKind::Awaiting => b"java.rmi.ServerException: full: awaiting",
-        FullKind::Clients => b"java.rmi.ServerException: full: clients",
-        FullKind::Pairs => b"java.rmi.ServerException: full: pairs",
-        FullKind::Names => b"java.rmi.ServerException: full: names",
     }
 }

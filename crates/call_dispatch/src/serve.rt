@@ -3,25 +3,24 @@ ghost use Rattle.std.specs.Prelude.{◌≡◌, ◌≤◌, ◌<◌, ◌^◌, pos,
 ghost use Rattle.wire_io.specs.Wire.{Rose};
 ghost use Rattle.wire_io.specs.declared.limits.TheConstants.{MAX_HOST_BYTES, LAST_POSITION};
 ghost use Rattle.mod_utf.specs.Utf.{utf};
-ghost use Rattle.space.specs.Balance.{Balanced};
+ghost use Rattle.ports.specs.Balance.{Balanced};
 ghost use Rattle.space.specs.declared.asked.Asked.{Asked};
 ghost use Rattle.call_dispatch.specs.End.{IsWriteFault};
 ghost use Rattle.call_dispatch.specs.Faults.{counts_of, Blames};
-ghost use Rattle.call_dispatch.specs.Spot.{spot, spot_of, IsLent};
-ghost use Rattle.call_dispatch.specs.Terms.{terms_of};
+ghost use Rattle.call_dispatch.specs.ConnectionState.{state_of_parts, state_of_connection, IsLent};
+ghost use Rattle.system_objects.specs.Terms.{terms_of};
 ghost use Rattle.call_dispatch.specs.Progress.{Talked, IsServedFrom};
 ghost use Rattle.call_dispatch.specs.Invoked.{InvokesEachOnce};
-ghost use Rattle.call_dispatch.specs.declared.setup.TheConstants.{DRAWS_BEGIN_BELOW};
+ghost use Rattle.system_objects.specs.declared.setup.TheConstants.{DRAWS_BEGIN_BELOW};
 
-use crate::book::Book;
 use crate::connection::Connection;
 use crate::end::ConnEnd;
 use crate::messages::serve_messages;
 use crate::opening::open_connection;
-use crate::setup::Setup;
 use crate::worker::Worker;
-use space::Port;
+use ports::Port;
 use std::alloc::Global;
+use system_objects::{Book, Setup};
 use wire_io::{Clock, Pull, Sink, Source};
 
 /// Serves a connection from the first byte of `source` to the connection's end, and answers it in `sink`. Turns are made at
@@ -56,14 +55,14 @@ pub fn serve_connection<S: Source, K: Sink, C: Clock, P: Port, W: Worker>(
     // What was taken, done, drawn and written is a dialogue with the end, and the only one of the input and of what the outside
     // answered, unless something outside failed.
     ensures dialogue { IsServedFrom W.may W.moves (terms_of book.now setup.old)
-        (spot S.left K.held C.given P.asked W.calls W.seen W.state source.old sink.old clock.old port.old worker.old setup.old)
-        (spot S.left K.held C.given P.asked W.calls W.seen W.state source.new sink.new clock.new port.new worker.new setup.new) result }
+        (state_of_parts S.left K.held C.given P.asked W.calls W.seen W.state source.old sink.old clock.old port.old worker.old setup.old)
+        (state_of_parts S.left K.held C.given P.asked W.calls W.seen W.state source.new sink.new clock.new port.new worker.new setup.new) result }
 
     // The worker's invocations are those of the Calls that were taken, in their order: of each Call one at most, of the object and the method
     // that it names, with the graph that its bytes spell. This holds of the message, too, in which the connection ended.
     ensures invoked { InvokesEachOnce (terms_of book.now setup.old)
-        (spot S.left K.held C.given P.asked W.calls W.seen W.state source.old sink.old clock.old port.old worker.old setup.old)
-        (spot S.left K.held C.given P.asked W.calls W.seen W.state source.new sink.new clock.new port.new worker.new setup.new) }
+        (state_of_parts S.left K.held C.given P.asked W.calls W.seen W.state source.old sink.old clock.old port.old worker.old setup.old)
+        (state_of_parts S.left K.held C.given P.asked W.calls W.seen W.state source.new sink.new clock.new port.new worker.new setup.new) }
 
     // No call runs afterwards, and the port can be used on.
     ensures balanced { (more : List Asked) × (P.asked port.new ≡ P.asked port.old ++ more) × Balanced more }
@@ -106,8 +105,8 @@ fn talk<S: Source, K: Sink, C: Clock, P: Port, W: Worker>(
     requires balanced { Balanced (P.asked connection.old.port.now) }
     requires calls { W.calls connection.old.worker.now < 2 ^ 61 }
     ensures dialogue { Talked W.may W.moves (terms_of connection.old.book.now connection.old.setup.now)
-        (spot_of S.left K.held C.given P.asked W.calls W.seen W.state connection.old)
-        (spot_of S.left K.held C.given P.asked W.calls W.seen W.state connection.new) result }
+        (state_of_connection S.left K.held C.given P.asked W.calls W.seen W.state connection.old)
+        (state_of_connection S.left K.held C.given P.asked W.calls W.seen W.state connection.new) result }
     ensures lent { IsLent connection.old connection.new }
     ensures balanced { Balanced (P.asked connection.new.port.now) }
     ensures ready { P.ready connection.new.port.now }

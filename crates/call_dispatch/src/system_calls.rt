@@ -4,33 +4,35 @@ ghost use Rattle.mod_utf.specs.Utf.{utf};
 ghost use Rattle.wire_io.specs.Pulled.{PullState, pull_state};
 ghost use Rattle.wire_io.specs.declared.limits.TheConstants.{MAX_HOST_BYTES};
 ghost use Rattle.history.specs.declared.replies.Refused.TheVariants.{OutOfMemory};
-ghost use Rattle.space.specs.Balance.{Balanced};
+ghost use Rattle.ports.specs.Balance.{Balanced};
 ghost use Rattle.jrmp_frames.specs.Calls.{ReadsHead, HasHead};
-ghost use Rattle.call_dispatch.specs.Demands.{kept_of};
+ghost use Rattle.system_objects.specs.SystemRequests.{kept_of, IsQuiet};
 ghost use Rattle.call_dispatch.specs.Serving.{next_of};
-ghost use Rattle.call_dispatch.specs.ServingSystem.{IsQuiet, AsksTurn, AnswersMethod, AnswersSystem, AnswersAny};
-ghost use Rattle.call_dispatch.specs.Spot.{side_of, IsLent};
-ghost use Rattle.call_dispatch.specs.Systems.{is_system, params_of};
-ghost use Rattle.call_dispatch.specs.Terms.{terms_of};
-ghost use Rattle.call_dispatch.specs.declared.results.TheConstants.{RETURN_BYTES};
-ghost use Rattle.call_dispatch.specs.declared.setup.TheConstants.{DRAWS_BEGIN_BELOW};
+ghost use Rattle.call_dispatch.specs.ServingSystem.{AsksTurn, AnswersMethod, AnswersSystem, AnswersAny};
+ghost use Rattle.call_dispatch.specs.ConnectionState.{observed_of, IsLent};
+ghost use Rattle.system_ids.specs.SystemIds.{is_system};
+ghost use Rattle.system_ids.specs.SystemMethods.{params_of};
+ghost use Rattle.system_objects.specs.Terms.{terms_of};
+ghost use Rattle.system_objects.specs.declared.returns.TheConstants.{RETURN_BYTES};
+ghost use Rattle.system_objects.specs.declared.setup.TheConstants.{DRAWS_BEGIN_BELOW};
 
-use crate::calls::{NO_METHOD, answer_call, fault_answer, no_such_method, refuse};
+use crate::calls::{call_object, fault_answer, no_such_method, refuse};
 use crate::connection::Connection;
-use crate::demand::{Demand, ForReturn, bar_message, demand_for, names_no_client};
 use crate::end::{ConnEnd, end_of};
 use crate::returns::{Answer, next_uid};
-use crate::setup::Setup;
-use crate::system::{SystemMethod, is_system, params_of};
-use crate::system_return::system_return;
 use crate::turns::take_turn;
 use crate::worker::Worker;
 use history::{Ask, Refused, Turn};
 use jrmp_frames::{Arguments, CallHead, read_parameters};
 use object_ids::Uid;
+use ports::Port;
 use ser_read::Reader;
-use space::Port;
 use std::alloc::Global;
+use system_ids::{SystemMethod, is_system, params_of};
+use system_objects::Setup;
+use system_objects::faults::{NO_SUCH_METHOD, rejection_message};
+use system_objects::request::{ReplyContext, SystemRequest, names_no_client, request_for};
+use system_objects::system_return::system_return;
 use wire_io::{Clock, Sink, Source};
 
 /// The identifiers of a client that has none of its own and of a Return, in this order. Where the client has one, one is drawn, the Return's, and
@@ -67,12 +69,12 @@ fn is_lost(answer: &Result<Turn, Refused>) -> bool
 }
 
 /// Asks the space this in one turn, and prepares the Return.
-fn ask_turn<S: Source, K: Sink, C: Clock, P: Port, W: Worker>(
+fn turn_and_return<S: Source, K: Sink, C: Clock, P: Port, W: Worker>(
     alloc: Global,
     connection: &mut Connection<S, K, C, P, W>,
     uid: Uid,
     ask: Ask,
-    kept: ForReturn,
+    kept: ReplyContext,
 ) -> Result<Answer, ConnEnd>
     requires host { length (utf connection.old.setup.now.host) ≤ MAX_HOST_BYTES }
     requires ready { P.ready connection.old.port.now }
@@ -81,8 +83,8 @@ fn ask_turn<S: Source, K: Sink, C: Clock, P: Port, W: Worker>(
     requires quiet { IsQuiet ask }
     requires kept { kept ≡ kept_of ask }
     ensures asks { AsksTurn W.may W.moves (terms_of connection.old.book.now connection.old.setup.now) uid ask
-        (side_of C.given P.asked W.calls W.seen W.state connection.old)
-        (side_of C.given P.asked W.calls W.seen W.state connection.new) result }
+        (observed_of C.given P.asked W.calls W.seen W.state connection.old)
+        (observed_of C.given P.asked W.calls W.seen W.state connection.new) result }
     ensures short { IfOk result (λ answer. length answer.bytes ≤ RETURN_BYTES) }
     ensures balanced { Balanced (P.asked connection.new.port.now) }
     ensures pull { connection.new.pull ≡ connection.old.pull }
@@ -123,8 +125,8 @@ fn answer_method<S: Source, K: Sink, C: Clock, P: Port, W: Worker>(
     requires room { 0 < P.room_of connection.old.port.now }
     requires balanced { Balanced (P.asked connection.old.port.now) }
     ensures answers { AnswersMethod W.may W.moves (terms_of connection.old.book.now connection.old.setup.now) method arguments
-        (side_of C.given P.asked W.calls W.seen W.state connection.old)
-        (side_of C.given P.asked W.calls W.seen W.state connection.new)
+        (observed_of C.given P.asked W.calls W.seen W.state connection.old)
+        (observed_of C.given P.asked W.calls W.seen W.state connection.new)
         connection.old.setup.now.draw.drawn connection.new.setup.now.draw.drawn result }
     ensures short { IfOk result (λ answer. length answer.bytes ≤ RETURN_BYTES) }
     ensures balanced { Balanced (P.asked connection.new.port.now) }
@@ -139,15 +141,20 @@ fn answer_method<S: Source, K: Sink, C: Clock, P: Port, W: Worker>(
 {
     let without = names_no_client(alloc, method, &arguments)?;
     let (client, uid) = draw_uids(connection.setup, without);
-    match demand_for(alloc, connection.setup, method, &arguments, client, uid) {
-        Ok(Demand::Barred(bar)) => fault_answer(alloc, uid, bar_message(bar), None),
-        Ok(Demand::Asks(ask, kept)) => ask_turn(alloc, connection, uid, ask, kept),
+    match request_for(alloc, connection.setup, method, &arguments, client, uid) {
+        Ok(SystemRequest::Rejected(rejection)) => fault_answer(
+            alloc,
+            uid,
+            rejection_message(rejection),
+            None,
+        ),
+        Ok(SystemRequest::Asks(ask, kept)) => turn_and_return(alloc, connection, uid, ask, kept),
         Err(_) => Err(ConnEnd::OutOfMemory),
     }
 }
 
 /// Serves a call of the registry or the collector whose head was read.
-fn answer_system<S: Source, K: Sink, C: Clock, P: Port, W: Worker>(
+fn call_system_object<S: Source, K: Sink, C: Clock, P: Port, W: Worker>(
     alloc: Global,
     connection: &mut Connection<S, K, C, P, W>,
     head: CallHead,
@@ -164,8 +171,8 @@ fn answer_system<S: Source, K: Sink, C: Clock, P: Port, W: Worker>(
     ensures answers { (first : PullState) → ReadsHead first (pull_state S.left S.faults connection.old.pull) head reader.stand
         → AnswersSystem W.may W.moves (terms_of connection.old.book.now connection.old.setup.now) head
         first (pull_state S.left S.faults connection.new.pull)
-        (side_of C.given P.asked W.calls W.seen W.state connection.old)
-        (side_of C.given P.asked W.calls W.seen W.state connection.new)
+        (observed_of C.given P.asked W.calls W.seen W.state connection.old)
+        (observed_of C.given P.asked W.calls W.seen W.state connection.new)
         connection.old.setup.now.draw.drawn connection.new.setup.now.draw.drawn result }
     ensures short { IfOk result (λ answer. length answer.bytes ≤ RETURN_BYTES) }
     ensures balanced { Balanced (P.asked connection.new.port.now) }
@@ -178,7 +185,12 @@ fn answer_system<S: Source, K: Sink, C: Clock, P: Port, W: Worker>(
     ensures lent { IsLent connection.old connection.new }
 {
     let Some(method) = connection.book.system_method(&head) else {
-        return refuse(alloc, connection.setup, NO_METHOD, no_such_method(&head));
+        return refuse(
+            alloc,
+            connection.setup,
+            NO_SUCH_METHOD,
+            no_such_method(&head),
+        );
     };
     match read_parameters(alloc, &mut connection.pull, reader, params_of(method)) {
         Ok(arguments) => answer_method(alloc, connection, method, arguments),
@@ -187,7 +199,7 @@ fn answer_system<S: Source, K: Sink, C: Clock, P: Port, W: Worker>(
 }
 
 /// Serves a Call whose head was read: one of the registry or the collector, or any other.
-pub fn answer_any<S: Source, K: Sink, C: Clock, P: Port, W: Worker>(
+pub fn dispatch_call<S: Source, K: Sink, C: Clock, P: Port, W: Worker>(
     alloc: Global,
     connection: &mut Connection<S, K, C, P, W>,
     head: CallHead,
@@ -204,8 +216,8 @@ pub fn answer_any<S: Source, K: Sink, C: Clock, P: Port, W: Worker>(
     ensures answers { (first : PullState) → ReadsHead first (pull_state S.left S.faults connection.old.pull) head reader.stand
         → AnswersAny W.may W.moves (terms_of connection.old.book.now connection.old.setup.now) head
         first (pull_state S.left S.faults connection.new.pull)
-        (side_of C.given P.asked W.calls W.seen W.state connection.old)
-        (side_of C.given P.asked W.calls W.seen W.state connection.new)
+        (observed_of C.given P.asked W.calls W.seen W.state connection.old)
+        (observed_of C.given P.asked W.calls W.seen W.state connection.new)
         connection.old.setup.now.draw.drawn connection.new.setup.now.draw.drawn result }
     ensures short { IfOk result (λ answer. length answer.bytes ≤ RETURN_BYTES) }
     ensures balanced { Balanced (P.asked connection.new.port.now) }
@@ -218,8 +230,8 @@ pub fn answer_any<S: Source, K: Sink, C: Clock, P: Port, W: Worker>(
     ensures lent { IsLent connection.old connection.new }
 {
     if is_system(head.id) {
-        answer_system(alloc, connection, head, reader)
+        call_system_object(alloc, connection, head, reader)
     } else {
-        answer_call(alloc, connection, head, reader)
+        call_object(alloc, connection, head, reader)
     }
 }

@@ -1,20 +1,21 @@
 //! One turn of a connection at a time.
 ghost use Rattle.std.specs.Prelude.{◌≡◌, ◌<◌, ◌≤◌, ◌+◌, ℕ, List, Option};
 ghost use Rattle.object_ids.specs.declared.ids.ObjId.{ObjId};
-ghost use Rattle.space.specs.Ports.{Shows, IsAnswerTo};
+ghost use Rattle.space.specs.TurnAnswers.{IsAnswerTo};
+ghost use Rattle.ports.specs.Ports.{Shows};
 ghost use Rattle.space.specs.declared.asked.Asked.{Asked};
 ghost use Rattle.call_dispatch.specs.Acts.{Led, tells_of, TakesTurn, GivesUp};
-ghost use Rattle.call_dispatch.specs.Spot.{side_of, IsLent};
+ghost use Rattle.call_dispatch.specs.ConnectionState.{observed_of, IsLent};
 
 use crate::connection::Connection;
 use crate::worker::Worker;
 use history::{Ask, Refused, Turn};
 use object_ids::ObjId;
-use space::Port;
+use ports::Port;
 use wire_io::{Clock, Sink, Source};
 
 /// Tells the worker of each object that it is no longer exported.
-fn tell<W: Worker>(worker: &mut W, gone: &[ObjId])
+pub fn notify_unreferenced<W: Worker>(worker: &mut W, gone: &[ObjId])
     ensures led { (asked : List Asked) (given : Option (List ℕ)) → Led W.may W.moves
         (record { asked = asked; given = given; invoked = W.calls worker.old; seen = W.seen worker.old; state = W.state worker.old })
         (record { asked = asked; given = given; invoked = W.calls worker.new; seen = W.seen worker.new; state = W.state worker.new })
@@ -34,8 +35,8 @@ pub fn take_turn<S: Source, K: Sink, C: Clock, P: Port, W: Worker>(
     requires ready { P.ready connection.old.port.now }
     requires room { 0 < P.room_of connection.old.port.now }
     ensures led { TakesTurn W.may W.moves
-        (side_of C.given P.asked W.calls W.seen W.state connection.old)
-        (side_of C.given P.asked W.calls W.seen W.state connection.new) ask result }
+        (observed_of C.given P.asked W.calls W.seen W.state connection.old)
+        (observed_of C.given P.asked W.calls W.seen W.state connection.new) ask result }
     ensures answers { IsAnswerTo (Shows (P.asked connection.old.port.now)) ask result }
     ensures room { P.room_of connection.old.port.now ≤ P.room_of connection.new.port.now + 1 }
     ensures ready { P.ready connection.new.port.now }
@@ -49,7 +50,7 @@ pub fn take_turn<S: Source, K: Sink, C: Clock, P: Port, W: Worker>(
     let moment = connection.clock.now();
     let answer = connection.port.turn(moment, ask);
     if let Ok(turn) = &answer {
-        tell(connection.worker, turn.gone.as_slice());
+        notify_unreferenced(connection.worker, turn.gone.as_slice());
     }
     answer
 }
@@ -63,8 +64,8 @@ pub fn give_up<S: Source, K: Sink, C: Clock, P: Port, W: Worker>(
     requires room { 0 < P.room_of connection.old.port.now }
     requires runs { Shows (P.asked connection.old.port.now) object }
     ensures led { GivesUp W.may W.moves
-        (side_of C.given P.asked W.calls W.seen W.state connection.old)
-        (side_of C.given P.asked W.calls W.seen W.state connection.new) object }
+        (observed_of C.given P.asked W.calls W.seen W.state connection.old)
+        (observed_of C.given P.asked W.calls W.seen W.state connection.new) object }
     ensures room { P.room_of connection.old.port.now ≤ P.room_of connection.new.port.now + 1 }
     ensures ready { P.ready connection.new.port.now }
     ensures leads { P.leads connection.old.port.now connection.new.port.now }

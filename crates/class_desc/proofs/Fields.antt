@@ -1,12 +1,12 @@
 -- The tests of a description's flags and fields are exact.
-use Rattle.std.proofs.Common.{◌≡◌, ℕ, ℤ, pos, ◌≤◌, ◌||◌, ◌&&◌, Bool, true, false, ltb, eqb, List, [], ◌∷◌, length, refl, ap, arith, inl, inr, bit_and}
+use Rattle.std.proofs.Common.{◌≡◌, ℕ, ℤ, pos, ◌≤◌, ◌||◌, ◌&&◌, true, ltb, eqb, List, [], ◌∷◌, length, refl, ap, arith, inl, inr, bit_and}
 use Rattle.std.specs.Prelude.{◌⊎◌}
-use Rattle.std.proofs.lemmas.Bool.{eqb-true, ltb-true, lt-ltb}
+use Rattle.std.proofs.lemmas.Bool.{eqb-true, ltb-true, lt-ltb, and_parts, or_cases, or_right}
 use Rattle.class_desc.specs.declared.field.FieldDesc.{FieldDesc}
 use Rattle.class_desc.specs.declared.desc.ClassDesc.{ClassDesc}
 use Rattle.class_desc.specs.TypeText.{is_nil}
 use Rattle.class_desc.specs.ClassDesc.{HasFlag, LacksFlag, HasGoodFlags, are_ordered, has_flag, lacks_flag, is_zero, fit_flags}
-use Rattle.class_desc.proofs.TypeTexts.{both, either, eq_true, nil_is}
+use Rattle.class_desc.proofs.TypeTexts.{eq_true, nil_is}
 
 pub ordered_end : (fs : List FieldDesc) → length fs ≤ 1 → are_ordered fs ≡ true
 unfolding are_ordered
@@ -14,12 +14,8 @@ ordered_end [] h = refl
 ordered_end (f ∷ []) h = refl
 ordered_end (f ∷ g ∷ fs) h = absurd (omega arith)
 
-or_right : (a b : Bool) → b ≡ true → (a || b) ≡ true
-or_right true b h = refl
-or_right false b h = h
-
 two : (n f m g : ℕ) → (eqb (bit_and n f) 0 || eqb (bit_and m g) g) ≡ true → LacksFlag n f ⊎ HasFlag m g
-two n f m g h = elim (either (eqb (bit_and n f) 0) _ h) [
+two n f m g h = elim (or_cases (eqb (bit_and n f) 0) _ h) [
   | inl e ↦ inl (eqb-true _ _ e)
   | inr e ↦ inr (eqb-true _ _ e)
 ]
@@ -31,7 +27,7 @@ two_of n f m g h = elim h [
 ]
 
 lacks_two : (n f g : ℕ) → (eqb (bit_and n f) 0 || eqb (bit_and n g) 0) ≡ true → LacksFlag n f ⊎ LacksFlag n g
-lacks_two n f g h = elim (either (eqb (bit_and n f) 0) _ h) [
+lacks_two n f g h = elim (or_cases (eqb (bit_and n f) 0) _ h) [
   | inl e ↦ inl (eqb-true _ _ e)
   | inr e ↦ inr (eqb-true _ _ e)
 ]
@@ -51,16 +47,16 @@ zero_of z e = ap is_zero e
 
 enum_is : (n : ℕ) (z : ℤ) (fs : List FieldDesc) → (((has_flag n 2 && lacks_flag n 1) && is_nil fs) && is_zero z) ≡ true → HasFlag n 2 × LacksFlag n 1 × (fs ≡ []) × (z ≡ pos 0)
 enum_is n z fs h =
-    let p = both ((has_flag n 2 && lacks_flag n 1) && is_nil fs) (is_zero z) h in
-    let q = both (has_flag n 2 && lacks_flag n 1) (is_nil fs) p.0 in
-    let r = both (has_flag n 2) (lacks_flag n 1) q.0 in
+    let p = and_parts ((has_flag n 2 && lacks_flag n 1) && is_nil fs) (is_zero z) h in
+    let q = and_parts (has_flag n 2 && lacks_flag n 1) (is_nil fs) p.0 in
+    let r = and_parts (has_flag n 2) (lacks_flag n 1) q.0 in
     (eqb-true _ _ r.0, eqb-true _ _ r.1, nil_is fs q.1, zero_is z p.1)
 
 enum_of : (n : ℕ) (z : ℤ) (fs : List FieldDesc) → HasFlag n 2 × LacksFlag n 1 × (fs ≡ []) × (z ≡ pos 0) → (((has_flag n 2 && lacks_flag n 1) && is_nil fs) && is_zero z) ≡ true
 enum_of n z fs h = rw (eq_true _ _ h.0, eq_true _ _ h.1) (rw (h.2, zero_of z h.3) refl)
 
 enums_is : (n : ℕ) (z : ℤ) (fs : List FieldDesc) → (lacks_flag n 16 || (((has_flag n 2 && lacks_flag n 1) && is_nil fs) && is_zero z)) ≡ true → LacksFlag n 16 ⊎ (HasFlag n 2 × LacksFlag n 1 × (fs ≡ []) × (z ≡ pos 0))
-enums_is n z fs h = elim (either (lacks_flag n 16) _ h) [
+enums_is n z fs h = elim (or_cases (lacks_flag n 16) _ h) [
   | inl e ↦ inl (eqb-true _ _ e)
   | inr e ↦ inr (enum_is n z fs e)
 ]
@@ -75,10 +71,10 @@ pub flags_are : (d : ClassDesc) → fit_flags d ≡ true → HasGoodFlags d
 unfolding fit_flags
 flags_are d h =
     let n = d.flags in
-    let p = both (((ltb n 32 && (lacks_flag n 2 || lacks_flag n 4)) && (lacks_flag n 8 || has_flag n 4)) && (lacks_flag n 1 || has_flag n 2)) _ h in
-    let q = both ((ltb n 32 && (lacks_flag n 2 || lacks_flag n 4)) && (lacks_flag n 8 || has_flag n 4)) (lacks_flag n 1 || has_flag n 2) p.0 in
-    let r = both (ltb n 32 && (lacks_flag n 2 || lacks_flag n 4)) (lacks_flag n 8 || has_flag n 4) q.0 in
-    let s = both (ltb n 32) (lacks_flag n 2 || lacks_flag n 4) r.0 in
+    let p = and_parts (((ltb n 32 && (lacks_flag n 2 || lacks_flag n 4)) && (lacks_flag n 8 || has_flag n 4)) && (lacks_flag n 1 || has_flag n 2)) _ h in
+    let q = and_parts ((ltb n 32 && (lacks_flag n 2 || lacks_flag n 4)) && (lacks_flag n 8 || has_flag n 4)) (lacks_flag n 1 || has_flag n 2) p.0 in
+    let r = and_parts (ltb n 32 && (lacks_flag n 2 || lacks_flag n 4)) (lacks_flag n 8 || has_flag n 4) q.0 in
+    let s = and_parts (ltb n 32) (lacks_flag n 2 || lacks_flag n 4) r.0 in
     record {
       known = ltb-true n 32 s.0;
       one_kind = lacks_two n 2 4 s.1;

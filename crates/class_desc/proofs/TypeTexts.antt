@@ -1,7 +1,7 @@
 -- The tests of type texts are exact.
 use Rattle.std.proofs.Common.{◌≡◌, ℕ, suc, ◌-◌, ◌<◌, ◌≤◌, ◌||◌, ◌&&◌, Bool, true, false, cond, eqb, List, [], ◌∷◌, ◌++◌, length, get_or, Option, Some, None, refl, sym, ap, ◌∙◌, arith, inl, inr}
-use Rattle.std.specs.Prelude.{◌⊎◌, IfSome, is_some}
-use Rattle.std.proofs.lemmas.Bool.{eqb-true, eqb-false}
+use Rattle.std.specs.Prelude.{IfSome, is_some}
+use Rattle.std.proofs.lemmas.Bool.{eqb-true, eqb-false, and_parts, or_cases}
 use Rattle.class_desc.specs.declared.field.TypeCode.{TypeCode}
 use Rattle.class_desc.specs.declared.field.TypeCode.TheVariants as codes
 use Rattle.class_desc.specs.TypeCode.{is_primitive, letter}
@@ -14,14 +14,6 @@ ends_last (c ∷ []) h = refl
 ends_last (c ∷ d ∷ t) h =
     let e : length (c ∷ d ∷ t) - 1 ≡ suc (length (d ∷ t) - 1) = omega arith in
     ends_last (d ∷ t) (omega arith) ∙ sym (ap (λ n. eqb (get_or (c ∷ d ∷ t) n 0) 59) e)
-
-pub both : (a b : Bool) → (a && b) ≡ true → (a ≡ true) × (b ≡ true)
-both true b h = (refl, h)
-both false b h = absurd cc
-
-pub either : (a b : Bool) → (a || b) ≡ true → (a ≡ true) ⊎ (b ≡ true)
-either true b h = inl refl
-either false b h = inr h
 
 pub eq_true : (a b : ℕ) → a ≡ b → eqb a b ≡ true
 eq_true a b e = go (eqb a b) refl
@@ -46,7 +38,7 @@ pub class_text : (t : List ℕ) → is_class_text t ≡ true → IsClassText t
 class_text [] h = absurd cc
 class_text (c ∷ []) h = absurd cc
 class_text (c ∷ d ∷ t) h =
-    let p = both (eqb c 76) (ends_class t) h in
+    let p = and_parts (eqb c 76) (ends_class t) h in
     let r = ends t p.1 in
     (d ∷ r.0, omega arith, ap (λ (x : ℕ). x ∷ d ∷ t) (eqb-true c 76 p.0) ∙ ap (λ (l : List ℕ). 76 ∷ d ∷ l) r.1)
 
@@ -58,21 +50,21 @@ pub class_text_of : (t : List ℕ) → IsClassText t → is_class_text t ≡ tru
 class_text_of t h = ap is_class_text h.2 ∙ class_text_at h.0 h.1
 
 letter_code : (c : ℕ) → is_letter c ≡ true → (code : TypeCode) × (is_primitive code ≡ true) × (c ≡ letter code)
-letter_code c h = elim (either (eqb c 66) (eqb c 67 || (eqb c 68 || (eqb c 70 || (eqb c 73 || (eqb c 74 || (eqb c 83 || eqb c 90)))))) h) [
-  | inl e ↦ (codes.B, refl, eqb-true c 66 e)
-  | inr h ↦ elim (either (eqb c 67) (eqb c 68 || (eqb c 70 || (eqb c 73 || (eqb c 74 || (eqb c 83 || eqb c 90))))) h) [
-    | inl e ↦ (codes.C, refl, eqb-true c 67 e)
-    | inr h ↦ elim (either (eqb c 68) (eqb c 70 || (eqb c 73 || (eqb c 74 || (eqb c 83 || eqb c 90)))) h) [
-      | inl e ↦ (codes.D, refl, eqb-true c 68 e)
-      | inr h ↦ elim (either (eqb c 70) (eqb c 73 || (eqb c 74 || (eqb c 83 || eqb c 90))) h) [
-        | inl e ↦ (codes.F, refl, eqb-true c 70 e)
-        | inr h ↦ elim (either (eqb c 73) (eqb c 74 || (eqb c 83 || eqb c 90)) h) [
-          | inl e ↦ (codes.I, refl, eqb-true c 73 e)
-          | inr h ↦ elim (either (eqb c 74) (eqb c 83 || eqb c 90) h) [
-            | inl e ↦ (codes.J, refl, eqb-true c 74 e)
-            | inr h ↦ elim (either (eqb c 83) (eqb c 90) h) [
-              | inl e ↦ (codes.S, refl, eqb-true c 83 e)
-              | inr h ↦ (codes.Z, refl, eqb-true c 90 h)
+letter_code c h = elim (or_cases (eqb c 66) (eqb c 67 || (eqb c 68 || (eqb c 70 || (eqb c 73 || (eqb c 74 || (eqb c 83 || eqb c 90)))))) h) [
+  | inl e ↦ (codes.Byte, refl, eqb-true c 66 e)
+  | inr h ↦ elim (or_cases (eqb c 67) (eqb c 68 || (eqb c 70 || (eqb c 73 || (eqb c 74 || (eqb c 83 || eqb c 90))))) h) [
+    | inl e ↦ (codes.Char, refl, eqb-true c 67 e)
+    | inr h ↦ elim (or_cases (eqb c 68) (eqb c 70 || (eqb c 73 || (eqb c 74 || (eqb c 83 || eqb c 90)))) h) [
+      | inl e ↦ (codes.Double, refl, eqb-true c 68 e)
+      | inr h ↦ elim (or_cases (eqb c 70) (eqb c 73 || (eqb c 74 || (eqb c 83 || eqb c 90))) h) [
+        | inl e ↦ (codes.Float, refl, eqb-true c 70 e)
+        | inr h ↦ elim (or_cases (eqb c 73) (eqb c 74 || (eqb c 83 || eqb c 90)) h) [
+          | inl e ↦ (codes.Int, refl, eqb-true c 73 e)
+          | inr h ↦ elim (or_cases (eqb c 74) (eqb c 83 || eqb c 90) h) [
+            | inl e ↦ (codes.Long, refl, eqb-true c 74 e)
+            | inr h ↦ elim (or_cases (eqb c 83) (eqb c 90) h) [
+              | inl e ↦ (codes.Short, refl, eqb-true c 83 e)
+              | inr h ↦ (codes.Boolean, refl, eqb-true c 90 h)
             ]
           ]
         ]
@@ -82,26 +74,26 @@ letter_code c h = elim (either (eqb c 66) (eqb c 67 || (eqb c 68 || (eqb c 70 ||
 ]
 
 code_letter : (code : TypeCode) → is_primitive code ≡ true → is_letter (letter code) ≡ true
-code_letter codes.B h = refl
-code_letter codes.C h = refl
-code_letter codes.D h = refl
-code_letter codes.F h = refl
-code_letter codes.I h = refl
-code_letter codes.J h = refl
-code_letter codes.S h = refl
-code_letter codes.Z h = refl
+code_letter codes.Byte h = refl
+code_letter codes.Char h = refl
+code_letter codes.Double h = refl
+code_letter codes.Float h = refl
+code_letter codes.Int h = refl
+code_letter codes.Long h = refl
+code_letter codes.Short h = refl
+code_letter codes.Boolean h = refl
 code_letter codes.Array h = absurd cc
 code_letter codes.Object h = absurd cc
 
 code_plain : (code : TypeCode) → is_primitive code ≡ true → (eqb (letter code) 91 ≡ false) × (eqb (letter code) 76 ≡ false)
-code_plain codes.B h = (refl, refl)
-code_plain codes.C h = (refl, refl)
-code_plain codes.D h = (refl, refl)
-code_plain codes.F h = (refl, refl)
-code_plain codes.I h = (refl, refl)
-code_plain codes.J h = (refl, refl)
-code_plain codes.S h = (refl, refl)
-code_plain codes.Z h = (refl, refl)
+code_plain codes.Byte h = (refl, refl)
+code_plain codes.Char h = (refl, refl)
+code_plain codes.Double h = (refl, refl)
+code_plain codes.Float h = (refl, refl)
+code_plain codes.Int h = (refl, refl)
+code_plain codes.Long h = (refl, refl)
+code_plain codes.Short h = (refl, refl)
+code_plain codes.Boolean h = (refl, refl)
 code_plain codes.Array h = absurd cc
 code_plain codes.Object h = absurd cc
 
@@ -120,7 +112,7 @@ element_text (c ∷ t) h = go (λ f. element_text t f) (eqb c 91) refl h
       where
         inner : (b : Bool) → eqb c 76 ≡ b → cond b (is_class_text (c ∷ t)) (is_letter c && is_nil t) ≡ true → IsComponentText (c ∷ t)
         inner true e h = inr (inl (class_text (c ∷ t) h))
-        inner false e h = let p = both (is_letter c) (is_nil t) h in let l = letter_code c p.0 in inr (inr (l.0, l.1, ap (λ (x : ℕ). x ∷ t) l.2 ∙ ap (λ (s : List ℕ). letter l.0 ∷ s) (nil_is t p.1)))
+        inner false e h = let p = and_parts (is_letter c) (is_nil t) h in let l = letter_code c p.0 in inr (inr (l.0, l.1, ap (λ (x : ℕ). x ∷ t) l.2 ∙ ap (λ (s : List ℕ). letter l.0 ∷ s) (nil_is t p.1)))
 
 primitive_text : (code : TypeCode) → is_primitive code ≡ true → is_component_text (letter code ∷ []) ≡ true
 unfolding is_component_text
@@ -146,7 +138,7 @@ element_text_of (c ∷ t) h = elim h [
 pub array_text : (t : List ℕ) → is_array_text t ≡ true → IsArrayText t
 unfolding is_array_text
 array_text [] h = absurd cc
-array_text (c ∷ t) h = let p = both (eqb c 91) (is_component_text t) h in (eqb-true c 91 p.0, element_text t p.1)
+array_text (c ∷ t) h = let p = and_parts (eqb c 91) (is_component_text t) h in (eqb-true c 91 p.0, element_text t p.1)
 
 pub array_text_of : (t : List ℕ) → IsArrayText t → is_array_text t ≡ true
 unfolding is_array_text
@@ -164,14 +156,14 @@ component_code d t h = elim h [
 ]
 
 letter_known : (code : TypeCode) → is_some (code_of (letter code)) ≡ true
-letter_known codes.B = refl
-letter_known codes.C = refl
-letter_known codes.D = refl
-letter_known codes.F = refl
-letter_known codes.I = refl
-letter_known codes.J = refl
-letter_known codes.S = refl
-letter_known codes.Z = refl
+letter_known codes.Byte = refl
+letter_known codes.Char = refl
+letter_known codes.Double = refl
+letter_known codes.Float = refl
+letter_known codes.Int = refl
+letter_known codes.Long = refl
+letter_known codes.Short = refl
+letter_known codes.Boolean = refl
 letter_known codes.Array = refl
 letter_known codes.Object = refl
 
@@ -193,26 +185,26 @@ is_some-element_of (c ∷ d ∷ t) = go (is_array_text (c ∷ d ∷ t)) refl
 pub fits : (code : TypeCode) (t : List ℕ) → fits_text code t ≡ true → HasTypeText code t
 fits codes.Array t h = array_text t (sym (is_some-element_of t) ∙ h)
 fits codes.Object t h = class_text t h
-fits codes.B t h = absurd cc
-fits codes.C t h = absurd cc
-fits codes.D t h = absurd cc
-fits codes.F t h = absurd cc
-fits codes.I t h = absurd cc
-fits codes.J t h = absurd cc
-fits codes.S t h = absurd cc
-fits codes.Z t h = absurd cc
+fits codes.Byte t h = absurd cc
+fits codes.Char t h = absurd cc
+fits codes.Double t h = absurd cc
+fits codes.Float t h = absurd cc
+fits codes.Int t h = absurd cc
+fits codes.Long t h = absurd cc
+fits codes.Short t h = absurd cc
+fits codes.Boolean t h = absurd cc
 
 pub fits_of : (code : TypeCode) (t : List ℕ) → HasTypeText code t → fits_text code t ≡ true
 fits_of codes.Array t h = is_some-element_of t ∙ array_text_of t h
 fits_of codes.Object t h = class_text_of t h
-fits_of codes.B t h = absurd h
-fits_of codes.C t h = absurd h
-fits_of codes.D t h = absurd h
-fits_of codes.F t h = absurd h
-fits_of codes.I t h = absurd h
-fits_of codes.J t h = absurd h
-fits_of codes.S t h = absurd h
-fits_of codes.Z t h = absurd h
+fits_of codes.Byte t h = absurd h
+fits_of codes.Char t h = absurd h
+fits_of codes.Double t h = absurd h
+fits_of codes.Float t h = absurd h
+fits_of codes.Int t h = absurd h
+fits_of codes.Long t h = absurd h
+fits_of codes.Short t h = absurd h
+fits_of codes.Boolean t h = absurd h
 
 -- ---- what the tests answer
 

@@ -1,7 +1,7 @@
 -- The types of fields and of elements (Java Object Serialization Specification, 6.4.2).
 use Rattle.std.specs.Prelude.{ℕ, Bool, true, false}
 use Rattle.class_desc.specs.declared.field.TypeCode.{TypeCode}
-use Rattle.class_desc.specs.declared.field.TypeCode.TheVariants.{B, C, D, F, I, J, S, Z, Array, Object}
+use Rattle.class_desc.specs.declared.field.TypeCode.TheVariants.{Byte, Char, Double, Float, Int, Long, Short, Boolean, Array, Object}
 
 -- A value of the type is no reference.
 abbrev pub is_primitive : TypeCode → Bool
@@ -11,13 +11,13 @@ is_primitive _ = true
 
 -- The ASCII letter that stands for a type; '[' stands for arrays and 'L' for classes.
 abbrev pub letter : TypeCode → ℕ
-letter B = 0x42
-letter C = 0x43
-letter D = 0x44
-letter F = 0x46
-letter I = 0x49
-letter J = 0x4A
-letter S = 0x53
-letter Z = 0x5A
+letter Byte = 0x42
+letter Char = 0x43
+letter Double = 0x44
+letter Float = 0x46
+letter Int = 0x49
+letter Long = 0x4A
+letter Short = 0x53
+letter Boolean = 0x5A
 letter Array = 0x5B
 letter Object = 0x4C

@@ -65,14 +65,14 @@ is_array_text (c ∷ t) = nat_eq c 0x5B && is_component_text t
 -- the type that a letter stands for
 abbrev pub code_of : ℕ → Option TypeCode
 code_of c =
-    if nat_eq c 0x42 then Some codes.B else
-    (if nat_eq c 0x43 then Some codes.C else
-    (if nat_eq c 0x44 then Some codes.D else
-    (if nat_eq c 0x46 then Some codes.F else
-    (if nat_eq c 0x49 then Some codes.I else
-    (if nat_eq c 0x4A then Some codes.J else
-    (if nat_eq c 0x53 then Some codes.S else
-    (if nat_eq c 0x5A then Some codes.Z else
+    if nat_eq c 0x42 then Some codes.Byte else
+    (if nat_eq c 0x43 then Some codes.Char else
+    (if nat_eq c 0x44 then Some codes.Double else
+    (if nat_eq c 0x46 then Some codes.Float else
+    (if nat_eq c 0x49 then Some codes.Int else
+    (if nat_eq c 0x4A then Some codes.Long else
+    (if nat_eq c 0x53 then Some codes.Short else
+    (if nat_eq c 0x5A then Some codes.Boolean else
     (if nat_eq c 0x5B then Some codes.Array else
     (if nat_eq c 0x4C then Some codes.Object else None)))))))))
 

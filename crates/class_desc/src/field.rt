@@ -9,21 +9,21 @@ use sequence::{Sequence, Units};
 #[derive(Clone, Copy, Debug, PartialEq, Eq)]
 pub enum TypeCode {
     /// `byte`.
-    B,
+    Byte,
     /// `char`.
-    C,
+    Char,
     /// `double`.
-    D,
+    Double,
     /// `float`.
-    F,
+    Float,
     /// `int`.
-    I,
+    Int,
     /// `long`.
-    J,
+    Long,
     /// `short`.
-    S,
+    Short,
     /// `boolean`.
-    Z,
+    Boolean,
     /// An array, `[`.
     Array,
     /// A class or an interface, `L`.

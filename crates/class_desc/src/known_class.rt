@@ -1,6 +1,6 @@
 //! The classes that Java's remote method invocation itself sends.
 ghost use Rattle.std.specs.Prelude.{◌≡◌, ◌++◌, ◌∷◌, [], IfOk, OnOk};
-ghost use Rattle.class_desc.specs.KnownClass.{parts_of, plain, typed};
+ghost use Rattle.class_desc.specs.KnownClass.{parts_of, plain_field, typed_field};
 
 use crate::desc::{SERIALIZABLE, WRITE_METHOD};
 use crate::field::TypeCode;
@@ -83,7 +83,7 @@ fn put_field(
     name: &str,
     type_text: &str,
 ) -> Result<(), AllocError>
-    ensures { OnOk result (fields.new ≡ fields.old ++ typed code name.now type_text.now ∷ []) }
+    ensures { OnOk result (fields.new ≡ fields.old ++ typed_field code name.now type_text.now ∷ []) }
 {
     fields.push(PartField {
         code,
@@ -151,7 +151,7 @@ fn put_plain(
     code: TypeCode,
     name: &str,
 ) -> Result<(), AllocError>
-    ensures { OnOk result (fields.new ≡ fields.old ++ plain code name.now ∷ []) }
+    ensures { OnOk result (fields.new ≡ fields.old ++ plain_field code name.now ∷ []) }
 {
     put_field(alloc, fields, code, name, "")
 }
@@ -163,7 +163,7 @@ fn put_object(
     name: &str,
     type_text: &str,
 ) -> Result<(), AllocError>
-    ensures { OnOk result (fields.new ≡ fields.old ++ typed TypeCode.Object name.now type_text.now ∷ []) }
+    ensures { OnOk result (fields.new ≡ fields.old ++ typed_field TypeCode.Object name.now type_text.now ∷ []) }
 {
     put_field(alloc, fields, TypeCode::Object, name, type_text)
 }
@@ -174,20 +174,20 @@ fn put_fields(alloc: Global, fields: &mut PartFields, which: KnownClass) -> Resu
 {
     match which {
         KnownClass::ObjId => {
-            put_plain(alloc, fields, TypeCode::J, "objNum")?;
+            put_plain(alloc, fields, TypeCode::Long, "objNum")?;
             put_object(alloc, fields, "space", "Ljava/rmi/server/UID;")
         }
         KnownClass::Uid => {
-            put_plain(alloc, fields, TypeCode::S, "count")?;
-            put_plain(alloc, fields, TypeCode::J, "time")?;
-            put_plain(alloc, fields, TypeCode::I, "unique")
+            put_plain(alloc, fields, TypeCode::Short, "count")?;
+            put_plain(alloc, fields, TypeCode::Long, "time")?;
+            put_plain(alloc, fields, TypeCode::Int, "unique")
         }
         KnownClass::Vmid => {
             put_field(alloc, fields, TypeCode::Array, "addr", "[B")?;
             put_object(alloc, fields, "uid", "Ljava/rmi/server/UID;")
         }
         KnownClass::Lease => {
-            put_plain(alloc, fields, TypeCode::J, "value")?;
+            put_plain(alloc, fields, TypeCode::Long, "value")?;
             put_object(alloc, fields, "vmid", "Ljava/rmi/dgc/VMID;")
         }
         KnownClass::Proxy => {

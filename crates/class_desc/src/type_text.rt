@@ -71,14 +71,14 @@ fn code_of(unit: u16) -> Option<TypeCode>
     ensures none { IfNone result ((code : TypeCode) → ¬ (unit ≡ letter code)) }
 {
     match unit {
-        0x42 => Some(TypeCode::B),
-        0x43 => Some(TypeCode::C),
-        0x44 => Some(TypeCode::D),
-        0x46 => Some(TypeCode::F),
-        0x49 => Some(TypeCode::I),
-        0x4A => Some(TypeCode::J),
-        0x53 => Some(TypeCode::S),
-        0x5A => Some(TypeCode::Z),
+        0x42 => Some(TypeCode::Byte),
+        0x43 => Some(TypeCode::Char),
+        0x44 => Some(TypeCode::Double),
+        0x46 => Some(TypeCode::Float),
+        0x49 => Some(TypeCode::Int),
+        0x4A => Some(TypeCode::Long),
+        0x53 => Some(TypeCode::Short),
+        0x5A => Some(TypeCode::Boolean),
         0x5B => Some(TypeCode::Array),
         0x4C => Some(TypeCode::Object),
         _ => None,
@@ -131,14 +131,14 @@ impl TypeCode {
         ensures { result ≡ letter self }
     {
         match self {
-            TypeCode::B => 0x42,
-            TypeCode::C => 0x43,
-            TypeCode::D => 0x44,
-            TypeCode::F => 0x46,
-            TypeCode::I => 0x49,
-            TypeCode::J => 0x4A,
-            TypeCode::S => 0x53,
-            TypeCode::Z => 0x5A,
+            TypeCode::Byte => 0x42,
+            TypeCode::Char => 0x43,
+            TypeCode::Double => 0x44,
+            TypeCode::Float => 0x46,
+            TypeCode::Int => 0x49,
+            TypeCode::Long => 0x4A,
+            TypeCode::Short => 0x53,
+            TypeCode::Boolean => 0x5A,
             TypeCode::Array => 0x5B,
             TypeCode::Object => 0x4C,
         }

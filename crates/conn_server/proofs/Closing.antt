@@ -4,7 +4,7 @@ use Rattle.std.specs.Prelude.{Contains}
 use Rattle.std.proofs.Math.Seq.{drop-append_seam}
 use Rattle.wire_io.specs.Links.{Accepted}
 use Rattle.history.specs.declared.asks.SpaceConfig.{SpaceConfig}
-use Rattle.space.specs.Balance.{WentAmong}
+use Rattle.ports.specs.Balance.{WentAmong}
 use Rattle.space.specs.Built.{SpaceHistory}
 use Rattle.space.specs.declared.asked.Asked.{Asked}
 use Rattle.turn_lock.specs.Answers.{events_of}
@@ -14,39 +14,39 @@ use Rattle.turn_lock.specs.declared.handles.TurnLock.{TurnLock}
 use Rattle.turn_lock.specs.declared.view.View.{View}
 use Rattle.conn_server.specs.Accepts.{shown_all}
 use Rattle.conn_server.specs.Joins.{IsJoined}
-use Rattle.conn_server.specs.Made.{shown_guest}
+use Rattle.conn_server.specs.Made.{shown_admitted}
 use Rattle.conn_server.specs.Reports.{AreTurnsOf, IsKnown, IsAllJoined, IsReportOf, events_after}
 use Rattle.conn_server.specs.Rows.{Paired}
-use Rattle.conn_server.specs.Starts.{job_of}
-use Rattle.conn_server.specs.declared.jobs.Guest.{Guest}
-use Rattle.conn_server.specs.declared.jobs.LinkReport.{LinkReport}
+use Rattle.conn_server.specs.Starts.{task_of}
+use Rattle.conn_server.specs.declared.link_task.AdmittedLink.{AdmittedLink}
+use Rattle.conn_server.specs.declared.link_task.LinkReport.{LinkReport}
 use Rattle.conn_server.specs.declared.server.AllJoined.{AllJoined}
-use Rattle.conn_server.specs.declared.started.Started.{Started}
+use Rattle.conn_server.specs.declared.link_thread.StartedLink.{StartedLink}
 use Rattle.conn_server.proofs.Histories.{starts_on, others_by, went_before, turns_closed}
 use Rattle.conn_server.proofs.Rows.{paired_map}
 
 module _ {I O T H : Type 0} (IsLink : ℕ → Accepted × Asked → LinkReport I O T H → Type 0) (lock : TurnLock) where
-  module _ (left : I → Option (List ℕ)) (held : O → Option (List ℕ)) (given : T → Option (List ℕ)) (Talked : Guest I O T H → LinkReport I O T H → Type 0) (Made : ℕ → Guest I O T H → Type 0) (calls : H → ℕ)
-      (link : (k : ℕ) (g : Guest I O T H) (r : LinkReport I O T H) → Made k g → Talked g r → r.by ≡ k → IsLink k (shown_guest left held given g) r) where
+  module _ (left : I → Option (List ℕ)) (held : O → Option (List ℕ)) (given : T → Option (List ℕ)) (Talked : AdmittedLink I O T H → LinkReport I O T H → Type 0) (Made : ℕ → AdmittedLink I O T H → Type 0) (calls : H → ℕ)
+      (link : (k : ℕ) (g : AdmittedLink I O T H) (r : LinkReport I O T H) → Made k g → Talked g r → r.by ≡ k → IsLink k (shown_admitted left held given g) r) where
     -- What the pass of a link that was begun had seen was the opening, and other connections' events.
-    joined_known : (v : View) (k : ℕ) (s : Started I O T H) (r : LinkReport I O T H) → IsJoined Talked Made calls lock v k s r
-        → IsKnown IsLink (opening_of lock) v k (shown_guest left held given (job_of s).guest) r
+    joined_known : (v : View) (k : ℕ) (s : StartedLink I O T H) (r : LinkReport I O T H) → IsJoined Talked Made calls lock v k s r
+        → IsKnown IsLink (opening_of lock) v k (shown_admitted left held given (task_of s).admitted) r
     joined_known v k s r j =
-        let p = view_of (job_of s).pass in
-        let pass = j.job.can.own.0 in
+        let p = view_of (task_of s).pass in
+        let pass = j.task.can.own.0 in
         let order = pass.ordered in
-        let number = j.job.number in
-        let none : events_by k order.tail ≡ [] = subst (λ (n : ℕ). events_by n order.tail ≡ []) number (order.own ∙ j.job.own) in
+        let number = j.task.number in
+        let none : events_by k order.tail ≡ [] = subst (λ (n : ℕ). events_by n order.tail ≡ []) number (order.own ∙ j.task.own) in
         let there = subst (λ (x : SpaceConfig × ℕ × Events). WentAmong x.0 x.1 x.2 r.asked j.ended.last) (λ i. (pass.configured i, number i, order.begins i)) j.ended.went in
         record {
-          link = link k (job_of s).guest r j.job.made j.ended.talked (j.ended.by ∙ j.job.by);
-          listed = subst (λ (x : ℕ × Events). Contains v.ended (x.0, x.1 ++ events_of x.0 r.asked)) (λ i. (number i, j.job.own i)) j.ended.listed;
+          link = link k (task_of s).admitted r j.task.made j.ended.talked (j.ended.by ∙ j.task.by);
+          listed = subst (λ (x : ℕ × Events). Contains v.ended (x.0, x.1 ++ events_of x.0 r.asked)) (λ i. (number i, j.task.own i)) j.ended.listed;
           last = j.ended.last;
           went = went_before (opening_of lock).configuration k (opening_of lock).events order.tail j.ended.last r.asked (others_by k order.tail none) there;
           seen = j.ended.seen;
         }
 
-    pub paired_known : (v : View) (n : ℕ) (all : List (Started I O T H)) (reports : List (LinkReport I O T H)) → Paired (IsJoined Talked Made calls lock v) n all reports
+    pub paired_known : (v : View) (n : ℕ) (all : List (StartedLink I O T H)) (reports : List (LinkReport I O T H)) → Paired (IsJoined Talked Made calls lock v) n all reports
         → Paired (IsKnown IsLink (opening_of lock) v) n (shown_all left held given all) reports
     paired_known v n [] [] p = tt
     paired_known v n (s ∷ all) (r ∷ reports) p = (joined_known v n s r p.0, paired_known v (suc n) all reports p.1)

@@ -11,12 +11,12 @@ use denote.Struct.Declared.{shape}
 use denote.Struct.Field.{row_field}
 use denote.Struct.Tuple.{TupleAt, parts, type_at}
 use Rattle.std.proofs.Crossing.{crosses}
-use Rattle.call_dispatch.specs.contracts.book.Book as book
-use Rattle.call_dispatch.proofs.book.Book.TheSendSync as book_there
-use Rattle.call_dispatch.proofs.setup.Setup.TheSendSync as setup_there
-use Rattle.conn_server.specs.contracts.ended.EndedLinks as ended
-use Rattle.conn_server.proofs.ended.EndedLinks.TheSendSync as ended_there
-use Rattle.conn_server.specs.contracts.jobs.Job as job
+use Rattle.system_objects.specs.contracts.book.Book as book
+use Rattle.system_objects.proofs.book.Book.TheSendSync as book_there
+use Rattle.system_objects.proofs.setup.Setup.TheSendSync as setup_there
+use Rattle.conn_server.specs.contracts.ended_links.EndedLinks as ended
+use Rattle.conn_server.proofs.ended_links.EndedLinks.TheSendSync as ended_there
+use Rattle.conn_server.specs.contracts.link_task.LinkTask as task
 use Rattle.turn_lock.specs.contracts.handles.TurnLock as lock
 use Rattle.turn_lock.proofs.handles.TurnLock.TheSendSync as lock_there
 use Rattle.turn_lock.proofs.handles.Pass.TheSendSync as pass_there
@@ -30,8 +30,8 @@ lock_sync = lock_there.the_sync
 pub ended_sync : IsSync ended.the_row
 ended_sync = ended_there.the_sync
 
-pub job_send : (I O T H : RattleType) → IsSend I → IsSend O → IsSend T → IsSend H → IsSend (job.the_row I O T H)
-job_send I O T H i o t h = recorded_send (job.the_field I O T H).row _ _ (job.the_type I O T H).to_one (struct_send (shape (job.the_type I O T H))
+pub task_send : (I O T H : RattleType) → IsSend I → IsSend O → IsSend T → IsSend H → IsSend (task.the_row I O T H)
+task_send I O T H i o t h = recorded_send (task.the_field I O T H).row _ _ (task.the_type I O T H).to_one (struct_send (shape (task.the_type I O T H))
     (search sendable, (pass_there.the_field_send, (search (setup_there.the_field_send, i, o, t, h, sendable, crosses) depth 20, tt))))
 
 parts_send : (Ts : List RattleType) → AllSend Ts → FieldsHave IsSend (parts Ts)

@@ -3,7 +3,7 @@ use Rattle.std.proofs.Common.{◌≡◌, ℕ, List, [], ◌∷◌, ◌++◌, sym
 use Rattle.std.specs.Prelude.{Contains}
 use Rattle.std.proofs.lemmas.List.Elements.{Contains-append_left, Contains-append_right}
 use Rattle.space.specs.declared.asked.Asked.{Asked}
-use Rattle.call_dispatch.specs.declared.book.Kind.{Kind}
+use Rattle.system_objects.specs.declared.book.Kind.{Kind}
 use Rattle.turn_lock.specs.Answers.{Gained, events_of}
 use Rattle.turn_lock.specs.Handles.{view_of}
 use Rattle.turn_lock.specs.Rule.{Events, StartsWith, joined_of, left_of}
@@ -12,12 +12,12 @@ use Rattle.turn_lock.specs.declared.view.View.{View}
 use Rattle.conn_server.specs.Serves.{Serves}
 use Rattle.conn_server.specs.Starts.{IsEndOf, IsUnder}
 use Rattle.conn_server.specs.Views.{Grows, IsTicked, IsTicking}
-use Rattle.conn_server.specs.declared.jobs.Done.{Done}
-use Rattle.conn_server.specs.declared.jobs.Guest.{Guest}
-use Rattle.conn_server.specs.declared.jobs.Job.{Job}
-use Rattle.conn_server.specs.declared.jobs.LinkReport.{LinkReport}
-use Rattle.conn_server.specs.declared.started.Stage.{Stage}
-use Rattle.conn_server.specs.declared.started.Stage.TheVariants.{There, Here, Ended, Joining}
+use Rattle.conn_server.specs.declared.link_task.LinkDone.{LinkDone}
+use Rattle.conn_server.specs.declared.link_task.AdmittedLink.{AdmittedLink}
+use Rattle.conn_server.specs.declared.link_task.LinkTask.{LinkTask}
+use Rattle.conn_server.specs.declared.link_task.LinkReport.{LinkReport}
+use Rattle.conn_server.specs.declared.link_thread.LinkState.{LinkState}
+use Rattle.conn_server.specs.declared.link_thread.LinkState.TheVariants.{Running, ServedHere, Ended, Joining}
 use Rattle.conn_server.proofs.Histories.{starts_self, starts_on, went_events}
 
 pub grows_joined : (v w q : View) → w ≡ joined_of v q → StartsWith w.seen v.seen → Grows v w
@@ -63,10 +63,10 @@ ticked_grown v w ticks g t = record {
   seen = starts_on w.seen v.seen t.last g.seen t.seen;
 }
 
-module _ {I O T H : Type 0} (Talked : Guest I O T H → LinkReport I O T H → Type 0) where
-  pub ends_joined : (lock : TurnLock) (v w : View) (job : Job I O T H) (done : Done I O T H) → Serves Talked lock job done → w ≡ joined_of v (view_of done.pass)
-      → StartsWith w.seen (view_of done.pass).seen → IsEndOf Talked w job done.report
-  ends_joined lock v w job done serves is later =
+module _ {I O T H : Type 0} (Talked : AdmittedLink I O T H → LinkReport I O T H → Type 0) where
+  pub ends_joined : (lock : TurnLock) (v w : View) (task : LinkTask I O T H) (done : LinkDone I O T H) → Serves Talked lock task done → w ≡ joined_of v (view_of done.pass)
+      → StartsWith w.seen (view_of done.pass).seen → IsEndOf Talked w task done.report
+  ends_joined lock v w task done serves is later =
       let went = serves.went.views in
       let q = view_of done.pass in
       let ended : w.ended ≡ v.ended ++ (q.number, q.own) ∷ [] = ap (λ (y : View). y.ended) is in
@@ -81,10 +81,10 @@ module _ {I O T H : Type 0} (Talked : Guest I O T H → LinkReport I O T H → T
       }
 
   -- It stays so as the root sees more.
-  pub ends_later : (v w : View) (job : Job I O T H) (report : LinkReport I O T H) → Learns v w → IsEndOf Talked v job report → IsEndOf Talked w job report
-  ends_later v w job report learns e =
-      let n = (view_of job.pass).number in
-      let own = (view_of job.pass).own ++ events_of n report.asked in
+  pub ends_later : (v w : View) (task : LinkTask I O T H) (report : LinkReport I O T H) → Learns v w → IsEndOf Talked v task report → IsEndOf Talked w task report
+  ends_later v w task report learns e =
+      let n = (view_of task.pass).number in
+      let own = (view_of task.pass).own ++ events_of n report.asked in
       record {
         by = e.by;
         talked = e.talked;
@@ -94,8 +94,8 @@ module _ {I O T H : Type 0} (Talked : Guest I O T H → LinkReport I O T H → T
         seen = starts_on w.seen v.seen e.last learns.seen e.seen;
       }
 
-  pub under_later : (lock : TurnLock) (kinds : List Kind) (v w : View) (job : Job I O T H) (stage : Stage I O T H) → Learns v w → IsUnder Talked lock kinds v job stage → IsUnder Talked lock kinds w job stage
-  under_later lock kinds v w job (There child) learns is = is
-  under_later lock kinds v w job (Here done) learns is = is
-  under_later lock kinds v w job (Ended report) learns is = ends_later v w job report learns is
-  under_later lock kinds v w job Joining learns is = is
+  pub under_later : (lock : TurnLock) (kinds : List Kind) (v w : View) (task : LinkTask I O T H) (link_state : LinkState I O T H) → Learns v w → IsUnder Talked lock kinds v task link_state → IsUnder Talked lock kinds w task link_state
+  under_later lock kinds v w task (Running child) learns is = is
+  under_later lock kinds v w task (ServedHere done) learns is = is
+  under_later lock kinds v w task (Ended report) learns is = ends_later v w task report learns is
+  under_later lock kinds v w task Joining learns is = is

@@ -8,10 +8,10 @@ use Rattle.history.specs.declared.asks.SpaceConfig.{SpaceConfig}
 use Rattle.history.specs.Steps.{turn_of}
 use Rattle.history.proofs.CollectorLaws.{collects-after}
 use Rattle.space.specs.Acts.{event_of}
-use Rattle.space.specs.Balance.{AreOfOthers, WentAmong}
+use Rattle.ports.specs.Balance.{AreOfOthers, WentAmong}
 use Rattle.space.specs.Built.{SpaceHistory}
-use Rattle.space.specs.Lists.{CollectsEach}
-use Rattle.space.specs.Ports.{GoesBy}
+use Rattle.space.specs.EventLists.{CollectsEach}
+use Rattle.ports.specs.Ports.{GoesBy}
 use Rattle.space.specs.declared.asked.Asked.{Asked}
 use Rattle.space.specs.declared.asked.AskedEnd.{AskedEnd}
 use Rattle.space.specs.declared.asked.AskedEnd.TheVariants.{Turned, Abandoned, Refused as Denied}

@@ -2,27 +2,27 @@
 use Rattle.std.proofs.Common.{◌≡◌, ℕ, List, subst}
 use Rattle.std.specs.Prelude.{Option}
 use Rattle.call_dispatch.specs.Acts.{Call, States}
-use Rattle.call_dispatch.specs.Terms.{Terms}
-use Rattle.call_dispatch.specs.declared.book.Kind.{Kind}
+use Rattle.system_objects.specs.Terms.{Terms}
+use Rattle.system_objects.specs.declared.book.Kind.{Kind}
 use Rattle.call_dispatch.specs.declared.outcome.Invocation.{Invocation}
 use Rattle.call_dispatch.specs.declared.outcome.Outcome.{Outcome}
-use Rattle.conn_server.specs.Made.{IsMadeFor, shown_guest}
+use Rattle.conn_server.specs.Made.{IsMadeFor, shown_admitted}
 use Rattle.conn_server.specs.Reports.{IsLinkOf}
 use Rattle.conn_server.specs.Talks.{Talks, TalksOver, first_spot}
-use Rattle.conn_server.specs.declared.jobs.Guest.{Guest}
-use Rattle.conn_server.specs.declared.jobs.LinkReport.{LinkReport}
+use Rattle.conn_server.specs.declared.link_task.AdmittedLink.{AdmittedLink}
+use Rattle.conn_server.specs.declared.link_task.LinkReport.{LinkReport}
 use Rattle.conn_server.specs.declared.plan.ServePlan.{ServePlan}
 
 pub link_of : {I O T H : Type 0} (left : I → Option (List ℕ)) (held : O → Option (List ℕ)) (given : T → Option (List ℕ)) (calls : H → ℕ) (seen : H → Option (List Call)) (state : H → Option States)
-    (may : Invocation → Outcome → Type 0) (moves : States → Call → States → Type 0) (kinds : List Kind) (plan : ServePlan) (k : ℕ) (guest : Guest I O T H) (report : LinkReport I O T H)
-    → IsMadeFor left held given seen state moves plan k guest → TalksOver left held given calls seen state may moves kinds guest report → report.by ≡ k
-    → IsLinkOf left held given calls seen state may moves kinds plan k (shown_guest left held given guest) report
-link_of left held given calls seen state may moves kinds plan k guest report m talks by = record {
+    (may : Invocation → Outcome → Type 0) (moves : States → Call → States → Type 0) (kinds : List Kind) (plan : ServePlan) (k : ℕ) (admitted : AdmittedLink I O T H) (report : LinkReport I O T H)
+    → IsMadeFor left held given seen state moves plan k admitted → TalksOver left held given calls seen state may moves kinds admitted report → report.by ≡ k
+    → IsLinkOf left held given calls seen state may moves kinds plan k (shown_admitted left held given admitted) report
+link_of left held given calls seen state may moves kinds plan k admitted report m talks by = record {
   by = by;
-  given_then = given guest.clock;
-  seen_then = seen guest.hand;
-  state_then = state guest.hand;
-  talks = subst (λ (x : Terms × Option (List ℕ) × Option (List ℕ)). Talks left held given calls seen state may moves x.0 (first_spot x.1 x.2 (given guest.clock) (seen guest.hand) (state guest.hand)) report)
+  given_then = given admitted.clock;
+  seen_then = seen admitted.hand;
+  state_then = state admitted.hand;
+  talks = subst (λ (x : Terms × Option (List ℕ) × Option (List ℕ)). Talks left held given calls seen state may moves x.0 (first_spot x.1 x.2 (given admitted.clock) (seen admitted.hand) (state admitted.hand)) report)
       (λ i. (m.terms kinds i, m.left_is i, m.held_is i)) talks;
   tick_asked = m.tick_asked;
   ticked = m.ticked;

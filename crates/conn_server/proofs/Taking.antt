@@ -1,9 +1,9 @@
--- What is kept as links are taken in.
+-- What is kept as links are admitted.
 use Rattle.std.proofs.Common.{◌≡◌, ℕ, ◌+◌, ◌<◌, List, [], ◌∷◌, ◌++◌, length, sym, refl, ap, ◌∙◌, subst, arith, append-nil}
 use Rattle.std.specs.Prelude.{vec_len, vec_capacity}
 use Rattle.std.proofs.lemmas.List.Sums.{sum_by_push}
 use Rattle.history.specs.declared.asks.SpaceConfig.{SpaceConfig}
-use Rattle.space.specs.Balance.{WentAmong}
+use Rattle.ports.specs.Balance.{WentAmong}
 use Rattle.space.specs.declared.asked.Asked.{Asked}
 use Rattle.turn_lock.specs.Answers.{Gained, events_of}
 use Rattle.turn_lock.specs.Handles.{IsFresh, IsRootOf, opening_of, view_of}
@@ -12,17 +12,17 @@ use Rattle.turn_lock.specs.Rule.{Events, events_by, left_of, right_of, space_wit
 use Rattle.turn_lock.specs.declared.handles.Root.{Root}
 use Rattle.turn_lock.specs.declared.handles.TurnLock.{TurnLock}
 use Rattle.turn_lock.specs.declared.view.View.{View}
-use Rattle.call_dispatch.specs.declared.book.Kind.{Kind}
+use Rattle.system_objects.specs.declared.book.Kind.{Kind}
 use Rattle.conn_server.specs.Accepts.{IsAccepting, IsBegun, IsSame, open_all}
 use Rattle.conn_server.specs.Rows.{EachAt}
-use Rattle.conn_server.specs.Serves.{IsJob}
-use Rattle.conn_server.specs.Starts.{IsUnder, job_of, open_in}
+use Rattle.conn_server.specs.Serves.{IsLinkTask}
+use Rattle.conn_server.specs.Starts.{IsUnder, task_of, open_in}
 use Rattle.conn_server.specs.Views.{Grows, IsTicking}
-use Rattle.conn_server.specs.declared.accepting.Accepting.{Accepting}
-use Rattle.conn_server.specs.declared.jobs.Guest.{Guest}
-use Rattle.conn_server.specs.declared.jobs.Job.{Job}
-use Rattle.conn_server.specs.declared.jobs.LinkReport.{LinkReport}
-use Rattle.conn_server.specs.declared.started.Started.{Started}
+use Rattle.conn_server.specs.declared.admission.Accepting.{Accepting}
+use Rattle.conn_server.specs.declared.link_task.AdmittedLink.{AdmittedLink}
+use Rattle.conn_server.specs.declared.link_task.LinkTask.{LinkTask}
+use Rattle.conn_server.specs.declared.link_task.LinkReport.{LinkReport}
+use Rattle.conn_server.specs.declared.link_thread.StartedLink.{StartedLink}
 use Rattle.conn_server.proofs.Ending.{learns_gained, learns_left}
 use Rattle.conn_server.proofs.Histories.{turns_closed}
 use Rattle.conn_server.proofs.Joining.{each_later}
@@ -56,19 +56,19 @@ ticking_grown lock a b ticks was is g t =
       went = subst (λ (x : SpaceConfig × Events). WentAmong x.0 0 x.1 ticks w.seen) (λ i. (sym is.pass_is.configured i, sym is.pass_is.opened i)) all;
     }
 
-module _ {I O T H : Type 0} (Talked : Guest I O T H → LinkReport I O T H → Type 0) (Made : ℕ → Guest I O T H → Type 0) (calls : H → ℕ) (lock : TurnLock) (kinds : List Kind) where
+module _ {I O T H : Type 0} (Talked : AdmittedLink I O T H → LinkReport I O T H → Type 0) (Made : ℕ → AdmittedLink I O T H → Type 0) (calls : H → ℕ) (lock : TurnLock) (kinds : List Kind) where
   -- At first there is no link.
   pub first_accepting : (a : Accepting I O T H) → IsFresh lock a.root → a.started.items ≡ [] → a.reports.items ≡ [] → a.ticks.items ≡ [] → IsAccepting Talked Made calls lock kinds a
   first_accepting a fresh no_link no_report no_tick =
       let zero : vec_len a.started ≡ 0 = a.started.ok.0 ∙ ap length no_link in
       record {
         own = fresh.own;
-        out = fresh.none_out ∙ sym (ap (λ (l : List (Started I O T H)). open_all l) no_link);
+        out = fresh.none_out ∙ sym (ap (λ (l : List (StartedLink I O T H)). open_all l) no_link);
         made = sym fresh.own.made_are ∙ (ap (λ (y : View). y.made) fresh.knows ∙ sym zero);
         ticked = subst (λ (x : View × List Asked). IsTicking x.0 x.1) (λ i. (sym fresh.knows i, sym no_tick i)) (record { number = refl; own = refl; went = ([], tt, sym (append-nil _)) });
         empty = no_report;
         room = omega (arith, zero);
-        links = subst (λ (l : List (Started I O T H)). EachAt (IsBegun Talked Made calls lock kinds (view_of a.root.pass)) 1 l) (sym no_link) tt;
+        links = subst (λ (l : List (StartedLink I O T H)). EachAt (IsBegun Talked Made calls lock kinds (view_of a.root.pass)) 1 l) (sym no_link) tt;
       }
 
   pub same_accepting : (a b : Accepting I O T H) → IsSame a b → IsAccepting Talked Made calls lock kinds a → IsAccepting Talked Made calls lock kinds b
@@ -76,12 +76,12 @@ module _ {I O T H : Type 0} (Talked : Guest I O T H → LinkReport I O T H → T
       let n = same.count in let room = is.room in let more = same.room in
       record {
         own = subst (λ (r : Root). IsRootOf lock r) (sym same.root) is.own;
-        out = ap (λ (r : Root). r.out) same.root ∙ (is.out ∙ ap (λ (l : List (Started I O T H)). open_all l) (sym same.started));
+        out = ap (λ (r : Root). r.out) same.root ∙ (is.out ∙ ap (λ (l : List (StartedLink I O T H)). open_all l) (sym same.started));
         made = ap (λ (r : Root). r.made) same.root ∙ (is.made ∙ sym same.count);
         ticked = subst (λ (x : Root × List Asked). IsTicking (view_of x.0.pass) x.1) (λ i. (sym same.root i, sym same.ticks i)) is.ticked;
         empty = same.reports ∙ is.empty;
         room = omega (arith, n, room, more);
-        links = subst (λ (x : Root × List (Started I O T H)). EachAt (IsBegun Talked Made calls lock kinds (view_of x.0.pass)) 1 x.1) (λ i. (sym same.root i, sym same.started i)) is.links;
+        links = subst (λ (x : Root × List (StartedLink I O T H)). EachAt (IsBegun Talked Made calls lock kinds (view_of x.0.pass)) 1 x.1) (λ i. (sym same.root i, sym same.started i)) is.links;
       }
 
   pub tick_accepting : (a b : Accepting I O T H) (more : List Asked) → IsAccepting Talked Made calls lock kinds a → IsRootOf lock b.root → b.root.made ≡ a.root.made → b.root.out ≡ a.root.out
@@ -95,33 +95,33 @@ module _ {I O T H : Type 0} (Talked : Guest I O T H → LinkReport I O T H → T
         ticked = subst (λ (l : List Asked). IsTicking (view_of b.root.pass) l) (sym ticks) (ticking_on (view_of a.root.pass) (view_of b.root.pass) a.ticks.items more is.ticked went);
         empty = ap (λ r. r.items) reports ∙ is.empty;
         room = omega (arith, n, n2, cap);
-        links = subst (λ (l : List (Started I O T H)). EachAt (IsBegun Talked Made calls lock kinds (view_of b.root.pass)) 1 l) (λ i. (sym started i).items)
+        links = subst (λ (l : List (StartedLink I O T H)). EachAt (IsBegun Talked Made calls lock kinds (view_of b.root.pass)) 1 l) (λ i. (sym started i).items)
             (each_later Talked Made calls lock kinds (view_of a.root.pass) (view_of b.root.pass) (learns_gained (view_of a.root.pass) (view_of b.root.pass) more went) 1 a.started.items is.links);
       }
 
-  pub link_accepting : (a b : Accepting I O T H) (job : Job I O T H) (x : Started I O T H) → IsAccepting Talked Made calls lock kinds a → IsRootOf lock b.root
-      → view_of job.pass ≡ right_of (view_of a.root.pass) → view_of b.root.pass ≡ left_of (view_of a.root.pass) → b.root.out ≡ a.root.out + 1 → b.root.made ≡ a.root.made + 1
-      → job.by ≡ vec_len a.started + 1 → IsJob calls lock job → Made (vec_len a.started + 1) job.guest → job_of x ≡ job → ((v : View) → IsUnder Talked lock kinds v (job_of x) x.stage) → open_in x.stage ≡ 1
+  pub link_accepting : (a b : Accepting I O T H) (task : LinkTask I O T H) (x : StartedLink I O T H) → IsAccepting Talked Made calls lock kinds a → IsRootOf lock b.root
+      → view_of task.pass ≡ right_of (view_of a.root.pass) → view_of b.root.pass ≡ left_of (view_of a.root.pass) → b.root.out ≡ a.root.out + 1 → b.root.made ≡ a.root.made + 1
+      → task.by ≡ vec_len a.started + 1 → IsLinkTask calls lock task → Made (vec_len a.started + 1) task.admitted → task_of x ≡ task → ((v : View) → IsUnder Talked lock kinds v (task_of x) x.link_state) → open_in x.link_state ≡ 1
       → b.started.items ≡ a.started.items ++ x ∷ [] → vec_len b.started ≡ vec_len a.started + 1 → vec_len a.started < vec_capacity b.reports → b.reports.items ≡ [] → b.ticks.items ≡ a.ticks.items → IsAccepting Talked Made calls lock kinds b
-  link_accepting a b job x is own right left out made by job_at for_it job_is stage one items count room empty ticks =
+  link_accepting a b task x is own right left out made by task_at for_it task_is link_state one items count room empty ticks =
       let v = view_of a.root.pass in
       let w = view_of b.root.pass in
       let was : v.made ≡ a.root.made = is.own.made_are in
       let n = is.made in
       let o = is.out in
-      let longer : open_all b.started.items ≡ open_all a.started.items + 1 = ap (λ (l : List (Started I O T H)). open_all l) items ∙ (sum_by_push (λ (s : Started I O T H). open_in s.stage) a.started.items x ∙ ap (λ n. open_all a.started.items + n) one) in
+      let longer : open_all b.started.items ≡ open_all a.started.items + 1 = ap (λ (l : List (StartedLink I O T H)). open_all l) items ∙ (sum_by_push (λ (s : StartedLink I O T H). open_in s.link_state) a.started.items x ∙ ap (λ n. open_all a.started.items + n) one) in
       let length_is : vec_len a.started ≡ length a.started.items = a.started.ok.0 in
-      let same : view_of (job_of x).pass ≡ right_of v = ap (λ (j : Job I O T H). view_of j.pass) job_is ∙ right in
+      let same : view_of (task_of x).pass ≡ right_of v = ap (λ (j : LinkTask I O T H). view_of j.pass) task_is ∙ right in
       let number : v.made + 1 ≡ length a.started.items + 1 = omega (arith, was, n, length_is) in
       let begun : IsBegun Talked Made calls lock kinds w (length a.started.items + 1) x = record {
-        job = record {
-          can = subst (λ (j : Job I O T H). IsJob calls lock j) (sym job_is) job_at;
-          made = subst (λ (y : ℕ × Job I O T H). Made (y.0 + 1) y.1.guest) (λ i. (length_is i, sym job_is i)) for_it;
-          by = ap (λ (j : Job I O T H). j.by) job_is ∙ (by ∙ ap (λ n. n + 1) length_is);
+        task = record {
+          can = subst (λ (j : LinkTask I O T H). IsLinkTask calls lock j) (sym task_is) task_at;
+          made = subst (λ (y : ℕ × LinkTask I O T H). Made (y.0 + 1) y.1.admitted) (λ i. (length_is i, sym task_is i)) for_it;
+          by = ap (λ (j : LinkTask I O T H). j.by) task_is ∙ (by ∙ ap (λ n. n + 1) length_is);
           number = ap (λ (y : View). y.number) same ∙ number;
           own = ap (λ (y : View). y.own) same;
         };
-        stage = stage w;
+        link_state = link_state w;
       } in
       record {
         own = own;
@@ -130,7 +130,7 @@ module _ {I O T H : Type 0} (Talked : Guest I O T H → LinkReport I O T H → T
         ticked = subst (λ (l : List Asked). IsTicking w l) (sym ticks) (ticking_left v w a.ticks.items left is.ticked);
         empty = empty;
         room = omega (arith, count, room);
-        links = subst (λ (l : List (Started I O T H)). EachAt (IsBegun Talked Made calls lock kinds w) 1 l) (sym items)
+        links = subst (λ (l : List (StartedLink I O T H)). EachAt (IsBegun Talked Made calls lock kinds w) 1 l) (sym items)
             (each_on (IsBegun Talked Made calls lock kinds w) 1 a.started.items x (each_later Talked Made calls lock kinds v w (learns_left v w left) 1 a.started.items is.links) begun);
       }
 

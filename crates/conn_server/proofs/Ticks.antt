@@ -8,7 +8,7 @@ use Rattle.history.specs.declared.replies.Refused.{Refused}
 use Rattle.history.specs.declared.replies.Refused.TheVariants.{HistoryFull, Full, OutOfMemory}
 use Rattle.history.specs.declared.replies.Turn.{Turn}
 use Rattle.space.specs.Entries.{entry_of}
-use Rattle.space.specs.Ports.{entries_of}
+use Rattle.ports.specs.Ports.{entries_of}
 use Rattle.space.specs.declared.asked.Asked.{Asked}
 use Rattle.call_dispatch.specs.Acts.{calls, unreferenced, tells_of}
 

@@ -5,17 +5,17 @@ use Rattle.space.specs.declared.asked.Asked.{Asked}
 use Rattle.turn_lock.specs.Handles.{IsRootOf, view_of}
 use Rattle.turn_lock.specs.declared.handles.TurnLock.{TurnLock}
 use Rattle.turn_lock.specs.declared.view.View.{View}
-use Rattle.call_dispatch.specs.declared.book.Kind.{Kind}
-use Rattle.conn_server.specs.Made.{shown_guest}
+use Rattle.system_objects.specs.declared.book.Kind.{Kind}
+use Rattle.conn_server.specs.Made.{shown_admitted}
 use Rattle.conn_server.specs.Rows.{EachAt}
-use Rattle.conn_server.specs.Serves.{IsGuest, IsJob}
-use Rattle.conn_server.specs.Starts.{IsUnder, job_of, open_in}
+use Rattle.conn_server.specs.Serves.{IsAdmittedLink, IsLinkTask}
+use Rattle.conn_server.specs.Starts.{IsUnder, task_of, open_in}
 use Rattle.conn_server.specs.Views.{IsTicking}
-use Rattle.conn_server.specs.declared.accepting.Accepting.{Accepting}
-use Rattle.conn_server.specs.declared.jobs.Guest.{Guest}
-use Rattle.conn_server.specs.declared.jobs.Job.{Job}
-use Rattle.conn_server.specs.declared.jobs.LinkReport.{LinkReport}
-use Rattle.conn_server.specs.declared.started.Started.{Started}
+use Rattle.conn_server.specs.declared.admission.Accepting.{Accepting}
+use Rattle.conn_server.specs.declared.link_task.AdmittedLink.{AdmittedLink}
+use Rattle.conn_server.specs.declared.link_task.LinkTask.{LinkTask}
+use Rattle.conn_server.specs.declared.link_task.LinkReport.{LinkReport}
+use Rattle.conn_server.specs.declared.link_thread.StartedLink.{StartedLink}
 use Rattle.conn_server.specs.declared.plan.TheConstants.{MAX_LINKS}
 
 -- What was told, and then these, where it is told.
@@ -23,22 +23,22 @@ abbrev pub with_all : {A : Type 0} → Option (List A) → List A → Option (Li
 with_all None more = None
 with_all (Some told) more = Some (told ++ more)
 
--- The job is made for the link of connection k, and could be done at the lock. Its pass has the connection's number, and had made no turn.
-pub record IsJobOf {I O T H : Type 0} (Made : ℕ → Guest I O T H → Type 0) (calls : H → ℕ) (lock : TurnLock) (k : ℕ) (job : Job I O T H) : Type 0 where
-  pub can : IsJob calls lock job
-  pub made : Made k job.guest
-  pub by : job.by ≡ k
-  pub number : (view_of job.pass).number ≡ k
-  pub own : (view_of job.pass).own ≡ []
+-- The task is made for the link of connection k, and could be done at the lock. Its pass has the connection's number, and had made no turn.
+pub record IsTaskOf {I O T H : Type 0} (Made : ℕ → AdmittedLink I O T H → Type 0) (calls : H → ℕ) (lock : TurnLock) (k : ℕ) (task : LinkTask I O T H) : Type 0 where
+  pub can : IsLinkTask calls lock task
+  pub made : Made k task.admitted
+  pub by : task.by ≡ k
+  pub number : (view_of task.pass).number ≡ k
+  pub own : (view_of task.pass).own ≡ []
 
 -- The link of connection k was begun at the lock, and maybe a root with the view v has taken its pass back.
-pub record IsBegun {I O T H : Type 0} (Talked : Guest I O T H → LinkReport I O T H → Type 0) (Made : ℕ → Guest I O T H → Type 0) (calls : H → ℕ) (lock : TurnLock) (kinds : List Kind) (v : View) (k : ℕ) (started : Started I O T H) : Type 0 where
-  pub job : IsJobOf Made calls lock k (job_of started)
-  pub stage : IsUnder Talked lock kinds v (job_of started) started.stage
+pub record IsBegun {I O T H : Type 0} (Talked : AdmittedLink I O T H → LinkReport I O T H → Type 0) (Made : ℕ → AdmittedLink I O T H → Type 0) (calls : H → ℕ) (lock : TurnLock) (kinds : List Kind) (v : View) (k : ℕ) (started : StartedLink I O T H) : Type 0 where
+  pub task : IsTaskOf Made calls lock k (task_of started)
+  pub link_state : IsUnder Talked lock kinds v (task_of started) started.link_state
 
 -- What the listener tells of these links, each with the entry of the server's turn before it.
-abbrev pub shown_all : {I O T H : Type 0} → (I → Option (List ℕ)) → (O → Option (List ℕ)) → (T → Option (List ℕ)) → List (Started I O T H) → List (Accepted × Asked)
-shown_all left held given all = map (λ s. shown_guest left held given (job_of s).guest) all
+abbrev pub shown_all : {I O T H : Type 0} → (I → Option (List ℕ)) → (O → Option (List ℕ)) → (T → Option (List ℕ)) → List (StartedLink I O T H) → List (Accepted × Asked)
+shown_all left held given all = map (λ s. shown_admitted left held given (task_of s).admitted) all
 
 -- The links alone.
 abbrev pub links_of : List (Accepted × Asked) → List Accepted
@@ -49,11 +49,11 @@ abbrev pub ticks_of : List (Accepted × Asked) → List Asked
 ticks_of all = map (λ p. p.1) all
 
 -- How many passes these links have that the root didn't get back.
-abbrev pub open_all : {I O T H : Type 0} → List (Started I O T H) → ℕ
-open_all all = sum_by (λ s. open_in s.stage) all
+abbrev pub open_all : {I O T H : Type 0} → List (StartedLink I O T H) → ℕ
+open_all all = sum_by (λ s. open_in s.link_state) all
 
 -- Every link was begun with its pass and has its place in the report, and the root made these turns of its own.
-pub record IsAccepting {I O T H : Type 0} (Talked : Guest I O T H → LinkReport I O T H → Type 0) (Made : ℕ → Guest I O T H → Type 0) (calls : H → ℕ) (lock : TurnLock) (kinds : List Kind) (a : Accepting I O T H) : Type 0 where
+pub record IsAccepting {I O T H : Type 0} (Talked : AdmittedLink I O T H → LinkReport I O T H → Type 0) (Made : ℕ → AdmittedLink I O T H → Type 0) (calls : H → ℕ) (lock : TurnLock) (kinds : List Kind) (a : Accepting I O T H) : Type 0 where
   pub own : IsRootOf lock a.root
   pub out : a.root.out ≡ open_all a.started.items
   pub made : a.root.made ≡ vec_len a.started
@@ -77,11 +77,11 @@ pub record HasRoom {I O T H : Type 0} (a : Accepting I O T H) : Type 0 where
   pub started : vec_len a.started < vec_capacity a.started
   pub reports : vec_len a.started < vec_capacity a.reports
 
--- The guest is the next link's, and there is room for the link.
-pub record IsNext {I O T H : Type 0} (Talked : Guest I O T H → LinkReport I O T H → Type 0) (Made : ℕ → Guest I O T H → Type 0) (calls : H → ℕ) (lock : TurnLock) (kinds : List Kind) (a : Accepting I O T H) (guest : Guest I O T H) : Type 0 where
+-- The admitted link is the next one, and there is room for the link.
+pub record IsNext {I O T H : Type 0} (Talked : AdmittedLink I O T H → LinkReport I O T H → Type 0) (Made : ℕ → AdmittedLink I O T H → Type 0) (calls : H → ℕ) (lock : TurnLock) (kinds : List Kind) (a : Accepting I O T H) (admitted : AdmittedLink I O T H) : Type 0 where
   pub accepting : IsAccepting Talked Made calls lock kinds a
   pub few : vec_len a.started < MAX_LINKS
-  pub can : IsGuest calls guest
-  pub made : Made (vec_len a.started + 1) guest
+  pub can : IsAdmittedLink calls admitted
+  pub made : Made (vec_len a.started + 1) admitted
   pub started : vec_len a.started < vec_capacity a.started
   pub reports : vec_len a.started < vec_capacity a.reports

@@ -3,7 +3,6 @@ pub mod Talks
 pub mod Serves
 pub mod Rows
 pub mod Views
-pub mod Hands
 pub mod Made
 pub mod Starts
 pub mod Accepts

@@ -1,9 +1,9 @@
 -- What a server tells each of its connections.
 use Rattle.std.specs.Prelude.{ℕ, ◌+◌, ◌%◌, ◌^◌, ℤ, pos, List, slice_index}
 use Rattle.std.specs.Int.{w32, w64, cast_signed, to_be_bytes}
-use Rattle.call_dispatch.specs.Terms.{Terms}
-use Rattle.call_dispatch.specs.declared.book.Kind.{Kind}
-use Rattle.call_dispatch.specs.declared.setup.TheConstants.{DRAWS_BEGIN_BELOW}
+use Rattle.system_objects.specs.Terms.{Terms}
+use Rattle.system_objects.specs.declared.book.Kind.{Kind}
+use Rattle.system_objects.specs.declared.setup.TheConstants.{DRAWS_BEGIN_BELOW}
 use Rattle.conn_server.specs.declared.plan.ServePlan.{ServePlan}
 
 -- The low 32 bits of a word, as a signed number.

@@ -1,10 +1,12 @@
 -- What is told of the links, over the history that was left.
-use Rattle.std.specs.Prelude.{◌≡◌, ℕ, List, [], ◌∷◌, length, drop, Contains, Option}
+use Rattle.std.specs.Prelude.{◌≡◌, ◌<◌, ℕ, List, [], ◌∷◌, ◌++◌, length, drop, Contains, Option}
 use Rattle.wire_io.specs.Links.{Accepted}
 use Rattle.wire_io.specs.Wire.{Gave}
+use Rattle.history.specs.Steps.{IsLegal}
 use Rattle.history.specs.declared.asks.Ask.TheVariants.{Tick}
-use Rattle.space.specs.Balance.{WentAmong}
+use Rattle.ports.specs.Balance.{WentAmong}
 use Rattle.space.specs.Built.{SpaceHistory}
+use Rattle.space.specs.EventLists.{CollectsEach}
 use Rattle.space.specs.declared.asked.Asked.{Asked}
 use Rattle.turn_lock.specs.Answers.{events_of}
 use Rattle.turn_lock.specs.Handles.{IsRootOf, opening_of, view_of}
@@ -12,18 +14,20 @@ use Rattle.turn_lock.specs.Rule.{Events, StartsWith, events_by}
 use Rattle.turn_lock.specs.declared.handles.TurnLock.{TurnLock}
 use Rattle.turn_lock.specs.declared.view.View.{View}
 use Rattle.call_dispatch.specs.Acts.{Call, States}
-use Rattle.call_dispatch.specs.declared.book.Kind.{Kind}
+use Rattle.system_objects.specs.declared.book.Kind.{Kind}
 use Rattle.call_dispatch.specs.declared.outcome.Invocation.{Invocation}
 use Rattle.call_dispatch.specs.declared.outcome.Outcome.{Outcome}
-use Rattle.conn_server.specs.Accepts.{ticks_of}
+use Rattle.conn_server.specs.Accepts.{links_of, ticks_of, with_all}
 use Rattle.conn_server.specs.Made.{WasTold}
 use Rattle.conn_server.specs.Plans.{link_terms}
 use Rattle.conn_server.specs.Rows.{Paired}
+use Rattle.conn_server.specs.Stops.{Stopped}
 use Rattle.conn_server.specs.Talks.{Talks, first_spot}
 use Rattle.conn_server.specs.Views.{IsTicked}
-use Rattle.conn_server.specs.declared.jobs.LinkReport.{LinkReport}
+use Rattle.conn_server.specs.declared.link_task.LinkReport.{LinkReport}
 use Rattle.conn_server.specs.declared.plan.ServePlan.{ServePlan}
 use Rattle.conn_server.specs.declared.server.AllJoined.{AllJoined}
+use Rattle.conn_server.specs.declared.server.Report.{Report}
 
 -- The events of connection k after the opening ones.
 abbrev pub events_after : SpaceHistory → ℕ → SpaceHistory → Events
@@ -70,3 +74,19 @@ pub record IsAllJoined {I O T H : Type 0} (IsLink : ℕ → Accepted × Asked �
   pub ticked : IsTicked (view_of o.root.pass) o.ticks.items
   pub tied : o.ticks.items ≡ ticks_of served
   pub links : Paired (IsKnown IsLink (opening_of lock) (view_of o.root.pass)) 1 served o.links.items
+
+-- Links were served over a space that was opened so, of which the listener tells these before and after. The one history that is left is legal and
+-- goes on from the opening, and at each of its events the collector kept what there was a reason to keep, and withdrew the rest. Each link that was
+-- accepted has its Tick and its report, but the one, if any, for which there was no memory; and there are no turns but these.
+pub record ServesLinks {I O T H : Type 0} (IsLink : ℕ → Accepted × Asked → LinkReport I O T H → Type 0) (opening : SpaceHistory) (count : ℕ) (accepted accepted_after : Option (List Accepted)) (report : Report I O T H) : Type 0 where
+  pub config : report.space.configuration ≡ opening.configuration
+  pub legal : IsLegal report.space.configuration report.space.events
+  pub begins : StartsWith report.space.events opening.events
+  pub collects : CollectsEach report.space.configuration [] report.space.events report.space.events
+  pub links : (served : List (Accepted × Asked)) × (lost : List Accepted)
+      × (accepted_after ≡ with_all accepted (links_of served ++ lost))
+      × (report.ticks ≡ ticks_of served)
+      × Paired (IsReportOf IsLink opening report.space) 1 served report.links
+      × Stopped report.stop count (length report.links) lost
+  pub ticks : AreTurnsOf opening 0 report.ticks report.space
+  pub others : (n : ℕ) → length report.links < n → events_after opening n report.space ≡ []

@@ -1,6 +1,6 @@
 -- What the root knows, as it accepts and as it joins.
 use Rattle.std.specs.Prelude.{◌≡◌, ℕ, List, ◌++◌}
-use Rattle.space.specs.Balance.{WentAmong}
+use Rattle.ports.specs.Balance.{WentAmong}
 use Rattle.space.specs.declared.asked.Asked.{Asked}
 use Rattle.turn_lock.specs.Answers.{events_of}
 use Rattle.turn_lock.specs.Rule.{Events, StartsWith}

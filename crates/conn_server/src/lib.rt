@@ -2,18 +2,16 @@
 //! what came of them.
 #![tactic(auto)]
 
-mod accepting;
-mod accepts;
-pub mod crew;
-mod ended;
-pub mod jobs;
+mod accept_loop;
+mod admission;
+mod ended_links;
+mod join;
+pub mod link_task;
+mod link_thread;
 pub mod plan;
 pub mod server;
-mod settling;
-mod started;
 
-pub use accepts::Stop;
-pub use crew::Crew;
-pub use jobs::{Done, Guest, Job, JobKept, LinkReport};
+pub use accept_loop::Stop;
+pub use link_task::{AdmittedLink, LinkDone, LinkReport, LinkTask, TaskPromise};
 pub use plan::ServePlan;
 pub use server::{AllJoined, LinkReports, Report, serve};

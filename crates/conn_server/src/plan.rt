@@ -2,9 +2,9 @@
 ghost use Rattle.std.specs.Prelude.{◌≡◌, ◌≤◌, ◌<◌, ◌%◌, pos, ◌<ℤ◌, length, List, IfOk};
 ghost use Rattle.mod_utf.specs.Utf.{utf};
 ghost use Rattle.wire_io.specs.declared.limits.TheConstants.{MAX_HOST_BYTES};
-ghost use Rattle.call_dispatch.specs.Terms.{terms_of};
-ghost use Rattle.call_dispatch.specs.declared.book.Kind.{Kind};
-ghost use Rattle.call_dispatch.specs.declared.setup.TheConstants.{DRAWS_BEGIN_BELOW};
+ghost use Rattle.system_objects.specs.Terms.{terms_of};
+ghost use Rattle.system_objects.specs.declared.book.Kind.{Kind};
+ghost use Rattle.system_objects.specs.declared.setup.TheConstants.{DRAWS_BEGIN_BELOW};
 ghost use Rattle.conn_server.specs.Plans.{low_signed, link_terms};
 
 use call_dispatch::{DRAWS_BEGIN_BELOW, Setup};

@@ -1,27 +1,22 @@
 //! The server.
-ghost use Rattle.std.specs.Prelude.{◌≡◌, ◌<◌, ◌≤◌, ℕ, List, [], ◌++◌, length};
+ghost use Rattle.std.specs.Prelude.{◌≡◌, ◌≤◌, List, ◌++◌, length};
 ghost use Rattle.mod_utf.specs.Utf.{utf};
 ghost use Rattle.wire_io.specs.Links.{Accepted};
 ghost use Rattle.wire_io.specs.Wire.{Rose};
 ghost use Rattle.wire_io.specs.declared.limits.TheConstants.{MAX_HOST_BYTES};
-ghost use Rattle.history.specs.Steps.{IsLegal};
-ghost use Rattle.space.specs.Lists.{CollectsEach};
 ghost use Rattle.space.specs.declared.asked.Asked.{Asked};
 ghost use Rattle.turn_lock.specs.Handles.{IsFresh, opening_of};
-ghost use Rattle.turn_lock.specs.Rule.{StartsWith};
-ghost use Rattle.conn_server.specs.Accepts.{links_of, ticks_of, with_all};
-ghost use Rattle.conn_server.specs.Reports.{AreTurnsOf, IsLinkOf, IsAllJoined, IsReportOf, events_after};
-ghost use Rattle.conn_server.specs.Rows.{Paired};
+ghost use Rattle.conn_server.specs.Accepts.{links_of, with_all};
+ghost use Rattle.conn_server.specs.Reports.{IsLinkOf, IsAllJoined, ServesLinks};
 ghost use Rattle.conn_server.specs.Stops.{Stopped};
 ghost use Rattle.conn_server.specs.declared.plan.TheConstants.{MAX_LINKS};
 
-use crate::accepting::Accepting;
-use crate::accepts::{Stop, accept_links, join_links};
-use crate::crew::Crew;
-use crate::ended::EndedLinks;
-use crate::jobs::LinkReport;
+use crate::accept_loop::{Stop, accept_links, join_links};
+use crate::admission::Accepting;
+use crate::ended_links::EndedLinks;
+use crate::link_task::LinkReport;
 use crate::plan::ServePlan;
-use call_dispatch::Book;
+use call_dispatch::{Book, Crew};
 use sequence::Sequence;
 use space::{Asked, AskedList, Space};
 use std::alloc::Global;
@@ -104,7 +99,7 @@ where
 /// Accepts the plan's count of links, serves each in a thread of its own as the connection of the next number, joins all threads and closes
 /// the lock. Before each link it makes a Tick as connection 0, at a moment of the link's clock, and tells the link's hand what is
 /// gone; a Tick that is refused HistoryFull is passed over. A link whose thread could not be started is served here. Both halves of a link
-/// are shut when its connection ends. Before a link is taken in, threads of links that have ended are joined. A listener that fails is asked again, as
+/// are shut when its connection ends. Before a link is admitted, threads of links that have ended are joined. A listener that fails is asked again, as
 /// long as a link is served, whose end gives back a descriptor and memory, and then a few times more.
 ///
 /// The stop is AcceptFault only where the listener's count of faults rose, and OutOfMemory where a hand, a Tick or the room of a report finds no
@@ -126,24 +121,11 @@ pub fn serve<R: Threads + Wait + Sync, L: Listener, G: Crew>(
     requires few { plan.now.count ≤ MAX_LINKS }
     requires host { length (utf plan.now.host) ≤ MAX_HOST_BYTES }
 
-    // The history that is left is legal and goes on from the lock's, and at each of its events the collector kept what there was a reason to
-    // keep, and withdrew the rest.
-    ensures config { result.space.configuration ≡ (opening_of lock).configuration }
-    ensures legal { IsLegal result.space.configuration result.space.events }
-    ensures begins { StartsWith result.space.events (opening_of lock).events }
-    ensures collects { CollectsEach result.space.configuration [] result.space.events result.space.events }
-
-    // The links that were accepted, in their order: those that were served, each with its Tick and its report, and maybe one for which there was
-    // no memory. Each report tells of the link's own bytes, calls and moments, and of its turns in the one history.
-    ensures links { (served : List (Accepted × Asked)) × (lost : List Accepted)
-        × (L.accepted listener.new ≡ with_all (L.accepted listener.old) (links_of served ++ lost))
-        × (result.ticks ≡ ticks_of served)
-        × Paired (IsReportOf (IsLinkOf L.In.left L.Out.held L.Ticks.given G.Hand.calls G.Hand.seen G.Hand.state G.Hand.may G.Hand.moves book.now plan.now) (opening_of lock) result.space) 1 served result.links
-        × Stopped result.stop plan.now.count (length result.links) lost }
-
-    // The server's own turns, and nobody else's but the links'.
-    ensures ticks { AreTurnsOf (opening_of lock) 0 result.ticks result.space }
-    ensures others { (n : ℕ) → length result.links < n → events_after (opening_of lock) n result.space ≡ [] }
+    // The one history that is left is legal and goes on from the lock's, and the collector kept and withdrew at each of its events as it is to. Each
+    // link that was accepted has its Tick and its report, but the one, if any, for which there was no memory; and there are no turns but these.
+    ensures served { ServesLinks
+        (IsLinkOf L.In.left L.Out.held L.Ticks.given G.Hand.calls G.Hand.seen G.Hand.state G.Hand.may G.Hand.moves book.now plan.now)
+        (opening_of lock) plan.now.count (L.accepted listener.old) (L.accepted listener.new) result }
 
     // The listener.
     ensures fault { result.stop ≡ Stop.AcceptFault → Rose (L.faults listener.old) (L.faults listener.new) }

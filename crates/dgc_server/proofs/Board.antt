@@ -10,9 +10,9 @@ use Rattle.history.proofs.ListLemmas.{every-weaker, every-append, test-AllByRecu
 use Rattle.object_ids.specs.declared.ids.ObjId.{ObjId}
 use Rattle.dgc_server.specs.declared.clients.Chunk.{Chunk}
 use Rattle.dgc_server.specs.Numbers.{is_remembered}
-use Rattle.dgc_server.specs.Entry.{ObjectEntry, Entry, has_time_left, dirty_in, lapsed, is_entry_kept, entry_without, tenure_forgotten}
+use Rattle.dgc_server.specs.Entry.{ObjectEntry, Entry, has_time_left, dirty_in, entry_after_lapse, is_entry_kept, entry_without, tenure_forgotten}
 use Rattle.dgc_server.specs.Table.{with_entry, after_lapse}
-use Rattle.dgc_server.specs.Index.{Way, Holding, Naming, Tally, tally_of, tally_in, is_counted, one_if, ends_later, with_only, bound_of, IsSettled, IsCalm}
+use Rattle.dgc_server.specs.HolderIndex.{Way, Holding, Naming, Tally, tally_of, tally_in, is_counted, one_if, ends_later, with_only, bound_of, IsSettled, IsCalm}
 use Rattle.dgc_server.specs.Chunks.{all_of, IsBounded, IsCalmChunk}
 use Rattle.dgc_server.proofs.Dropping.{forgotten-filter, lapsed-without}
 use Rattle.dgc_server.proofs.IndexLaws.{all-later, all-lower, settled-later, settled-with, same-lt}
@@ -98,10 +98,10 @@ settled-of m n (e ∷ es) a = go (is_entry_kept m e) refl (settled-of m n es a.1
     go false k rest = rest
 
 pub lapse-append : (t : ℕ) (xs ys : List Entry) → after_lapse t (xs ++ ys) ≡ after_lapse t xs ++ after_lapse t ys
-lapse-append t xs ys = ap (filter (is_entry_kept t)) (map-append (lapsed t) xs ys) ∙ filter-append (is_entry_kept t) (map (lapsed t) xs) (map (lapsed t) ys)
+lapse-append t xs ys = ap (filter (is_entry_kept t)) (map-append (entry_after_lapse t) xs ys) ∙ filter-append (is_entry_kept t) (map (entry_after_lapse t) xs) (map (entry_after_lapse t) ys)
 
 -- What a client adds to a tally stays, where nothing is due.
-settled-tally : (m n t : ℕ) (k : Tally) (e : Entry) → m ≤ t → t < n → IsSettled m n e → tally_of k m e ≡ tally_of k t (lapsed t e)
+settled-tally : (m n t : ℕ) (k : Tally) (e : Entry) → m ≤ t → t < n → IsSettled m n e → tally_of k m e ≡ tally_of k t (entry_after_lapse t e)
 settled-tally m n t k e le lt s =
     each-tally (λ k. tally_of k m e ≡ tally_of k t e) (λ w o. ap one_if (counted w o)) (ap one_if same) (ap (λ b. length (filter (λ o. is_remembered b o.numbers) e.objects)) same) k
     ∙ ap (tally_of k t) (sym (settled-later m n t e le lt s).forgotten)
@@ -113,11 +113,11 @@ settled-tally m n t k e le lt s =
     counted Holding o = ap (λ b. b && dirty_in e.objects o) same
     counted Naming o = refl
 
-pub settled-tallies : (m n t : ℕ) (k : Tally) (es : List Entry) → m ≤ t → t < n → AllByRecursion (IsSettled m n) es → tally_in k m es ≡ tally_in k t (map (lapsed t) es)
+pub settled-tallies : (m n t : ℕ) (k : Tally) (es : List Entry) → m ≤ t → t < n → AllByRecursion (IsSettled m n) es → tally_in k m es ≡ tally_in k t (map (entry_after_lapse t) es)
 settled-tallies m n t k [] le lt a = refl
 settled-tallies m n t k (e ∷ es) le lt a =
-    sum_by-cons (tally_of k m) e es ∙ ap (λ x. x + tally_in k m es) (settled-tally m n t k e le lt a.0) ∙ ap (λ x. tally_of k t (lapsed t e) + x) (settled-tallies m n t k es le lt a.1)
-    ∙ sym (sum_by-cons (tally_of k t) (lapsed t e) (map (lapsed t) es))
+    sum_by-cons (tally_of k m) e es ∙ ap (λ x. x + tally_in k m es) (settled-tally m n t k e le lt a.0) ∙ ap (λ x. tally_of k t (entry_after_lapse t e) + x) (settled-tallies m n t k es le lt a.1)
+    ∙ sym (sum_by-cons (tally_of k t) (entry_after_lapse t e) (map (entry_after_lapse t) es))
 
 pub settled-ends : (m n k : ℕ) (es : List Entry) → k ≤ n → AllByRecursion (IsSettled m n) es → list_all (ends_later m k) es ≡ true
 settled-ends m n k es le a = test-AllByRecursion (IsSettled m n) (ends_later m k) one es a

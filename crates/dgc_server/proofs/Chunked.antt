@@ -15,10 +15,10 @@ use Rattle.object_ids.proofs.Order.{client_cmp_total, client_cmp-equal}
 use Rattle.dgc_server.specs.declared.clients.Chunk.{Chunk}
 use Rattle.dgc_server.specs.Entry.{Entry}
 use Rattle.dgc_server.specs.Table.{entry_of, with_entry}
-use Rattle.dgc_server.specs.Stands.{is_in_order}
+use Rattle.dgc_server.specs.StandsForCalls.{is_in_order}
 use Rattle.dgc_server.specs.Chunks.{all_of, is_filled, IsChunkOf}
 use Rattle.object_ids.specs.declared.ids.ObjId.{ObjId}
-use Rattle.dgc_server.specs.Index.{Way, is_counted, one_if}
+use Rattle.dgc_server.specs.HolderIndex.{Way, is_counted, one_if}
 use Rattle.dgc_server.proofs.IndexLaws.{none-is-counted, replaced}
 use Rattle.dgc_server.proofs.Ordered.{less-is, all_after, absent, after-absent, after-earlier}
 use Rattle.dgc_server.proofs.Search.{all_before, turned-less, turned-greater, greater-is, other-client, with-front}

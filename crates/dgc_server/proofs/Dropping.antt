@@ -6,10 +6,10 @@ use Rattle.object_ids.specs.declared.ids.ObjId.{ObjId}
 use Rattle.object_ids.specs.Same.{same_id}
 use Rattle.history.specs.declared.calls.Call.{Call}
 use Rattle.dgc_server.specs.Counts.{without}
-use Rattle.dgc_server.specs.Entry.{ObjectEntry, Entry, lapsed, is_entry_kept, entry_without, tenure_forgotten, strong_only, has_strong}
+use Rattle.dgc_server.specs.Entry.{ObjectEntry, Entry, entry_after_lapse, is_entry_kept, entry_without, tenure_forgotten, strong_only, has_strong}
 use Rattle.dgc_server.specs.Table.{after_lapse}
-use Rattle.dgc_server.specs.Stands.{LeaseTable, StandsFor, is_in_order}
-use Rattle.dgc_server.specs.Index.{IsSettled}
+use Rattle.dgc_server.specs.StandsForCalls.{LeaseTable, StandsFor, is_in_order}
+use Rattle.dgc_server.specs.HolderIndex.{IsSettled}
 use Rattle.dgc_server.proofs.Tables.{order-without, table-lapsed}
 use Rattle.dgc_server.proofs.Without.{table-without}
 
@@ -24,7 +24,7 @@ forgotten-filter q k (e ∷ es) = go (q e) (has_strong e) refl refl (forgotten-f
     go false true x y h = h ∙ sym (ap (λ b. cond b (strong_only e ∷ filter q (tenure_forgotten es)) (filter q (tenure_forgotten es))) (k e ∙ x))
     go false false x y h = h
 
-pub lapsed-without : (m n : ℕ) (o : ObjId) (e : Entry) → IsSettled m n e → lapsed m (entry_without o e) ≡ entry_without o e
+pub lapsed-without : (m n : ℕ) (o : ObjId) (e : Entry) → IsSettled m n e → entry_after_lapse m (entry_without o e) ≡ entry_without o e
 lapsed-without m n o e s = go (nat_lt m e.until) s.forgotten
   where
     q : ObjectEntry → Bool

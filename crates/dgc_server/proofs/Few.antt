@@ -13,11 +13,11 @@ use Rattle.object_ids.proofs.Order.{client_cmp-equal, client_cmp-self}
 use Rattle.history.specs.declared.calls.CallKind.{CallKind}
 use Rattle.history.specs.declared.calls.CallKind.TheVariants.{Dirty, Weak, Strong}
 use Rattle.history.specs.Leases.{is_dirty_kind}
-use Rattle.dgc_server.specs.Entry.{Entry, lapsed, is_entry_kept, tenure_forgotten, has_time_left, entry_holds, entry_without}
+use Rattle.history.proofs.ListLemmas.{no_time}
+use Rattle.dgc_server.specs.Entry.{Entry, entry_after_lapse, is_entry_kept, tenure_forgotten, has_time_left, entry_holds, entry_without}
 use Rattle.dgc_server.specs.Table.{no_entry, entry_of, with_entry, after_lapse, clients_after}
-use Rattle.dgc_server.specs.Stands.{is_in_order, entry_after}
+use Rattle.dgc_server.specs.StandsForCalls.{is_in_order, entry_after}
 use Rattle.dgc_server.proofs.Ordered.{all_after, absent, after-absent, after-earlier, client-of}
-use Rattle.dgc_server.proofs.Outputs.{no_time}
 use Rattle.dgc_server.proofs.Steps.{earlier}
 
 -- A narrower test keeps fewer.
@@ -51,7 +51,7 @@ same-map q f k (e ∷ es) = go (q (f e)) (q e) (k e) (same-map q f k es)
     go true false x h = absurd (cc)
     go false true x h = absurd (cc)
 
-pub lapsed-time : (now : ℕ) (e : Entry) → has_time_left now (lapsed now e) ≡ has_time_left now e
+pub lapsed-time : (now : ℕ) (e : Entry) → has_time_left now (entry_after_lapse now e) ≡ has_time_left now e
 lapsed-time now e = go (nat_lt now e.until)
   where
     go : (b : Bool) → nat_lt now (if b then e else record e { objects = tenure_forgotten e.objects }).until ≡ nat_lt now e.until
@@ -60,8 +60,8 @@ lapsed-time now e = go (nat_lt now e.until)
 
 pub few-lapse : (m k : ℕ) (es : List Entry) (most : ℕ) → m ≤ k → length (filter (has_time_left m) es) ≤ most → length (filter (has_time_left k) (after_lapse k es)) ≤ most
 few-lapse m k es most le h =
-    let a = fewer-kept (has_time_left k) (is_entry_kept k) (map (lapsed k) es) in
-    let b = same-map (has_time_left k) (lapsed k) (lapsed-time k) es in
+    let a = fewer-kept (has_time_left k) (is_entry_kept k) (map (entry_after_lapse k) es) in
+    let b = same-map (has_time_left k) (entry_after_lapse k) (lapsed-time k) es in
     let c = fewer (has_time_left k) (has_time_left m) (λ e x. earlier m k e.until le x) es in
     omega (arith, a, b, c, h)
 

@@ -1,11 +1,12 @@
 -- Objects of which nothing is counted any more, one after another.
 use Rattle.std.proofs.Common.{◌≡◌, ℕ, ◌+◌, ◌≤◌, ◌<◌, List, [], ◌∷◌, refl, ap, sym, ◌∙◌, length, drop, get_or}
 use Rattle.std.specs.Prelude.{Bool, true, false, ◌||◌, if◌then◌else◌}
+use Rattle.sequence.proofs.Lists.{drop-at}
 use Rattle.object_ids.specs.declared.ids.ObjId.{ObjId}
 use Rattle.object_ids.specs.Same.{same_id}
 use Rattle.dgc_server.specs.Entry.{is_in}
-use Rattle.dgc_server.specs.Index.{total_of}
-use Rattle.dgc_server.proofs.HolderLaws.{drop-at, drop-gone}
+use Rattle.dgc_server.specs.HolderIndex.{total_of}
+use Rattle.dgc_server.proofs.HolderLaws.{drop-gone}
 
 total-same : (f g : ObjId → ℕ) → ((p : ObjId) → f p ≡ g p) → (os : List ObjId) → total_of f os ≡ total_of g os
 total-same f g h [] = refl

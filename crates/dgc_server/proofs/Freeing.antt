@@ -2,19 +2,18 @@
 use Rattle.std.proofs.Common.{◌≡◌, ℕ, ◌≤◌, ◌<◌, List, [], ◌∷◌, ◌++◌, refl, ap, sym, ◌∙◌, cond, map, flat_map, arith, Ok, Err}
 use Rattle.std.specs.Prelude.{Bool, true, false, ◌&&◌, ◌||◌, not, filter, nat_lt, Result, IfOk, if◌then◌else◌}
 use Rattle.std.specs.List.{list_any, list_all, AllByRecursion}
-use Rattle.std.proofs.lemmas.Bool.{and_parts}
+use Rattle.std.proofs.lemmas.Bool.{and_parts, not-true}
 use Rattle.std.proofs.lemmas.List.Folds.{list_any-append}
 use Rattle.object_ids.specs.declared.ids.ObjId.{ObjId}
 use Rattle.object_ids.specs.Same.{same_id}
 use Rattle.object_ids.proofs.Exact.{same_id-equal}
 use Rattle.history.specs.declared.calls.Call.{Call}
 use Rattle.history.specs.Leases.{is_held}
+use Rattle.history.proofs.Equalities.{same_id-turned}
 use Rattle.dgc_server.specs.Numbers.{is_dirty_highest}
 use Rattle.dgc_server.specs.Entry.{ObjectEntry, Entry, numbers_of, has_object, dirty_in, dirty_objects, entry_holds}
-use Rattle.dgc_server.specs.Stands.{LeaseTable, StandsFor, each_once, is_in_order}
-use Rattle.dgc_server.specs.Index.{ends_between, freed_of, IsSettled}
-use Rattle.dgc_server.proofs.Fresh.{same_id-turned}
-use Rattle.dgc_server.proofs.Distinct.{absent_is}
+use Rattle.dgc_server.specs.StandsForCalls.{LeaseTable, StandsFor, each_once, is_in_order}
+use Rattle.dgc_server.specs.HolderIndex.{ends_between, freed_of, IsSettled}
 use Rattle.dgc_server.proofs.Objects.{no_object}
 use Rattle.dgc_server.proofs.IndexLaws.{same-lt}
 use Rattle.dgc_server.proofs.Outputs.{held-entries}
@@ -34,7 +33,7 @@ among-dirty (e ∷ es) o h = go (is_dirty_highest e.numbers) (same_id e.object o
     go true true p q rest = ap (λ b. b || list_any (same_id o) (dirty_objects es)) (same_id-turned o e.object ∙ q) ∙ sym p
     go true false p q rest = ap (λ b. b || list_any (same_id o) (dirty_objects es)) (same_id-turned o e.object ∙ q) ∙ rest
     go false true p q rest =
-        rest ∙ ap is_dirty_highest (ap (numbers_of es) (sym (same_id-equal e.object o q)) ∙ no_object es e.object (absent_is (has_object es e.object) two.0)) ∙ sym p
+        rest ∙ ap is_dirty_highest (ap (numbers_of es) (sym (same_id-equal e.object o q)) ∙ no_object es e.object (not-true (has_object es e.object) two.0)) ∙ sym p
     go false false p q rest = rest
 
 among-one : (from to : ℕ) (e : Entry) (o : ObjId) → each_once e.objects ≡ true → list_any (same_id o) (freed_of from to e) ≡ (ends_between from to e && dirty_in e.objects o)

@@ -1,12 +1,11 @@
 -- Counts of an index: one count after it is set, and the counts over the objects of a client.
 use Rattle.std.proofs.Common.{◌≡◌, ℕ, ◌+◌, ◌≤◌, ◌<◌, List, [], ◌∷◌, refl, ap, sym, subst, ◌∙◌, arith, cond, Option, Some, None, length, drop, suc, zero}
 use Rattle.std.specs.Prelude.{Bool, true, false, ◌&&◌, ◌||◌, not, is_some, unwrap_or, filter, if◌then◌else◌}
-use Rattle.std.proofs.Common.{add-one, get_or, take}
+use Rattle.std.proofs.Common.{get_or, take}
 use Rattle.std.specs.Prelude.{pos}
 use Rattle.std.proofs.lemmas.List.{take_more}
 use Rattle.std.proofs.lemmas.List.Folds.{list_any-append}
-use Rattle.std.proofs.Math.Seq.{drop-cons}
-use Rattle.std.proofs.lemmas.Bool.{and_parts}
+use Rattle.std.proofs.lemmas.Bool.{and_parts, not-true, or_right}
 use Rattle.object_ids.specs.declared.ids.ObjId.{ObjId}
 use Rattle.object_ids.specs.Same.{same_id, same_key}
 use Rattle.object_ids.proofs.Exact.{same_id-self, same_id-equal, same_key-same}
@@ -15,9 +14,8 @@ use Rattle.dgc_server.specs.declared.holders.Count.{Count}
 use Rattle.dgc_server.specs.declared.holders.Share.{Share}
 use Rattle.dgc_server.specs.declared.numbers.Numbers.{Numbers}
 use Rattle.dgc_server.specs.Entry.{ObjectEntry, Entry, numbers_of, has_object, is_in, entry_holds}
-use Rattle.dgc_server.specs.Stands.{each_once}
-use Rattle.dgc_server.specs.Index.{Way, Holding, Naming, no_count, count_by, count_at, counted_at, share_by, has_with, has_count, one_if}
-use Rattle.dgc_server.proofs.Distinct.{absent_is}
+use Rattle.dgc_server.specs.StandsForCalls.{each_once}
+use Rattle.dgc_server.specs.HolderIndex.{Way, Holding, Naming, no_count, count_by, count_at, counted_at, share_by, has_with, has_count, one_if}
 
 -- ---- one count
 
@@ -43,10 +41,6 @@ put-has k w m n h o = ap is_some (h o) ∙ ap (λ b. is_some (cond b (Some w) (g
     go : (b : Bool) → is_some (cond b (Some w) (get same_key m o)) ≡ (b || has_count m o)
     go true = refl
     go false = refl
-
-or_right : (a b : Bool) → b ≡ true → (a || b) ≡ true
-or_right true b h = refl
-or_right false b h = h
 
 pub put-kept : {S : Type 0} (k : ObjId) (w : Count) (m n : IndexMap ObjId Count S) → Puts k w m n → (o : ObjId) → has_count m o ≡ true → has_count n o ≡ true
 put-kept k w m n h o there = put-has k w m n h o ∙ or_right (same_id k o) (has_count m o) there
@@ -124,9 +118,6 @@ no-share s h = each-way (λ w. share_by w s ≡ false) (parts s.holds s.names h)
 
 -- ---- the objects of a client
 
-pub drop-at : {X : Type 0} (xs : List X) (i : ℕ) (d : X) → i < length xs → drop i xs ≡ get_or xs i d ∷ drop (i + 1) xs
-drop-at xs i d h = rw add-one (drop-cons xs i d h)
-
 pub drop-gone : {X : Type 0} (xs : List X) (k : ℕ) → length xs ≤ k → drop k xs ≡ []
 drop-gone [] zero h = refl
 drop-gone [] (suc k) h = refl
@@ -148,7 +139,7 @@ module _ (test : Numbers → Bool) where
   with-first x rest once o = go (same_id x.object o) (test x.numbers) refl refl
     where
       absent : same_id x.object o ≡ true → has_object rest o ≡ false
-      absent e = ap (has_object rest) (sym (same_id-equal x.object o e)) ∙ absent_is (has_object rest x.object) (and_parts (not (has_object rest x.object)) (each_once rest) once).0
+      absent e = ap (has_object rest) (sym (same_id-equal x.object o e)) ∙ not-true (has_object rest x.object) (and_parts (not (has_object rest x.object)) (each_once rest) once).0
 
       go : (a b : Bool) → same_id x.object o ≡ a → test x.numbers ≡ b →
           one_if ((a || has_object rest o) && test (if a then x.numbers else numbers_of rest o)) ≡ one_if (has_with test rest o) + (if b then one_if a else 0)

@@ -6,22 +6,22 @@ use Rattle.std.proofs.lemmas.Bool.{and_parts, and_from, lt-ltb, ltb-true, ltb-fa
 use Rattle.std.specs.Ordering.{is_lt, is_eq}
 use Rattle.std.specs.declared.cmp.Ordering.{Ordering}
 use Rattle.std.specs.declared.cmp.Ordering.TheVariants.{Less, Equal, Greater}
+use Rattle.sequence.proofs.Lists.{drop-at}
 use Rattle.object_ids.specs.declared.ids.ObjId.{ObjId}
 use Rattle.object_ids.specs.Client.{Client, client_cmp}
 use Rattle.object_ids.specs.Same.{same_id, same_client}
 use Rattle.dgc_server.specs.Numbers.{no_numbers, is_dirty_highest}
-use Rattle.dgc_server.specs.Entry.{ObjectEntry, Entry, lapsed, is_entry_kept, is_empty, has_time_left, entry_holds, entry_without, numbers_of, has_object, tenure_forgotten, strong_only, has_strong, dirty_in}
+use Rattle.dgc_server.specs.Entry.{ObjectEntry, Entry, entry_after_lapse, is_entry_kept, is_empty, has_time_left, entry_holds, entry_without, numbers_of, has_object, tenure_forgotten, strong_only, has_strong, dirty_in}
 use Rattle.dgc_server.specs.Table.{no_entry, entry_of, with_entry, after_lapse}
-use Rattle.dgc_server.specs.Stands.{is_in_order}
-use Rattle.dgc_server.specs.Index.{Way, Holding, Naming, is_counted, counts_in, entry_names, one_if, ends_later, IsSettled}
+use Rattle.dgc_server.specs.StandsForCalls.{is_in_order}
+use Rattle.dgc_server.specs.HolderIndex.{Way, Holding, Naming, is_counted, counts_in, entry_names, one_if, ends_later, IsSettled}
 use Rattle.object_ids.proofs.Exact.{same_client-true, same_id-equal}
-use Rattle.history.proofs.ListLemmas.{and_false}
+use Rattle.history.proofs.ListLemmas.{and_false, no_time}
+use Rattle.history.proofs.Equalities.{same_id-turned}
 use Rattle.dgc_server.proofs.Ordered.{entry-with}
 use Rattle.dgc_server.proofs.Few.{few-with}
-use Rattle.dgc_server.proofs.Outputs.{no_time}
-use Rattle.dgc_server.proofs.Fresh.{same_id-turned}
 use Rattle.dgc_server.proofs.Without.{numbers-without}
-use Rattle.dgc_server.proofs.HolderLaws.{holding, drop-at, drop-gone}
+use Rattle.dgc_server.proofs.HolderLaws.{holding, drop-gone}
 
 -- ---- an entry in place of another
 
@@ -109,10 +109,10 @@ strong-again (e ∷ es) = go (has_strong e) refl (strong-again es)
     go true q h = rw q (ap (λ l. strong_only e ∷ l) h)
     go false q h = h
 
-lapsed-again : (t : ℕ) (e : Entry) → lapsed t (lapsed t e) ≡ lapsed t e
+lapsed-again : (t : ℕ) (e : Entry) → entry_after_lapse t (entry_after_lapse t e) ≡ entry_after_lapse t e
 lapsed-again t e = go (nat_lt t e.until) refl
   where
-    go : (b : Bool) → nat_lt t e.until ≡ b → lapsed t (if b then e else record e { objects = tenure_forgotten e.objects }) ≡ (if b then e else record e { objects = tenure_forgotten e.objects })
+    go : (b : Bool) → nat_lt t e.until ≡ b → entry_after_lapse t (if b then e else record e { objects = tenure_forgotten e.objects }) ≡ (if b then e else record e { objects = tenure_forgotten e.objects })
     go true q = rw q refl
     go false q = rw q (ap (λ os. record e { objects = os }) (strong-again e.objects))
 
@@ -126,13 +126,13 @@ later-is m n e h l = go (nat_le n e.until) refl (sym (ap (λ b. not b || nat_le 
 -- Each entry that is kept is settled.
 pub settled-after : (t n : ℕ) (es : List Entry) → list_all (ends_later t n) (after_lapse t es) ≡ true → AllByRecursion (IsSettled t n) (after_lapse t es)
 settled-after t n [] h = tt
-settled-after t n (e ∷ es) h = go (is_entry_kept t (lapsed t e)) refl h (settled-after t n es)
+settled-after t n (e ∷ es) h = go (is_entry_kept t (entry_after_lapse t e)) refl h (settled-after t n es)
   where
-    go : (b : Bool) → is_entry_kept t (lapsed t e) ≡ b → list_all (ends_later t n) (cond b (lapsed t e ∷ after_lapse t es) (after_lapse t es)) ≡ true →
-        (list_all (ends_later t n) (after_lapse t es) ≡ true → AllByRecursion (IsSettled t n) (after_lapse t es)) → AllByRecursion (IsSettled t n) (cond b (lapsed t e ∷ after_lapse t es) (after_lapse t es))
+    go : (b : Bool) → is_entry_kept t (entry_after_lapse t e) ≡ b → list_all (ends_later t n) (cond b (entry_after_lapse t e ∷ after_lapse t es) (after_lapse t es)) ≡ true →
+        (list_all (ends_later t n) (after_lapse t es) ≡ true → AllByRecursion (IsSettled t n) (after_lapse t es)) → AllByRecursion (IsSettled t n) (cond b (entry_after_lapse t e ∷ after_lapse t es) (after_lapse t es))
     go true q k rest =
-        let two = and_parts (ends_later t n (lapsed t e)) (list_all (ends_later t n) (after_lapse t es)) k in
-        (record { forgotten = lapsed-again t e; kept = q; later = later-is t n (lapsed t e) two.0 }, rest two.1)
+        let two = and_parts (ends_later t n (entry_after_lapse t e)) (list_all (ends_later t n) (after_lapse t es)) k in
+        (record { forgotten = lapsed-again t e; kept = q; later = later-is t n (entry_after_lapse t e) two.0 }, rest two.1)
     go false q k rest = rest k
 
 -- Of whom nothing is left is not counted.

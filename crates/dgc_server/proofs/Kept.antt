@@ -1,14 +1,15 @@
 -- How many pairs are remembered, as time passes, after a call, and without an object; and that each client has its objects once, with some
 -- number of each.
-use Rattle.std.proofs.Common.{◌≡◌, ℕ, ◌+◌, ◌≤◌, List, [], ◌∷◌, ◌++◌, length, refl, ap, sym, ◌∙◌, arith, cond, map, suc, length-append}
+use Rattle.std.proofs.Common.{◌≡◌, ℕ, ◌+◌, ◌≤◌, List, [], ◌∷◌, ◌++◌, length, refl, ap, sym, ◌∙◌, arith, cond, map, length-append}
 use Rattle.std.specs.Prelude.{ℤ, Bool, true, false, ◌&&◌, ◌||◌, not, filter, is_some, int_lt, nat_lt, sum_by, Option, Some, None, if◌then◌else◌}
 use Rattle.std.specs.List.{list_any, list_all}
 use Rattle.std.specs.Ordering.{is_lt, is_eq}
 use Rattle.std.specs.declared.cmp.Ordering.{Ordering}
 use Rattle.std.specs.declared.cmp.Ordering.TheVariants.{Less, Equal, Greater}
-use Rattle.std.proofs.lemmas.Bool.{and_parts, and_from}
+use Rattle.std.proofs.lemmas.Bool.{and_parts, and_from, not-true}
 use Rattle.std.proofs.lemmas.List.Folds.{list_any-append}
 use Rattle.std.proofs.lemmas.List.Sums.{sum_by-cons}
+use Rattle.std.proofs.lemmas.List.{length-map}
 use Rattle.object_ids.specs.declared.ids.ObjId.{ObjId}
 use Rattle.object_ids.specs.Client.{Client, client_cmp}
 use Rattle.object_ids.specs.Same.{same_client, same_id}
@@ -17,14 +18,15 @@ use Rattle.object_ids.proofs.Order.{client_cmp-equal, client_cmp-self}
 use Rattle.history.specs.declared.calls.CallKind.{CallKind}
 use Rattle.history.specs.declared.calls.CallKind.TheVariants.{Dirty, Weak, Strong}
 use Rattle.history.specs.Lists.{distinct, AllOnce}
-use Rattle.history.proofs.ListLemmas.{length-fewer, or_true}
+use Rattle.history.proofs.ListLemmas.{length-fewer, or_true, any-filtered, any-distinct, same-turned}
+use Rattle.history.proofs.Equalities.{object-equality}
 use Rattle.dgc_server.specs.declared.numbers.Numbers.{Numbers}
-use Rattle.dgc_server.specs.Numbers.{larger, noted, is_remembered}
-use Rattle.dgc_server.specs.Entry.{ObjectEntry, Entry, numbers_of, is_in, has_number, each_has_number, with_numbers, object_noted, objects_noted, objects_after, call_counts, has_strong, strong_only, tenure_forgotten, lapsed, is_entry_kept, has_time_left, remembered_of, entry_remembers, fresh_of, entry_without}
-use Rattle.dgc_server.specs.Table.{no_entry, entry_of, with_entry, after_lapse, remembered, pairs_after}
-use Rattle.dgc_server.specs.Stands.{is_in_order, each_once, entry_after}
-use Rattle.dgc_server.proofs.Counting.{decides-object, object-turned, kept_of, any-kept, once-kept_of, fresh}
-use Rattle.dgc_server.proofs.Distinct.{all_once, absent_is, any-filtered, any-distinct, turned}
+use Rattle.dgc_server.specs.Numbers.{larger, with_call_noted, is_remembered}
+use Rattle.dgc_server.specs.Entry.{ObjectEntry, Entry, numbers_of, is_in, has_number, each_has_number, with_numbers, object_noted, objects_noted, objects_after, call_counts, has_strong, strong_only, tenure_forgotten, entry_after_lapse, is_entry_kept, has_time_left, remembered_of, entry_remembers, fresh_of, entry_without}
+use Rattle.dgc_server.specs.Table.{no_entry, entry_of, with_entry, after_lapse, remembered_count, pairs_after}
+use Rattle.dgc_server.specs.StandsForCalls.{is_in_order, each_once, entry_after}
+use Rattle.dgc_server.proofs.Counting.{object-turned, kept_of, any-kept, once-kept_of, fresh}
+use Rattle.dgc_server.proofs.Distinct.{all_once}
 use Rattle.dgc_server.proofs.Objects.{numbers_after, numbers-after, once-after, once-filter, once-forgotten}
 use Rattle.dgc_server.proofs.Ordered.{all_after, absent, after-absent, after-earlier, client-of}
 use Rattle.dgc_server.proofs.Steps.{earlier}
@@ -71,7 +73,7 @@ is_once e = each_once e.objects
 abbrev pub all_objects_once : List Entry → Bool
 all_objects_once es = list_all is_once es
 
-once-lapsed : (k : ℕ) (e : Entry) → each_once e.objects ≡ true → each_once (lapsed k e).objects ≡ true
+once-lapsed : (k : ℕ) (e : Entry) → each_once e.objects ≡ true → each_once (entry_after_lapse k e).objects ≡ true
 once-lapsed k e h = go (nat_lt k e.until)
   where
     go : (b : Bool) → each_once (if b then e else record e { objects = tenure_forgotten e.objects }).objects ≡ true
@@ -79,7 +81,7 @@ once-lapsed k e h = go (nat_lt k e.until)
     go false = once-forgotten e.objects h
 
 pub once-lapse : (k : ℕ) (es : List Entry) → all_objects_once es ≡ true → all_objects_once (after_lapse k es) ≡ true
-once-lapse k es h = each-filtered is_once (is_entry_kept k) (map (lapsed k) es) (each-map is_once (lapsed k) (once-lapsed k) es h)
+once-lapse k es h = each-filtered is_once (is_entry_kept k) (map (entry_after_lapse k) es) (each-map is_once (entry_after_lapse k) (once-lapsed k) es h)
 
 pub once-without : (o : ObjId) (es : List Entry) → all_objects_once es ≡ true → all_objects_once (map (entry_without o) es) ≡ true
 once-without o es h = each-map is_once (entry_without o) (λ e x. once-filter (λ y. not (same_id y.object o)) e.objects x) es h
@@ -112,7 +114,7 @@ numbered-forgotten (e ∷ es) = go (has_strong e) refl (numbered-forgotten es)
     go true s rest = and_from (has_number (strong_only e)) (each_has_number (tenure_forgotten es)) (numbered-strong e s) rest
     go false s rest = rest
 
-number-noted : (kind : CallKind) (n : ℤ) (numbers : Numbers) → is_remembered true (noted kind n numbers) ≡ true
+number-noted : (kind : CallKind) (n : ℤ) (numbers : Numbers) → is_remembered true (with_call_noted kind n numbers) ≡ true
 number-noted kind n numbers = go kind
   where
     some : (o : Option ℤ) → is_some (larger n o) ≡ true
@@ -123,7 +125,7 @@ number-noted kind n numbers = go kind
         either true = refl
         either false = refl
 
-    go : (k : CallKind) → is_remembered true (noted k n numbers) ≡ true
+    go : (k : CallKind) → is_remembered true (with_call_noted k n numbers) ≡ true
     go Dirty = rw (some numbers.dirty) refl
     go Weak = rw (some numbers.clean, or_true (is_some numbers.dirty)) refl
     go Strong = rw (some numbers.strong) (or_true (is_some numbers.dirty || is_some (larger n numbers.clean)))
@@ -139,7 +141,7 @@ numbered-with o numbers (e ∷ es) f h = let two = and_parts (has_number e) (eac
 
 numbered-objects : (kind : CallKind) (n : ℤ) (os : List ObjId) (es : List ObjectEntry) → each_has_number es ≡ true → each_has_number (objects_noted kind n os es) ≡ true
 numbered-objects kind n [] es h = h
-numbered-objects kind n (o ∷ os) es h = numbered-objects kind n os (object_noted kind n o es) (numbered-with o (noted kind n (numbers_of es o)) es (number-noted kind n (numbers_of es o)) h)
+numbered-objects kind n (o ∷ os) es h = numbered-objects kind n os (object_noted kind n o es) (numbered-with o (with_call_noted kind n (numbers_of es o)) es (number-noted kind n (numbers_of es o)) h)
 
 pub numbered-after : (left : Bool) (kind : CallKind) (n : ℤ) (os : List ObjId) (es : List ObjectEntry) → each_has_number es ≡ true → each_has_number (objects_after left kind n os es) ≡ true
 numbered-after left kind n os es h = counted (call_counts kind left) (if left then es else tenure_forgotten es) (before left)
@@ -152,7 +154,7 @@ numbered-after left kind n os es h = counted (call_counts kind left) (if left th
     counted true ds x = numbered-objects kind n os ds x
     counted false ds x = x
 
-pub numbered-lapsed : (k : ℕ) (e : Entry) → each_has_number e.objects ≡ true → each_has_number (lapsed k e).objects ≡ true
+pub numbered-lapsed : (k : ℕ) (e : Entry) → each_has_number e.objects ≡ true → each_has_number (entry_after_lapse k e).objects ≡ true
 numbered-lapsed k e h = go (nat_lt k e.until)
   where
     go : (b : Bool) → each_has_number (if b then e else record e { objects = tenure_forgotten e.objects }).objects ≡ true
@@ -160,7 +162,7 @@ numbered-lapsed k e h = go (nat_lt k e.until)
     go false = numbered-forgotten e.objects
 
 pub numbered-lapse : (k : ℕ) (es : List Entry) → all_numbered es ≡ true → all_numbered (after_lapse k es) ≡ true
-numbered-lapse k es h = each-filtered is_numbered (is_entry_kept k) (map (lapsed k) es) (each-map is_numbered (lapsed k) (numbered-lapsed k) es h)
+numbered-lapse k es h = each-filtered is_numbered (is_entry_kept k) (map (entry_after_lapse k) es) (each-map is_numbered (entry_after_lapse k) (numbered-lapsed k) es h)
 
 pub numbered-without : (o : ObjId) (es : List Entry) → all_numbered es ≡ true → all_numbered (map (entry_without o) es) ≡ true
 numbered-without o es h = each-map is_numbered (entry_without o) (λ e x. each-filtered has_number (λ y. not (same_id y.object o)) e.objects x) es h
@@ -219,19 +221,19 @@ fewer-forgotten left (e ∷ es) = go (has_strong e) (is_remembered left e.number
     go false true x y h = omega arith
     go false false x y h = h
 
-pub fewer-lapsed : (m k : ℕ) (e : Entry) → m ≤ k → remembered_of k (lapsed k e) ≤ remembered_of m e
+pub fewer-lapsed : (m k : ℕ) (e : Entry) → m ≤ k → remembered_of k (entry_after_lapse k e) ≤ remembered_of m e
 fewer-lapsed m k e le = go (nat_lt k e.until) refl
   where
     go : (b : Bool) → nat_lt k e.until ≡ b → remembered_of k (if b then e else record e { objects = tenure_forgotten e.objects }) ≤ remembered_of m e
     go true x = rw (x, earlier m k e.until le x) (omega arith)
     go false x = rw x (fewer-forgotten (nat_lt m e.until) e.objects)
 
-pub remembered-lapse : (m k : ℕ) (es : List Entry) → m ≤ k → remembered k (after_lapse k es) ≤ remembered m es
+pub remembered-lapse : (m k : ℕ) (es : List Entry) → m ≤ k → remembered_count k (after_lapse k es) ≤ remembered_count m es
 remembered-lapse m k es le =
-    let a = sum-filter (remembered_of k) (is_entry_kept k) (map (lapsed k) es) in
-    let b = sum-fewer (remembered_of k) (remembered_of m) (lapsed k) (λ e. fewer-lapsed m k e le) es in omega arith
+    let a = sum-filter (remembered_of k) (is_entry_kept k) (map (entry_after_lapse k) es) in
+    let b = sum-fewer (remembered_of k) (remembered_of m) (entry_after_lapse k) (λ e. fewer-lapsed m k e le) es in omega arith
 
-pub remembered-without : (m : ℕ) (o : ObjId) (es : List Entry) → remembered m (map (entry_without o) es) ≤ remembered m es
+pub remembered-without : (m : ℕ) (o : ObjId) (es : List Entry) → remembered_count m (map (entry_without o) es) ≤ remembered_count m es
 remembered-without m o es =
     sum-fewer (remembered_of m) (remembered_of m) (entry_without o)
     (λ e. fewer-objects (λ x. is_remembered (nat_lt m e.until) x.numbers) (λ x. is_remembered (nat_lt m e.until) x.numbers) (λ x. not (same_id x.object o)) (λ x h. h) e.objects) es
@@ -255,7 +257,7 @@ longer-time m k e le = fewer-all (λ x. is_remembered (nat_lt k e.until) x.numbe
         go false true y z h = omega arith
         go false false y z h = h
 
-pub remembered-later : (m k : ℕ) (es : List Entry) → m ≤ k → remembered k es ≤ remembered m es
+pub remembered-later : (m k : ℕ) (es : List Entry) → m ≤ k → remembered_count k es ≤ remembered_count m es
 remembered-later m k [] le = omega arith
 remembered-later m k (e ∷ es) le =
     let one = longer-time m k e le in let rest = remembered-later m k es le in
@@ -295,27 +297,23 @@ remembered-then false false Dirty n false numbers h = ap (λ v. v || false) h
 remembered-then true false Strong n false numbers h = ap (λ v. v || false) h
 remembered-then false false Strong n false numbers h = ap (λ v. v || false) h
 
-length-map : {X Y : Type 0} (f : X → Y) (xs : List X) → length (map f xs) ≡ length xs
-length-map f [] = refl
-length-map f (x ∷ xs) = ap suc (length-map f xs)
-
 once-all : (os : List ObjId) → all_once same_id os ≡ true → AllOnce same_id os
 once-all [] h = tt
-once-all (o ∷ os) h = let two = and_parts (not (list_any (same_id o) os)) (all_once same_id os) h in (absent_is (list_any (same_id o) os) two.0, once-all os two.1)
+once-all (o ∷ os) h = let two = and_parts (not (list_any (same_id o) os)) (all_once same_id os) h in (not-true (list_any (same_id o) os) two.0, once-all os two.1)
 
 any-kept_of : (t : ℕ) (e : Entry) (o : ObjId) → each_once e.objects ≡ true → list_any (same_id o) (kept_of t e) ≡ entry_remembers t o e
 any-kept_of t e o h = object-turned o (filter (λ x. is_remembered (nat_lt t e.until) x.numbers) e.objects) ∙ any-kept (nat_lt t e.until) e.objects o h
 
 any-fresh : (t : ℕ) (e : Entry) (o : ObjId) (os : List ObjId) → list_any (same_id o) (fresh t e os) ≡ (list_any (same_id o) os && not (entry_remembers t o e))
 any-fresh t e o os =
-    any-filtered decides-object (λ x. not (entry_remembers t x e)) o (distinct same_id os) ∙ ap (λ v. v && not (entry_remembers t o e)) (any-distinct decides-object o os)
+    any-filtered object-equality (λ x. not (entry_remembers t x e)) o (distinct same_id os) ∙ ap (λ v. v && not (entry_remembers t o e)) (any-distinct object-equality o os)
 
 named-turned : (o : ObjId) (os : List ObjId) → is_in o os ≡ list_any (same_id o) os
 named-turned o [] = refl
-named-turned o (x ∷ os) = rw (named-turned o os) (ap (λ v. v || list_any (same_id o) os) (turned decides-object x o))
+named-turned o (x ∷ os) = rw (named-turned o os) (ap (λ v. v || list_any (same_id o) os) (same-turned object-equality x o))
 
 length-kept_of : (t : ℕ) (e : Entry) → length (kept_of t e) ≡ remembered_of t e
-length-kept_of t e = length-map (λ (x : ObjectEntry). x.object) (filter (λ x. is_remembered (nat_lt t e.until) x.numbers) e.objects)
+length-kept_of t e = length-map (filter (λ x. is_remembered (nat_lt t e.until) x.numbers) e.objects) (λ (x : ObjectEntry). x.object)
 
 -- What a call brings to what is remembered of its client.
 remembered-entry : (lease t : ℕ) (kind : CallKind) (n : ℤ) (os : List ObjId) (e : Entry) → each_once e.objects ≡ true →
@@ -374,10 +372,10 @@ sum-with f none e (d ∷ es) order =
 
 -- THE PAIRS AFTER A CALL are no more than are counted before it.
 pub remembered-noted : (time lease : ℕ) (kind : CallKind) (c : Client) (n : ℤ) (os : List ObjId) (es : List Entry) → is_in_order es ≡ true → all_objects_once es ≡ true →
-    remembered time (after_lapse time (with_entry (entry_after lease kind n os time (entry_of es c)) es)) ≤ pairs_after time es c kind os
+    remembered_count time (after_lapse time (with_entry (entry_after lease kind n os time (entry_of es c)) es)) ≤ pairs_after time es c kind os
 remembered-noted time lease kind c n os es order once =
     let next = entry_after lease kind n os time (entry_of es c) in
-    let own : remembered time (with_entry next es) + remembered_of time (entry_of es c) ≡ remembered time es + remembered_of time next =
-    ap (λ d. remembered time (with_entry next es) + remembered_of time (entry_of es d)) (sym (client-of es c)) ∙ sum-with (remembered_of time) (λ d. refl) next es order in
+    let own : remembered_count time (with_entry next es) + remembered_of time (entry_of es c) ≡ remembered_count time es + remembered_of time next =
+    ap (λ d. remembered_count time (with_entry next es) + remembered_of time (entry_of es d)) (sym (client-of es c)) ∙ sum-with (remembered_of time) (λ d. refl) next es order in
     let more = remembered-entry lease time kind n os (entry_of es c) (once-entry es c once) in
     let fewer = remembered-lapse time time (with_entry next es) (omega arith) in omega arith

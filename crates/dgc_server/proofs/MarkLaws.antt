@@ -6,6 +6,7 @@ use Rattle.std.specs.Map.{lookup, set_value, values_of}
 use Rattle.std.specs.Map.Calls.{RetainsPairs}
 use Rattle.std.proofs.Math.Seq.{drop-cons}
 use Rattle.std.proofs.lemmas.Bool.{lt-ltb, and_parts}
+use Rattle.sequence.proofs.Lists.{drop-at}
 use Rattle.indexmap.specs.IndexMap.{insert_entry}
 use Rattle.object_ids.specs.declared.ids.ObjId.{ObjId}
 use Rattle.object_ids.specs.Same.{same_id, same_key}
@@ -15,15 +16,15 @@ use Rattle.history.specs.Leases.{is_dirty_kind}
 use Rattle.history.specs.declared.calls.CallKind.{CallKind}
 use Rattle.history.specs.declared.calls.CallKind.TheVariants.{Dirty, Weak, Strong}
 use Rattle.history.proofs.ListLemmas.{and_false}
+use Rattle.history.proofs.Equalities.{same_id-turned}
 use Rattle.dgc_server.specs.declared.numbers.Numbers.{Numbers}
 use Rattle.dgc_server.specs.Numbers.{no_numbers, strong_part, is_dirty_highest, is_remembered}
 use Rattle.dgc_server.specs.Entry.{has_number, each_has_number, ObjectEntry, object_entry, object_entries, numbers_of, has_object, is_in, with_numbers, objects_after, entry_holds, Entry, has_strong, strong_only, tenure_forgotten, is_empty, dirty_in}
-use Rattle.dgc_server.specs.Stands.{each_once, entry_after}
-use Rattle.dgc_server.specs.Index.{one_if}
-use Rattle.dgc_server.proofs.Fresh.{same_id-turned, counted}
+use Rattle.dgc_server.specs.StandsForCalls.{each_once, entry_after}
+use Rattle.dgc_server.specs.HolderIndex.{one_if}
+use Rattle.dgc_server.proofs.Fresh.{counted}
 use Rattle.dgc_server.proofs.Objects.{numbers_after, numbers-with, numbers-forgotten, numbers-after}
 use Rattle.dgc_server.proofs.Steps.{earlier}
-use Rattle.dgc_server.proofs.HolderLaws.{drop-at}
 
 pub key-turned : (a b : ObjId) → same_key a b ≡ same_id b a
 key-turned a b = same_key-same a b ∙ same_id-turned a b

@@ -5,6 +5,7 @@ use Rattle.std.specs.List.{position_or_len}
 use Rattle.std.specs.Map.{lookup}
 use Rattle.std.specs.List.Retain.{RetainsInTurn}
 use Rattle.std.proofs.lemmas.Bool.{and_parts}
+use Rattle.sequence.proofs.Lists.{drop-at}
 use Rattle.indexmap.specs.IndexMap.{insert_entry, shift_remove_entry}
 use Rattle.object_ids.specs.declared.ids.ObjId.{ObjId}
 use Rattle.object_ids.specs.Same.{same_id, same_key}
@@ -12,8 +13,7 @@ use Rattle.object_ids.proofs.Exact.{same_id-equal, same_key-same}
 use Rattle.dgc_server.specs.declared.numbers.Numbers.{Numbers}
 use Rattle.dgc_server.specs.Numbers.{strong_part}
 use Rattle.dgc_server.specs.Entry.{ObjectEntry, object_entry, object_entries, numbers_of, has_object, with_numbers, has_strong, strong_only, tenure_forgotten}
-use Rattle.dgc_server.specs.Stands.{each_once}
-use Rattle.dgc_server.proofs.HolderLaws.{drop-at}
+use Rattle.dgc_server.specs.StandsForCalls.{each_once}
 use Rattle.dgc_server.proofs.MarkLaws.{key-turned, has-looked_up, others-all}
 
 -- ---- the place of an object

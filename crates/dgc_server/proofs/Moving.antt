@@ -7,7 +7,7 @@ use Rattle.std.proofs.lemmas.List.Sums.{sum_by-append}
 use Rattle.object_ids.specs.declared.ids.ObjId.{ObjId}
 use Rattle.dgc_server.specs.declared.clients.Chunk.{Chunk}
 use Rattle.dgc_server.specs.Entry.{Entry, is_entry_kept, entry_without}
-use Rattle.dgc_server.specs.Index.{with_only, object_count, objects_in}
+use Rattle.dgc_server.specs.HolderIndex.{with_only, object_count, objects_in}
 use Rattle.dgc_server.specs.Chunks.{all_of}
 use Rattle.dgc_server.proofs.Chunked.{all-three}
 use Rattle.dgc_server.proofs.Purging.{only-fewer}

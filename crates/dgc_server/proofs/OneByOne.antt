@@ -9,7 +9,7 @@ use Rattle.object_ids.specs.Same.{same_id}
 use Rattle.history.specs.declared.calls.Call.{Call}
 use Rattle.history.proofs.ListLemmas.{filter-filter, filter-same, every-always}
 use Rattle.dgc_server.specs.Counts.{without, without_all}
-use Rattle.dgc_server.specs.Stands.{LeaseTable, StandsFor}
+use Rattle.dgc_server.specs.StandsForCalls.{LeaseTable, StandsFor}
 
 keeps_all : (ys : List ObjId) → filter (λ y. not (list_any (λ o. same_id y o) [])) ys ≡ ys
 keeps_all [] = refl

@@ -12,9 +12,9 @@ use Rattle.dgc_server.specs.declared.clients.Chunk.{Chunk}
 use Rattle.dgc_server.specs.declared.holders.Count.{Count}
 use Rattle.dgc_server.specs.declared.table.Sums.{Sums}
 use Rattle.dgc_server.specs.Numbers.{is_remembered}
-use Rattle.dgc_server.specs.Entry.{ObjectEntry, Entry, lapsed, is_entry_kept, is_empty, has_time_left, remembered_of, tenure_forgotten}
-use Rattle.dgc_server.specs.Table.{after_lapse, remembered}
-use Rattle.dgc_server.specs.Index.{Way, Tally, Counted, Leased, Pairs, tally_of, tally_in, tally_at, counted_at, is_counted, one_if, ends_later, sums_at}
+use Rattle.dgc_server.specs.Entry.{ObjectEntry, Entry, entry_after_lapse, is_entry_kept, is_empty, has_time_left, remembered_of, tenure_forgotten}
+use Rattle.dgc_server.specs.Table.{after_lapse, remembered_count}
+use Rattle.dgc_server.specs.HolderIndex.{Way, Tally, Counted, Leased, Pairs, tally_of, tally_in, tally_at, counted_at, is_counted, one_if, ends_later, sums_at}
 use Rattle.dgc_server.specs.Chunks.{all_of}
 use Rattle.dgc_server.proofs.Steps.{earlier}
 use Rattle.dgc_server.proofs.Few.{lapsed-time}
@@ -74,7 +74,7 @@ many-summed p (e ∷ es) = go (p e) (many-summed p es) (sum_by-cons (λ e. one_i
 -- ---- the loop
 
 -- Of a client whose lease goes on nothing is forgotten.
-pub still-same : (t : ℕ) (e : Entry) → nat_lt t e.until ≡ true → lapsed t e ≡ e
+pub still-same : (t : ℕ) (e : Entry) → nat_lt t e.until ≡ true → entry_after_lapse t e ≡ e
 still-same t e left = ap (λ b. if b then e else record e { objects = tenure_forgotten e.objects }) left
 
 -- What holds of each tally.
@@ -85,7 +85,7 @@ each-tally P a b c Pairs = c
 
 -- What one client adds to a tally once it is passed.
 abbrev pub passed_of : ℕ → Tally → Entry → ℕ
-passed_of to k e = tally_of k to (lapsed to e)
+passed_of to k e = tally_of k to (entry_after_lapse to e)
 
 -- What holds in a loop: the clients to come are counted and summed as of the first moment, the others as of the second.
 pub record Passing (from to : ℕ) (es : List Entry) (first tally : Tally → ℕ) (next : ℕ) (rest : List Entry) : Type 0 where
@@ -109,16 +109,16 @@ passing-first from to es first next small late = record {
 still : (from to : ℕ) (e : Entry) → from ≤ to → nat_lt to e.until ≡ true → (k : Tally) → tally_of k from e ≡ passed_of to k e
 still from to e le left = each-tally (λ k. tally_of k from e ≡ passed_of to k e) (λ w o. ap one_if (still-step w o e from to le left)) (ap one_if time) pairs
   where
-    same : lapsed to e ≡ e
+    same : entry_after_lapse to e ≡ e
     same = still-same to e left
 
     before : nat_lt from e.until ≡ true
     before = earlier from to e.until le left
 
-    time : has_time_left from e ≡ has_time_left to (lapsed to e)
+    time : has_time_left from e ≡ has_time_left to (entry_after_lapse to e)
     time = before ∙ sym (ap (has_time_left to) same ∙ left)
 
-    pairs : remembered_of from e ≡ remembered_of to (lapsed to e)
+    pairs : remembered_of from e ≡ remembered_of to (entry_after_lapse to e)
     pairs = ap (λ b. length (filter (λ o. is_remembered b o.numbers) e.objects)) (before ∙ sym left) ∙ ap (remembered_of to) (sym same)
 
 -- Few stay few, where no more are added than are taken away.
@@ -169,10 +169,10 @@ module _ (from to : ℕ) (es : List Entry) (first tally : Tally → ℕ) (next i
 
 -- All are passed.
 pub passed-tallies : (from to : ℕ) (es : List Entry) (first tally : Tally → ℕ) (next n : ℕ) → length es ≤ n → Passing from to es first tally next (drop n es) → (k : Tally) →
-    tally k + tally_in k from es ≡ first k + tally_in k to (map (lapsed to) es)
+    tally k + tally_in k from es ≡ first k + tally_in k to (map (entry_after_lapse to) es)
 passed-tallies from to es first tally next n long inv k =
     adds-last (tally_of k from) (passed_of to k) es (first k) (tally k) (drop n es) (drop-gone es n long) (inv.tallies k)
-    ∙ ap (λ m. first k + m) (sum-mapped (tally_of k to) (lapsed to) es)
+    ∙ ap (λ m. first k + m) (sum-mapped (tally_of k to) (entry_after_lapse to) es)
 
 pub passed-ends : (from to : ℕ) (es : List Entry) (first tally : Tally → ℕ) (next n : ℕ) → length es ≤ n → Passing from to es first tally next (drop n es) → list_all (ends_later to next) es ≡ true
 passed-ends from to es first tally next n long inv = bounds-last to es next n long inv.bounds
@@ -198,11 +198,11 @@ module _ (from to : ℕ) (cs : List Chunk) (first tally : Tally → ℕ) (next i
       (sym (sum_by-append (passed_of to k) (all_of (take i cs)) (all_of (drop i cs))) ∙ ap (sum_by (passed_of to k)) (sym (all-append (take i cs) (drop i cs)) ∙ ap all_of (take-append-drop i cs)))
 
   -- A chunk whose clients are passed.
-  pub chunk-passed : (result : Tally → ℕ) (least : ℕ) → ((k : Tally) → result k + tally_in k from own ≡ tally k + tally_in k to (map (lapsed to) own)) →
+  pub chunk-passed : (result : Tally → ℕ) (least : ℕ) → ((k : Tally) → result k + tally_in k from own ≡ tally k + tally_in k to (map (entry_after_lapse to) own)) →
       (result Leased ≤ 2 ^ 17) × (result Pairs ≤ 2 ^ 65) → least ≤ next → list_all (ends_later to least) own ≡ true → to < least → Passing from to (all_of cs) first result least later
   chunk-passed result least moved few lower ends late = record {
     tallies = λ k. adds-part (tally_of k from) (passed_of to k) (all_of cs) (first k) (tally k) (result k) (tally_in k from own) (sum_by (passed_of to k) own) (all_of (drop i cs)) later
-        (inv.tallies k) (parted (tally_of k from)) (parted (passed_of to k)) (moved k ∙ ap (λ n. tally k + n) (sym (sum-mapped (tally_of k to) (lapsed to) own)));
+        (inv.tallies k) (parted (tally_of k from)) (parted (passed_of to k)) (moved k ∙ ap (λ n. tally k + n) (sym (sum-mapped (tally_of k to) (entry_after_lapse to) own)));
     few = few;
     bounds = λ n le rest. inv.bounds n (omega arith) (ap (list_all (ends_later to n)) (drop-chunk cs i d within) ∙ list_all-append (ends_later to n) own later
         ∙ and_from (list_all (ends_later to n) own) (list_all (ends_later to n) later) (all-earlier to n least own le ends) rest);
@@ -210,11 +210,11 @@ module _ (from to : ℕ) (cs : List Chunk) (first tally : Tally → ℕ) (next i
   }
 
 pub chunks-tallies : (from to : ℕ) (cs : List Chunk) (first tally : Tally → ℕ) (next n : ℕ) → length cs ≤ n → Passing from to (all_of cs) first tally next (all_of (drop n cs)) →
-    ((k : Tally) → first k ≡ tally_in k from (all_of cs)) → (k : Tally) → tally k ≡ tally_in k to (map (lapsed to) (all_of cs))
+    ((k : Tally) → first k ≡ tally_in k from (all_of cs)) → (k : Tally) → tally k ≡ tally_in k to (map (entry_after_lapse to) (all_of cs))
 chunks-tallies from to cs first tally next n long inv exact k =
     let all = exact k in
     let last = adds-last (tally_of k from) (passed_of to k) (all_of cs) (first k) (tally k) (all_of (drop n cs)) (drop-end cs n long) (inv.tallies k) in
-    let same = sum-mapped (tally_of k to) (lapsed to) (all_of cs) in omega arith
+    let same = sum-mapped (tally_of k to) (entry_after_lapse to) (all_of cs) in omega arith
 
 pub chunks-ends : (from to : ℕ) (cs : List Chunk) (first tally : Tally → ℕ) (next n : ℕ) → length cs ≤ n → Passing from to (all_of cs) first tally next (all_of (drop n cs)) →
     list_all (ends_later to next) (all_of cs) ≡ true
@@ -233,11 +233,11 @@ counts-are t counts sums es tallies w o = tallies (Counted w o) ∙ sym (many-su
 
 pub sums-of : {S : Type 0} (t : ℕ) (counts : IndexMap ObjId Count S) (sums : Sums) (es : List Entry) → ((k : Tally) → tally_at k counts sums ≡ tally_in k t es) → sums ≡ sums_at t es
 sums-of t counts sums es tallies =
-    sums-are sums (length (filter (has_time_left t) es)) (remembered t es) (tallies Leased ∙ sym (many-summed (has_time_left t) es)) (tallies Pairs)
+    sums-are sums (length (filter (has_time_left t) es)) (remembered_count t es) (tallies Leased ∙ sym (many-summed (has_time_left t) es)) (tallies Pairs)
 
 -- ---- what is kept
 
-ends-lapsed : (m n : ℕ) (e : Entry) → ends_later m n (lapsed m e) ≡ ends_later m n e
+ends-lapsed : (m n : ℕ) (e : Entry) → ends_later m n (entry_after_lapse m e) ≡ ends_later m n e
 ends-lapsed m n e = go (nat_lt m e.until)
   where
     go : (b : Bool) → ends_later m n (if b then e else record e { objects = tenure_forgotten e.objects }) ≡ ends_later m n e
@@ -248,10 +248,10 @@ pub ends-lapse : (m n : ℕ) (es : List Entry) → list_all (ends_later m n) es 
 ends-lapse m n [] h = refl
 ends-lapse m n (e ∷ es) h =
     let two = and_parts (ends_later m n e) (list_all (ends_later m n) es) h in
-    go (is_entry_kept m (lapsed m e)) (ends-lapsed m n e ∙ two.0) (ends-lapse m n es two.1)
+    go (is_entry_kept m (entry_after_lapse m e)) (ends-lapsed m n e ∙ two.0) (ends-lapse m n es two.1)
   where
-    go : (b : Bool) → ends_later m n (lapsed m e) ≡ true → list_all (ends_later m n) (after_lapse m es) ≡ true → list_all (ends_later m n) (cond b (lapsed m e ∷ after_lapse m es) (after_lapse m es)) ≡ true
-    go true x rest = and_from (ends_later m n (lapsed m e)) (list_all (ends_later m n) (after_lapse m es)) x rest
+    go : (b : Bool) → ends_later m n (entry_after_lapse m e) ≡ true → list_all (ends_later m n) (after_lapse m es) ≡ true → list_all (ends_later m n) (cond b (entry_after_lapse m e ∷ after_lapse m es) (after_lapse m es)) ≡ true
+    go true x rest = and_from (ends_later m n (entry_after_lapse m e)) (list_all (ends_later m n) (after_lapse m es)) x rest
     go false x rest = rest
 
 -- Of whom nothing is left adds nothing to the sums.
@@ -281,14 +281,14 @@ kept-leased t (e ∷ es) = go (is_entry_kept t e) (has_time_left t e) refl refl 
     go false true x y h = absurd (let n = nothing-leased t e x in cc)
     go false false x y h = h
 
-kept-remembered : (t : ℕ) (es : List Entry) → remembered t (filter (is_entry_kept t) es) ≡ remembered t es
+kept-remembered : (t : ℕ) (es : List Entry) → remembered_count t (filter (is_entry_kept t) es) ≡ remembered_count t es
 kept-remembered t [] = refl
 kept-remembered t (e ∷ es) = go (is_entry_kept t e) refl (kept-remembered t es) (sum_by-cons (remembered_of t) e es)
   where
-    go : (a : Bool) → is_entry_kept t e ≡ a → remembered t (filter (is_entry_kept t) es) ≡ remembered t es → remembered t (e ∷ es) ≡ remembered_of t e + remembered t es →
-        remembered t (cond a (e ∷ filter (is_entry_kept t) es) (filter (is_entry_kept t) es)) ≡ remembered t (e ∷ es)
+    go : (a : Bool) → is_entry_kept t e ≡ a → remembered_count t (filter (is_entry_kept t) es) ≡ remembered_count t es → remembered_count t (e ∷ es) ≡ remembered_of t e + remembered_count t es →
+        remembered_count t (cond a (e ∷ filter (is_entry_kept t) es) (filter (is_entry_kept t) es)) ≡ remembered_count t (e ∷ es)
     go true x h k = let more = sum_by-cons (remembered_of t) e (filter (is_entry_kept t) es) in omega arith
     go false x h k = let none = nothing-remembered t e x in omega arith
 
 pub kept-sums : (t : ℕ) (es : List Entry) → sums_at t (filter (is_entry_kept t) es) ≡ sums_at t es
-kept-sums t es = sums-are (sums_at t (filter (is_entry_kept t) es)) (length (filter (has_time_left t) es)) (remembered t es) (kept-leased t es) (kept-remembered t es)
+kept-sums t es = sums-are (sums_at t (filter (is_entry_kept t) es)) (length (filter (has_time_left t) es)) (remembered_count t es) (kept-leased t es) (kept-remembered t es)

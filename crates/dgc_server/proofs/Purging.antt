@@ -6,7 +6,7 @@ use Rattle.std.proofs.lemmas.Bool.{and_parts}
 use Rattle.std.proofs.lemmas.List.Sums.{sum_by-cons, sum_by-set}
 use Rattle.object_ids.specs.declared.ids.ObjId.{ObjId}
 use Rattle.dgc_server.specs.Entry.{ObjectEntry, Entry, is_entry_kept}
-use Rattle.dgc_server.specs.Index.{with_only, object_count, objects_in}
+use Rattle.dgc_server.specs.HolderIndex.{with_only, object_count, objects_in}
 
 -- What passes a test passes it again.
 filter-again : {X : Type 0} (p : X → Bool) (xs : List X) → filter p (filter p xs) ≡ filter p xs

@@ -1,17 +1,16 @@
 -- What a client's share in the count of an object is, before and after.
 use Rattle.std.proofs.Common.{◌≡◌, ℕ, ◌+◌, ◌≤◌, List, [], ◌∷◌, refl, ap, sym, ◌∙◌, arith, cond, map}
 use Rattle.std.specs.Prelude.{Bool, true, false, ◌&&◌, ◌||◌, not, filter, is_some, nat_lt, if◌then◌else◌}
-use Rattle.std.proofs.lemmas.Bool.{and_parts}
+use Rattle.std.proofs.lemmas.Bool.{and_parts, not-true}
 use Rattle.object_ids.specs.declared.ids.ObjId.{ObjId}
 use Rattle.object_ids.specs.Same.{same_id}
 use Rattle.object_ids.proofs.Exact.{same_id-equal}
 use Rattle.history.proofs.ListLemmas.{or_false}
 use Rattle.dgc_server.specs.declared.numbers.Numbers.{Numbers}
 use Rattle.dgc_server.specs.Numbers.{is_dirty_highest}
-use Rattle.dgc_server.specs.Entry.{ObjectEntry, Entry, lapsed, numbers_of, has_object, dirty_in, with_numbers, has_strong, strong_only, tenure_forgotten}
-use Rattle.dgc_server.specs.Stands.{each_once}
-use Rattle.dgc_server.specs.Index.{Way, Holding, Naming, counts_in, is_counted, loses, has_with, one_if}
-use Rattle.dgc_server.proofs.Distinct.{absent_is}
+use Rattle.dgc_server.specs.Entry.{ObjectEntry, Entry, entry_after_lapse, numbers_of, has_object, dirty_in, with_numbers, has_strong, strong_only, tenure_forgotten}
+use Rattle.dgc_server.specs.StandsForCalls.{each_once}
+use Rattle.dgc_server.specs.HolderIndex.{Way, Holding, Naming, counts_in, is_counted, loses, has_with, one_if}
 use Rattle.dgc_server.proofs.Objects.{no_object, object-with}
 use Rattle.dgc_server.proofs.MarkLaws.{not-dirty}
 use Rattle.dgc_server.proofs.Steps.{earlier}
@@ -26,7 +25,7 @@ has-forgotten (e ∷ es) o h = go (has_strong e) (same_id e.object o) refl refl 
     two = let parts = and_parts (not (has_object es e.object)) (each_once es) h in (parts.0, parts.1)
 
     gone : same_id e.object o ≡ true → has_object es o ≡ false
-    gone y = ap (has_object es) (sym (same_id-equal e.object o y)) ∙ absent_is (has_object es e.object) two.0
+    gone y = ap (has_object es) (sym (same_id-equal e.object o y)) ∙ not-true (has_object es e.object) two.0
 
     go : (b a : Bool) → has_strong e ≡ b → same_id e.object o ≡ a → has_object (tenure_forgotten es) o ≡ (has_object es o && is_some (numbers_of es o).strong) →
         has_object (map strong_only (cond b (e ∷ filter has_strong es) (filter has_strong es))) o ≡ ((a || has_object es o) && is_some (if a then e.numbers else numbers_of es o).strong)
@@ -64,14 +63,14 @@ settle-step w held es o n m once h =
     left Naming = refl
 
 pub over-step : (w : Way) (o : ObjId) (e : Entry) (from to n m : ℕ) → nat_lt to e.until ≡ false → each_once e.objects ≡ true → n + one_if (has_with (loses w (nat_lt from e.until)) e.objects o) ≡ m →
-    n + one_if (is_counted w from o e) ≡ m + one_if (is_counted w to o (lapsed to e))
+    n + one_if (is_counted w from o e) ≡ m + one_if (is_counted w to o (entry_after_lapse to e))
 over-step w o e from to n m over once h =
     let lost = share-lost w (nat_lt from e.until) e.objects o once in
-    let after : is_counted w to o (lapsed to e) ≡ counts_in w false (tenure_forgotten e.objects) o =
+    let after : is_counted w to o (entry_after_lapse to e) ≡ counts_in w false (tenure_forgotten e.objects) o =
     ap (λ b. is_counted w to o (if b then e else record e { objects = tenure_forgotten e.objects })) over ∙ ap (λ b. counts_in w b (tenure_forgotten e.objects) o) over in
     let same = ap one_if after in omega arith
 
-pub still-step : (w : Way) (o : ObjId) (e : Entry) (from to : ℕ) → from ≤ to → nat_lt to e.until ≡ true → is_counted w from o e ≡ is_counted w to o (lapsed to e)
+pub still-step : (w : Way) (o : ObjId) (e : Entry) (from to : ℕ) → from ≤ to → nat_lt to e.until ≡ true → is_counted w from o e ≡ is_counted w to o (entry_after_lapse to e)
 still-step w o e from to le left =
     ap (λ b. counts_in w b e.objects o) (earlier from to e.until le left ∙ sym left)
     ∙ ap (λ b. is_counted w to o (if b then e else record e { objects = tenure_forgotten e.objects })) (sym left)

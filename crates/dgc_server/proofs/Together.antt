@@ -11,13 +11,13 @@ use Rattle.indexmap.specs.IndexMap.{IndexMap}
 use Rattle.history.specs.declared.calls.Call.{Call}
 use Rattle.history.specs.Leases.{calls_of}
 use Rattle.history.proofs.ListLemmas.{filter-filter, filter-same, every-always, or_true}
+use Rattle.history.proofs.Equalities.{same_id-turned}
 use Rattle.dgc_server.specs.declared.holders.Count.{Count}
 use Rattle.dgc_server.specs.Counts.{without, without_all}
 use Rattle.dgc_server.specs.Entry.{ObjectEntry, Entry, is_in, is_empty, is_entry_kept, has_object, has_time_left, remembered_of, each_has_number, entry_without}
-use Rattle.dgc_server.specs.Table.{entry_of, remembered}
-use Rattle.dgc_server.specs.Stands.{LeaseTable, IsSound, EntryStands, StandsFor}
-use Rattle.dgc_server.specs.Index.{Way, Naming, IsSettled, counted_at, is_counted, is_named, entry_names, with_only, object_count, objects_in, total_of}
-use Rattle.dgc_server.proofs.Fresh.{same_id-turned}
+use Rattle.dgc_server.specs.Table.{entry_of, remembered_count}
+use Rattle.dgc_server.specs.StandsForCalls.{LeaseTable, IsSound, EntryStands, StandsFor}
+use Rattle.dgc_server.specs.HolderIndex.{Way, Naming, IsSettled, counted_at, is_counted, is_named, entry_names, with_only, object_count, objects_in, total_of}
 use Rattle.dgc_server.proofs.Few.{few-lapse, few-without}
 use Rattle.dgc_server.proofs.Kept.{numbered-lapse, numbered-without, once-lapse, once-without, remembered-lapse, remembered-without}
 use Rattle.dgc_server.proofs.Tables.{order-lapse, order-without}
@@ -216,14 +216,14 @@ module _ (m : ℕ) where
 
   -- As many pairs go as are counted.
   pub each-pairs : (n lease : ℕ) (os : List ObjId) (es : List Entry) (f : ObjId → ℕ) → ((o : ObjId) → f o ≡ length (filter (entry_names o) es)) → AllByRecursion (IsSettled m n) es → IsSound lease m es →
-      remembered m (each_dropped os es) + total_of f os ≡ remembered m es
+      remembered_count m (each_dropped os es) + total_of f os ≡ remembered_count m es
   each-pairs n lease [] es f h a s = omega arith
   each-pairs n lease (o ∷ os) es f h a s =
       let own = pairs-dropped o m n es a s.noted s.once in let named = h o in
       let rest = each-pairs n lease os (rest_of o m es) (λ p. if same_id o p then 0 else f p) (λ p. ap (λ k. if same_id o p then 0 else k) (h p) ∙ sym (counted-dropped Naming o es p))
       (settled-dropped m n o es a) (sound-dropped n lease o es a s) in omega arith
 
-  objects-remembered : (n : ℕ) (es : List Entry) → AllByRecursion (IsSettled m n) es → list_all (λ e. each_has_number e.objects) es ≡ true → remembered m es ≡ objects_in es
+  objects-remembered : (n : ℕ) (es : List Entry) → AllByRecursion (IsSettled m n) es → list_all (λ e. each_has_number e.objects) es ≡ true → remembered_count m es ≡ objects_in es
   objects-remembered n [] a h = refl
   objects-remembered n (e ∷ es) a h =
       let two = and_parts (each_has_number e.objects) (list_all (λ e. each_has_number e.objects) es) h in

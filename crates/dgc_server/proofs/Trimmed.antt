@@ -7,9 +7,9 @@ use Rattle.object_ids.specs.declared.ids.ObjId.{ObjId}
 use Rattle.object_ids.specs.Client.{Client}
 use Rattle.history.specs.declared.calls.CallKind.{CallKind}
 use Rattle.history.proofs.ListLemmas.{and_true}
-use Rattle.dgc_server.specs.Entry.{ObjectEntry, Entry, has_strong, strong_only, tenure_forgotten, lapsed, is_entry_kept, is_empty, is_strong_alone, is_needed}
+use Rattle.dgc_server.specs.Entry.{ObjectEntry, Entry, has_strong, strong_only, tenure_forgotten, entry_after_lapse, is_entry_kept, is_empty, is_strong_alone, is_needed}
 use Rattle.dgc_server.specs.Table.{entry_of, with_entry, after_lapse}
-use Rattle.dgc_server.specs.Stands.{LeaseTable, IsTrimmed, entry_after, table_after}
+use Rattle.dgc_server.specs.StandsForCalls.{LeaseTable, IsTrimmed, entry_after, table_after}
 
 -- Once a tenure is forgotten, the numbers of strong cleans are left.
 strong-left : (es : List ObjectEntry) → list_all is_strong_alone (tenure_forgotten es) ≡ true
@@ -20,7 +20,7 @@ strong-left (e ∷ es) = go (has_strong e) refl (strong-left es)
     go true s rest = rw (s, rest) refl
     go false s rest = rest
 
-kept-needed : (k : ℕ) (e : Entry) → is_entry_kept k (lapsed k e) ≡ true → is_needed k (lapsed k e) ≡ true
+kept-needed : (k : ℕ) (e : Entry) → is_entry_kept k (entry_after_lapse k e) ≡ true → is_needed k (entry_after_lapse k e) ≡ true
 kept-needed k e = go (nat_lt k e.until) refl
   where
     after : Bool → Entry
@@ -32,10 +32,10 @@ kept-needed k e = go (nat_lt k e.until) refl
 
 pub trimmed-lapse : (k : ℕ) (es : List Entry) → list_all (is_needed k) (after_lapse k es) ≡ true
 trimmed-lapse k [] = refl
-trimmed-lapse k (e ∷ es) = go (is_entry_kept k (lapsed k e)) refl (trimmed-lapse k es)
+trimmed-lapse k (e ∷ es) = go (is_entry_kept k (entry_after_lapse k e)) refl (trimmed-lapse k es)
   where
-    go : (b : Bool) → is_entry_kept k (lapsed k e) ≡ b → list_all (is_needed k) (after_lapse k es) ≡ true → list_all (is_needed k) (cond b (lapsed k e ∷ after_lapse k es) (after_lapse k es)) ≡ true
-    go true kept rest = and_from (is_needed k (lapsed k e)) (list_all (is_needed k) (after_lapse k es)) (kept-needed k e kept) rest
+    go : (b : Bool) → is_entry_kept k (entry_after_lapse k e) ≡ b → list_all (is_needed k) (after_lapse k es) ≡ true → list_all (is_needed k) (cond b (entry_after_lapse k e ∷ after_lapse k es) (after_lapse k es)) ≡ true
+    go true kept rest = and_from (is_needed k (entry_after_lapse k e)) (list_all (is_needed k) (after_lapse k es)) (kept-needed k e kept) rest
     go false kept rest = rest
 
 -- A call forgets what ended too.

@@ -2,24 +2,23 @@
 use Rattle.std.proofs.Common.{◌≡◌, ℕ, ◌+◌, ◌≤◌, ◌<◌, List, [], ◌∷◌, refl, ap, sym, ◌∙◌, arith, cond, length, map, take, get_or, suc, zero}
 use Rattle.std.specs.Prelude.{Bool, true, false, ◌&&◌, ◌||◌, not, filter, nat_lt, slice_set, remove, if◌then◌else◌}
 use Rattle.std.specs.List.{list_all, AllByRecursion}
-use Rattle.std.proofs.lemmas.Bool.{and_parts, and_from}
+use Rattle.std.proofs.lemmas.Bool.{and_parts, and_from, not-true}
 use Rattle.std.proofs.lemmas.List.Sums.{sum_by-cons}
 use Rattle.std.proofs.lemmas.List.{length-map}
 use Rattle.object_ids.specs.declared.ids.ObjId.{ObjId}
 use Rattle.object_ids.specs.Same.{same_id}
 use Rattle.object_ids.proofs.Exact.{same_id-self, same_id-equal}
 use Rattle.dgc_server.specs.Numbers.{is_remembered}
-use Rattle.dgc_server.specs.Entry.{ObjectEntry, Entry, lapsed, is_entry_kept, is_empty, has_time_left, has_number, each_has_number, has_object, has_strong, strong_only, tenure_forgotten, entry_without, remembered_of}
-use Rattle.dgc_server.specs.Table.{remembered}
-use Rattle.dgc_server.specs.Stands.{each_once}
-use Rattle.dgc_server.specs.Index.{IsSettled, entry_names, one_if}
-use Rattle.dgc_server.proofs.Distinct.{absent_is}
+use Rattle.dgc_server.specs.Entry.{ObjectEntry, Entry, entry_after_lapse, is_entry_kept, is_empty, has_time_left, has_number, each_has_number, has_object, has_strong, strong_only, tenure_forgotten, entry_without, remembered_of}
+use Rattle.dgc_server.specs.Table.{remembered_count}
+use Rattle.dgc_server.specs.StandsForCalls.{each_once}
+use Rattle.dgc_server.specs.HolderIndex.{IsSettled, entry_names, one_if}
 use Rattle.dgc_server.proofs.MarkLaws.{others-all, all-remembered}
 use Rattle.dgc_server.proofs.IndexLaws.{names-without}
 use Rattle.dgc_server.proofs.Dropping.{lapsed-without}
 
 -- Of a settled client each object makes a remembered pair.
-pub whole : (m : ℕ) (e : Entry) → lapsed m e ≡ e → each_has_number e.objects ≡ true → remembered_of m e ≡ length e.objects
+pub whole : (m : ℕ) (e : Entry) → entry_after_lapse m e ≡ e → each_has_number e.objects ≡ true → remembered_of m e ≡ length e.objects
 whole m e settled numbered = go (nat_lt m e.until) settled
   where
     go : (b : Bool) → (if b then e else record e { objects = tenure_forgotten e.objects }) ≡ e → length (filter (λ (x : ObjectEntry). is_remembered b x.numbers) e.objects) ≡ length e.objects
@@ -154,7 +153,7 @@ module _ (o : ObjId) (m : ℕ) where
       go : (b : Bool) → same_id x.object o ≡ b → length (filter (λ x. not (same_id x.object o)) os) + one_if (has_object os o) ≡ length os →
           length (cond (not b) (x ∷ filter (λ x. not (same_id x.object o)) os) (filter (λ x. not (same_id x.object o)) os)) + one_if (b || has_object os o) ≡ length (x ∷ os)
       go true y h =
-          let none : one_if (has_object os o) ≡ 0 = ap one_if (ap (has_object os) (sym (same_id-equal x.object o y)) ∙ absent_is (has_object os x.object) two.0) in omega arith
+          let none : one_if (has_object os o) ≡ 0 = ap one_if (ap (has_object os) (sym (same_id-equal x.object o y)) ∙ not-true (has_object os x.object) two.0) in omega arith
       go false y h = omega arith
 
   numbered-filter : (os : List ObjectEntry) → each_has_number os ≡ true → each_has_number (filter (λ x. not (same_id x.object o)) os) ≡ true
@@ -168,7 +167,7 @@ module _ (o : ObjId) (m : ℕ) where
 
   -- As many pairs go as clients name the object.
   pub pairs-dropped : (n : ℕ) (es : List Entry) → AllByRecursion (IsSettled m n) es → list_all (λ e. each_has_number e.objects) es ≡ true → list_all (λ e. each_once e.objects) es ≡ true →
-      remembered m (rest_of es) + length (filter (entry_names o) es) ≡ remembered m es
+      remembered_count m (rest_of es) + length (filter (entry_names o) es) ≡ remembered_count m es
   pairs-dropped n [] a numbered once = refl
   pairs-dropped n (e ∷ es) a numbered once =
       let number = and_parts (each_has_number e.objects) (list_all (λ e. each_has_number e.objects) es) numbered in
@@ -185,9 +184,9 @@ module _ (o : ObjId) (m : ℕ) where
       nothing false (x ∷ os) h = absurd (cc)
 
       first : (k b : Bool) → is_entry_kept m (entry_without o e) ≡ k → entry_names o e ≡ b → remembered_of m e ≡ length e.objects → remembered_of m (entry_without o e) ≡ length (entry_without o e).objects →
-          length (entry_without o e).objects + one_if (entry_names o e) ≡ length e.objects → remembered m (e ∷ es) ≡ remembered_of m e + remembered m es →
-          remembered m (rest_of es) + length (filter (entry_names o) es) ≡ remembered m es →
-          remembered m (cond k (entry_without o e ∷ rest_of es) (rest_of es)) + length (cond b (e ∷ filter (entry_names o) es) (filter (entry_names o) es)) ≡ remembered m (e ∷ es)
+          length (entry_without o e).objects + one_if (entry_names o e) ≡ length e.objects → remembered_count m (e ∷ es) ≡ remembered_of m e + remembered_count m es →
+          remembered_count m (rest_of es) + length (filter (entry_names o) es) ≡ remembered_count m es →
+          remembered_count m (cond k (entry_without o e ∷ rest_of es) (rest_of es)) + length (cond b (e ∷ filter (entry_names o) es) (filter (entry_names o) es)) ≡ remembered_count m (e ∷ es)
       first true true x y all left parted sums rest =
           let s = sum_by-cons (remembered_of m) (entry_without o e) (rest_of es) in let v = ap one_if y in omega arith
       first true false x y all left parted sums rest =

@@ -14,7 +14,7 @@ use Rattle.dgc_server.specs.Numbers.{no_numbers, larger}
 use Rattle.dgc_server.specs.Entry.{ObjectEntry, Entry, numbers_of, entry_without}
 use Rattle.dgc_server.specs.Table.{entry_of}
 use Rattle.dgc_server.specs.Counts.{without}
-use Rattle.dgc_server.specs.Stands.{LeaseTable, StandsFor, EntryStands, top, is_dirty_for, is_clean_for, is_strong_for}
+use Rattle.dgc_server.specs.StandsForCalls.{LeaseTable, StandsFor, EntryStands, top, is_dirty_for, is_clean_for, is_strong_for}
 use Rattle.dgc_server.proofs.Objects.{once-filter}
 use Rattle.dgc_server.proofs.Ordered.{entry-map}
 

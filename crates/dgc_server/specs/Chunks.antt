@@ -5,7 +5,7 @@ use Rattle.object_ids.specs.Client.{Client}
 use Rattle.dgc_server.specs.declared.clients.Chunk.{Chunk}
 use Rattle.dgc_server.specs.Entry.{Entry}
 use Rattle.dgc_server.specs.Table.{with_entry}
-use Rattle.dgc_server.specs.Index.{IsSettled, IsCalm}
+use Rattle.dgc_server.specs.HolderIndex.{IsSettled, IsCalm}
 
 -- The clients of all chunks, those of one behind those of the other.
 abbrev pub all_of : List Chunk → List Entry

@@ -1,8 +1,8 @@
 pub mod Chunks
 pub mod Counts
 pub mod Entry
-pub mod Index
+pub mod HolderIndex
 pub mod Marks
 pub mod Numbers
-pub mod Stands
+pub mod StandsForCalls
 pub mod Table

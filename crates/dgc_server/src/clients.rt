@@ -5,10 +5,10 @@ ghost use Rattle.std.specs.Option.{option_copied};
 ghost use Rattle.std.specs.Ordering.{is_lt};
 ghost use Rattle.object_ids.specs.declared.ids.ObjId.{ObjId};
 ghost use Rattle.object_ids.specs.Client.{client_cmp};
-ghost use Rattle.history.specs.declared.limits.TheConstants.{END_OF_TIME, MAX_DURATION, MAX_PAIRS};
+ghost use Rattle.history.specs.declared.limits.TheConstants.{END_OF_TIME, MAX_DURATION_MS, MAX_PAIRS};
 ghost use Rattle.dgc_server.specs.Entry.{Entry, each_has_number, entry_without, is_entry_kept, is_in};
-ghost use Rattle.dgc_server.specs.Stands.{each_once, is_in_order, entry_after};
-ghost use Rattle.dgc_server.specs.Index.{Way, counted_at, has_count, is_counted, is_named, one_if, entry_names, with_only, objects_in, sums_at, bound_of, IsIndexed, IsNoted};
+ghost use Rattle.dgc_server.specs.StandsForCalls.{each_once, is_in_order, entry_after};
+ghost use Rattle.dgc_server.specs.HolderIndex.{Way, counted_at, has_count, is_counted, is_named, one_if, entry_names, with_only, objects_in, sums_at, bound_of, IsIndexed, IsNoted};
 ghost use Rattle.dgc_server.specs.Table.{entry_of, no_entry, with_entry, after_lapse};
 ghost use Rattle.dgc_server.specs.Chunks.{all_of, is_filled, IsChunkOf, IsBounded, IsChunked};
 ghost use Rattle.dgc_server.specs.declared.clients.TheConstants.{CHUNK_LEN};
@@ -22,10 +22,10 @@ use std::alloc::{AllocError, Global};
 use std::cmp::Ordering;
 use std::marker::Model;
 
-/// So many clients a chunk has at most.
+/// The most clients that a chunk has.
 const CHUNK_LEN: usize = 256;
 
-/// So many stay in a chunk that is split.
+/// The number of clients that stay in a chunk that is split.
 const HALF_LEN: usize = 128;
 
 /// Some clients that stand together in the list of clients.
@@ -134,7 +134,7 @@ impl Clients {
         requires later { self.old.moment ≤ call.now.time }
         requires early { call.now.time < END_OF_TIME }
         requires some { 1 ≤ lease }
-        requires short { lease ≤ MAX_DURATION }
+        requires short { lease ≤ MAX_DURATION_MS }
         requires numbered { IsTrue (list_all (λ e. each_has_number e.objects) self.old.entries) }
         requires ordered { IsTrue (is_in_order self.old.entries) }
         requires once { IsTrue (list_all (λ e. each_once e.objects) self.old.entries) }
@@ -344,7 +344,7 @@ fn note_call(
     requires later { from ≤ call.now.time }
     requires early { call.now.time < END_OF_TIME }
     requires some { 1 ≤ lease }
-    requires short { lease ≤ MAX_DURATION }
+    requires short { lease ≤ MAX_DURATION_MS }
     requires numbered { IsTrue (list_all (λ e. each_has_number e.objects) (all_of chunks.old.items)) }
     requires ordered { IsTrue (is_in_order (all_of chunks.old.items)) }
     requires once { IsTrue (list_all (λ e. each_once e.objects) (all_of chunks.old.items)) }
@@ -385,7 +385,7 @@ fn note_first(
     requires later { from ≤ call.now.time }
     requires early { call.now.time < END_OF_TIME }
     requires some { 1 ≤ lease }
-    requires short { lease ≤ MAX_DURATION }
+    requires short { lease ≤ MAX_DURATION_MS }
     requires has { (o : ObjId) → is_in o call.now.objects.now ≡ true → has_count counts.old o ≡ true }
     requires few { (w : Way) (o : ObjId) → counted_at w counts.old o + 1 < 2 ^ 31 }
     ensures ok { OnOk result (all_of chunks.new.items ≡ with_entry
@@ -425,7 +425,7 @@ fn note_own(
     requires later { from ≤ call.now.time }
     requires early { call.now.time < END_OF_TIME }
     requires some { 1 ≤ lease }
-    requires short { lease ≤ MAX_DURATION }
+    requires short { lease ≤ MAX_DURATION_MS }
     requires numbered { IsTrue (list_all (λ e. each_has_number e.objects) (all_of chunks.old.items)) }
     requires ordered { IsTrue (is_in_order (all_of chunks.old.items)) }
     requires once { IsTrue (list_all (λ e. each_once e.objects) (all_of chunks.old.items)) }
@@ -475,7 +475,7 @@ fn note_in(
     requires later { from ≤ call.now.time }
     requires early { call.now.time < END_OF_TIME }
     requires some { 1 ≤ lease }
-    requires short { lease ≤ MAX_DURATION }
+    requires short { lease ≤ MAX_DURATION_MS }
     requires numbered { IsTrue (list_all (λ e. each_has_number e.objects) chunk.old.entries.items) }
     requires ordered { IsTrue (is_in_order chunk.old.entries.items) }
     requires once { IsTrue (list_all (λ e. each_once e.objects) chunk.old.entries.items) }

@@ -2,7 +2,7 @@
 ghost use Rattle.std.specs.Prelude.{◌≡◌, ℕ, ◌+◌, length, filter, map, IsTrue};
 ghost use Rattle.std.specs.List.{list_all, AllByRecursion};
 ghost use Rattle.dgc_server.specs.Entry.{entry_without, is_entry_kept};
-ghost use Rattle.dgc_server.specs.Index.{entry_names, is_named, with_only, objects_in};
+ghost use Rattle.dgc_server.specs.HolderIndex.{entry_names, is_named, with_only, objects_in};
 ghost use Rattle.dgc_server.specs.Chunks.{all_of, is_filled, IsBounded, IsCalmChunk};
 
 use crate::clients::Chunk;

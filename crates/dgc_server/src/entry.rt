@@ -2,12 +2,12 @@
 ghost use Rattle.std.specs.Prelude.{◌≡◌, ◌+◌, ◌<◌, ◌≤◌, ◌^◌, length, IsTrue, IfOk, OnOk, OnErr, true, if◌then◌else◌};
 ghost use Rattle.object_ids.specs.declared.ids.ObjId.{ObjId};
 ghost use Rattle.history.specs.Leases.{is_dirty_kind};
-ghost use Rattle.history.specs.declared.limits.TheConstants.{END_OF_TIME, MAX_DURATION};
+ghost use Rattle.history.specs.declared.limits.TheConstants.{END_OF_TIME, MAX_DURATION_MS};
 ghost use Rattle.dgc_server.specs.Numbers.{is_dirty_highest};
-ghost use Rattle.dgc_server.specs.Entry.{has_time_left, each_has_number, entry_holds, remembered_of, fresh_of, numbers_of, has_object, is_in, lapsed, entry_without, is_entry_kept, object_entries};
-ghost use Rattle.dgc_server.specs.Stands.{each_once, entry_after};
+ghost use Rattle.dgc_server.specs.Entry.{has_time_left, each_has_number, entry_holds, remembered_of, fresh_of, numbers_of, has_object, is_in, entry_after_lapse, entry_without, is_entry_kept, object_entries};
+ghost use Rattle.dgc_server.specs.StandsForCalls.{each_once, entry_after};
 ghost use Rattle.dgc_server.specs.Table.{no_entry};
-ghost use Rattle.dgc_server.specs.Index.{Way, counted_at, has_count, one_if, is_counted, is_named, with_only};
+ghost use Rattle.dgc_server.specs.HolderIndex.{Way, counted_at, has_count, one_if, is_counted, is_named, with_only};
 
 use crate::holders::{ClientHint, Counts};
 use crate::marks::{self, Marks};
@@ -133,7 +133,7 @@ impl ClientEntry {
     }
 
     /// How many objects make a remembered pair with the client at this moment.
-    pub fn remembered(&self, time: u64) -> usize
+    pub fn remembered_count(&self, time: u64) -> usize
         requires { IsTrue (each_has_number self.now.objects) }
         ensures { result ≡ remembered_of time self.now }
     {
@@ -162,7 +162,7 @@ impl ClientEntry {
         requires later { from ≤ call.now.time }
         requires early { call.now.time < END_OF_TIME }
         requires some { 1 ≤ lease }
-        requires short { lease ≤ MAX_DURATION }
+        requires short { lease ≤ MAX_DURATION_MS }
         requires once { IsTrue (each_once self.old.objects) }
         requires has { (o : ObjId) → is_in o call.now.objects.now ≡ true → has_count counts.old o ≡ true }
         requires enough { (w : Way) (o : ObjId) → one_if (is_counted w from o self.old) ≤ counted_at w counts.old o }
@@ -194,7 +194,7 @@ impl ClientEntry {
 
     /// Forgets the tenure, if the lease is over at this moment.
     pub fn lapse(&mut self, now: u64)
-        ensures { self.new ≡ lapsed now self.old }
+        ensures { self.new ≡ entry_after_lapse now self.old }
     {
         let is_over = now >= self.until;
         marks::lapse(&mut self.kept.objects, is_over);

@@ -4,7 +4,7 @@ ghost use Rattle.std.specs.List.{position_or_len};
 ghost use Rattle.object_ids.specs.Same.{same_id};
 ghost use Rattle.dgc_server.specs.Numbers.{strong_part, is_remembered};
 ghost use Rattle.dgc_server.specs.Entry.{object_entries, numbers_of, has_object, with_numbers, tenure_forgotten};
-ghost use Rattle.dgc_server.specs.Index.{is_named};
+ghost use Rattle.dgc_server.specs.HolderIndex.{is_named};
 
 use crate::holders::{self, Counts};
 use crate::numbers::Numbers;

@@ -2,9 +2,9 @@
 ghost use Rattle.std.specs.Prelude.{◌≡◌, ◌+◌, ◌≤◌, ◌^◌, ◌||◌, IsTrue, OnOk, true, if◌then◌else◌};
 ghost use Rattle.object_ids.specs.declared.ids.ObjId.{ObjId};
 ghost use Rattle.object_ids.specs.Same.{same_id};
-ghost use Rattle.dgc_server.specs.Entry.{object_entries, each_has_number, is_in, has_time_left, remembered_of, lapsed};
-ghost use Rattle.dgc_server.specs.Stands.{each_once};
-ghost use Rattle.dgc_server.specs.Index.{Way, Naming, no_count, count_by, count_at, counted_at, has_count, one_if, share_by, lost_share, loses, has_with, is_counted, is_named, total_of};
+ghost use Rattle.dgc_server.specs.Entry.{object_entries, each_has_number, is_in, has_time_left, remembered_of, entry_after_lapse};
+ghost use Rattle.dgc_server.specs.StandsForCalls.{each_once};
+ghost use Rattle.dgc_server.specs.HolderIndex.{Way, Naming, no_count, count_by, count_at, counted_at, has_count, one_if, share_by, lost_share, loses, has_with, is_counted, is_named, total_of};
 
 use crate::entry::ClientEntry;
 use crate::marks::Marks;
@@ -17,7 +17,9 @@ use std::alloc::AllocError;
 /// Where a client stands: in the chunk of this number, behind so many others of it. What keeps a place keeps it as a hint where to look first.
 #[derive(Clone, Copy)]
 pub struct ClientHint {
+    /// The number of the chunk, from 0 on.
     pub chunk: u16,
+    /// The place in the chunk, from 0 on.
     pub index: u16,
 }
 
@@ -30,13 +32,13 @@ impl ClientHint {
                 index: index as u16,
             }
         } else {
-            FIRST
+            FIRST_CLIENT
         }
     }
 }
 
 /// The first place of all.
-const FIRST: ClientHint = ClientHint { chunk: 0, index: 0 };
+const FIRST_CLIENT: ClientHint = ClientHint { chunk: 0, index: 0 };
 
 /// What is counted of an object: how many clients hold it, how many name it (some number of it is kept of them), and at which place one
 /// that names it stood when a call of it was noted last.
@@ -71,7 +73,7 @@ fn no_count() -> Count
     Count {
         holders: 0,
         clients: 0,
-        hint: FIRST,
+        hint: FIRST_CLIENT,
     }
 }
 
@@ -234,7 +236,7 @@ fn release_over(counts: &mut Counts, entry: &ClientEntry, from: u64, to: u64)
     requires once { IsTrue (each_once entry.now.objects) }
     requires enough { (w : Way) (o : ObjId) → one_if (is_counted w from o entry.now) ≤ counted_at w counts.old o }
     ensures counts { (w : Way) (o : ObjId) → counted_at w counts.new o + one_if (is_counted w from o entry.now)
-        ≡ counted_at w counts.old o + one_if (is_counted w to o (lapsed to entry.now)) }
+        ≡ counted_at w counts.old o + one_if (is_counted w to o (entry_after_lapse to entry.now)) }
     ensures kept { (o : ObjId) → has_count counts.old o ≡ true → has_count counts.new o ≡ true }
 {
     let goes_on = entry.has_time_left(to);
@@ -261,11 +263,11 @@ pub fn end_tenure(
     requires leased { one_if (has_time_left from entry.old) ≤ sums.leased }
     requires pairs { remembered_of from entry.old ≤ sums.pairs }
     requires few { (sums.leased ≤ 2 ^ 17) × (sums.pairs ≤ 2 ^ 65) }
-    ensures entry { entry.new ≡ lapsed to entry.old }
+    ensures entry { entry.new ≡ entry_after_lapse to entry.old }
     ensures counts { (w : Way) (o : ObjId) → counted_at w counts.new o + one_if (is_counted w from o entry.old)
-        ≡ counted_at w counts.old o + one_if (is_counted w to o (lapsed to entry.old)) }
-    ensures leased { result.leased + one_if (has_time_left from entry.old) ≡ sums.leased + one_if (has_time_left to (lapsed to entry.old)) }
-    ensures pairs { result.pairs + remembered_of from entry.old ≡ sums.pairs + remembered_of to (lapsed to entry.old) }
+        ≡ counted_at w counts.old o + one_if (is_counted w to o (entry_after_lapse to entry.old)) }
+    ensures leased { result.leased + one_if (has_time_left from entry.old) ≡ sums.leased + one_if (has_time_left to (entry_after_lapse to entry.old)) }
+    ensures pairs { result.pairs + remembered_of from entry.old ≡ sums.pairs + remembered_of to (entry_after_lapse to entry.old) }
 {
     let before = table::sums_of(entry, from);
     release_over(counts, entry, from, to);
@@ -287,7 +289,7 @@ pub fn forget_all(counts: &mut Counts, objects: &[ObjId]) -> Gone
     ensures pairs { result.pairs ≡ total_of (counted_at Naming counts.old) objects.now }
 {
     let mut pairs: u128 = 0;
-    let mut hint = FIRST;
+    let mut hint = FIRST_CLIENT;
     for object in objects {
         let count = take_out(counts, object);
         hint = first_hint(pairs, hint, &count);

@@ -2,10 +2,10 @@
 ghost use Rattle.std.specs.Prelude.{◌≡◌, ◌+◌, ◌<◌, ◌≤◌, ◌^◌, map, IsTrue};
 ghost use Rattle.std.specs.List.{list_all, AllByRecursion};
 ghost use Rattle.history.specs.declared.limits.TheConstants.{END_OF_TIME};
-ghost use Rattle.dgc_server.specs.Entry.{each_has_number, lapsed};
+ghost use Rattle.dgc_server.specs.Entry.{each_has_number, entry_after_lapse};
 ghost use Rattle.dgc_server.specs.Table.{after_lapse};
-ghost use Rattle.dgc_server.specs.Stands.{each_once};
-ghost use Rattle.dgc_server.specs.Index.{Tally, tally_in, tally_at, ends_later, IsSettled};
+ghost use Rattle.dgc_server.specs.StandsForCalls.{each_once};
+ghost use Rattle.dgc_server.specs.HolderIndex.{Tally, tally_in, tally_at, ends_later, IsSettled};
 ghost use Rattle.dgc_server.specs.Chunks.{all_of, IsBounded};
 
 use crate::clients::Chunk;
@@ -29,9 +29,9 @@ fn pass_each(
     requires numbered { IsTrue (list_all (λ e. each_has_number e.objects) entries.old) }
     requires enough { (k : Tally) → tally_in k from entries.old ≤ tally_at k counts.old sums }
     requires few { (sums.leased ≤ 2 ^ 17) × (sums.pairs ≤ 2 ^ 65) }
-    ensures entries { entries.new ≡ map (lapsed to) entries.old }
+    ensures entries { entries.new ≡ map (entry_after_lapse to) entries.old }
     ensures tallies { (k : Tally) → tally_at k counts.new result.sums + tally_in k from entries.old
-        ≡ tally_at k counts.old sums + tally_in k to (map (lapsed to) entries.old) }
+        ≡ tally_at k counts.old sums + tally_in k to (map (entry_after_lapse to) entries.old) }
     ensures few { (result.sums.leased ≤ 2 ^ 17) × (result.sums.pairs ≤ 2 ^ 65) }
     ensures ends { IsTrue (list_all (ends_later to result.next) entries.old) }
     ensures later { to < result.next }
@@ -60,9 +60,9 @@ fn pass_entries(chunk: &mut Chunk, counts: &mut Counts, sums: Sums, from: u64, t
     requires numbered { IsTrue (list_all (λ e. each_has_number e.objects) chunk.old.entries.items) }
     requires enough { (k : Tally) → tally_in k from chunk.old.entries.items ≤ tally_at k counts.old sums }
     requires few { (sums.leased ≤ 2 ^ 17) × (sums.pairs ≤ 2 ^ 65) }
-    ensures entries { chunk.new.entries.items ≡ map (lapsed to) chunk.old.entries.items }
+    ensures entries { chunk.new.entries.items ≡ map (entry_after_lapse to) chunk.old.entries.items }
     ensures tallies { (k : Tally) → tally_at k counts.new result.sums + tally_in k from chunk.old.entries.items
-        ≡ tally_at k counts.old sums + tally_in k to (map (lapsed to) chunk.old.entries.items) }
+        ≡ tally_at k counts.old sums + tally_in k to (map (entry_after_lapse to) chunk.old.entries.items) }
     ensures few { (result.sums.leased ≤ 2 ^ 17) × (result.sums.pairs ≤ 2 ^ 65) }
     ensures ends { IsTrue (list_all (ends_later to result.next) chunk.old.entries.items) }
     ensures later { to < result.next }
@@ -84,7 +84,7 @@ fn pass_chunk(chunk: &mut Chunk, counts: &mut Counts, passed: Passed, from: u64,
     requires settled { from < chunk.old.least → AllByRecursion (IsSettled from chunk.old.least) chunk.old.entries.items }
     ensures entries { chunk.new.entries.items ≡ after_lapse to chunk.old.entries.items }
     ensures tallies { (k : Tally) → tally_at k counts.new result.sums + tally_in k from chunk.old.entries.items
-        ≡ tally_at k counts.old passed.sums + tally_in k to (map (lapsed to) chunk.old.entries.items) }
+        ≡ tally_at k counts.old passed.sums + tally_in k to (map (entry_after_lapse to) chunk.old.entries.items) }
     ensures few { (result.sums.leased ≤ 2 ^ 17) × (result.sums.pairs ≤ 2 ^ 65) }
     ensures ends { IsTrue (list_all (ends_later to result.next) chunk.old.entries.items) }
     ensures earlier { result.next ≤ passed.next }
@@ -123,7 +123,7 @@ pub fn pass_all(
     requires few { (sums.leased ≤ 2 ^ 17) × (sums.pairs ≤ 2 ^ 65) }
     requires bounded { AllByRecursion (IsBounded from 0) chunks.old.items }
     ensures entries { all_of chunks.new.items ≡ after_lapse to (all_of chunks.old.items) }
-    ensures tallies { (k : Tally) → tally_at k counts.new result.sums ≡ tally_in k to (map (lapsed to) (all_of chunks.old.items)) }
+    ensures tallies { (k : Tally) → tally_at k counts.new result.sums ≡ tally_in k to (map (entry_after_lapse to) (all_of chunks.old.items)) }
     ensures ends { IsTrue (list_all (ends_later to result.next) (all_of chunks.old.items)) }
     ensures later { to < result.next }
     ensures bounded { AllByRecursion (IsBounded to result.next) chunks.new.items }

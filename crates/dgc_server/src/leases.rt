@@ -3,26 +3,26 @@ ghost use Rattle.std.specs.Prelude.{◌≡◌, ◌≢◌, ◌<◌, ◌≤◌, �
 ghost use Rattle.std.specs.List.{list_any};
 ghost use Rattle.object_ids.specs.declared.ids.ObjId.{ObjId};
 ghost use Rattle.object_ids.specs.Same.{same_id};
-ghost use Rattle.history.specs.declared.limits.TheConstants.{MAX_CLIENTS, MAX_PAIRS, END_OF_TIME, MAX_DURATION};
+ghost use Rattle.history.specs.declared.limits.TheConstants.{MAX_CLIENTS, MAX_PAIRS, END_OF_TIME, MAX_DURATION_MS};
 ghost use Rattle.history.specs.Leases.{is_dirty_kind, is_held, holders, pairs, lease_rows};
 ghost use Rattle.dgc_server.specs.Counts.{dirty_call, clean_call, clean_kind, without, without_all, clients_with_call, pairs_with_call};
-ghost use Rattle.dgc_server.specs.Stands.{IsSound, IsTrimmed, StandsFor, ForEachLog, table_after};
-ghost use Rattle.dgc_server.specs.Index.{sums_at};
+ghost use Rattle.dgc_server.specs.StandsForCalls.{IsSound, IsTrimmed, StandsFor, ForEachLog, table_after};
+ghost use Rattle.dgc_server.specs.HolderIndex.{sums_at};
 ghost use Rattle.dgc_server.specs.Table.{clients_after, pairs_after};
 
 use crate::clients::Clients;
 use crate::entry::LeaseCall;
 use crate::holders::{Counts, count_of, forget, forget_all, touch_all};
 use crate::table::{self, Sums};
-use crate::{ended, scans};
+use crate::{lease_ends, scans};
 use history::{CallKind, LeaseList};
 use object_ids::{ObjId, ObjIds, Vmid};
 use std::alloc::{AllocError, Global};
 use std::fmt;
 use std::marker::Model;
 
-/// So many objects are dropped one by one.
-const FEW: usize = 4;
+/// The most objects that are dropped one by one. More are dropped together.
+const MAX_DROPPED_ONE_BY_ONE: usize = 4;
 
 /// Why a lease call is refused.
 #[derive(Clone, Copy, Debug, PartialEq, Eq)]
@@ -82,9 +82,9 @@ impl fmt::Debug for Leases {
 }
 
 impl Model for Leases {
-    ghost use Rattle.dgc_server.specs.Stands.{LeaseTable, IsSound};
+    ghost use Rattle.dgc_server.specs.StandsForCalls.{LeaseTable, IsSound};
     ghost use Rattle.std.specs.Prelude.{◌≡◌, ◌<◌};
-    ghost use Rattle.dgc_server.specs.Index.{IsIndexed, sums_at};
+    ghost use Rattle.dgc_server.specs.HolderIndex.{IsIndexed, sums_at};
 
     ghost Value = { LeaseTable };
 
@@ -98,7 +98,7 @@ impl Leases {
     /// The table of no calls. Each lease lasts for `lease_ms` milliseconds.
     pub fn fresh(alloc: Global, lease_ms: u64) -> Leases
         requires some { 1 ≤ lease_ms }
-        requires short { lease_ms ≤ MAX_DURATION }
+        requires short { lease_ms ≤ MAX_DURATION_MS }
         ensures { StandsFor lease_ms result 0 [] }
     {
         Leases {
@@ -199,13 +199,13 @@ impl Leases {
 
     /// Objects that clients hold at the greatest moment so far: at least those that none holds any more once time has passed to `now`, in no order.
     /// Where no lease ends by then it looks at no client and takes no memory.
-    pub fn freed(&self, alloc: Global, now: u64) -> Result<Vec<ObjId>, AllocError>
+    pub fn freed_objects(&self, alloc: Global, now: u64) -> Result<Vec<ObjId>, AllocError>
         ensures whole { IfOk result (λ os. ForEachLog self.now (λ lease moment calls. (o : ObjId) → is_held lease moment calls o ≡ true
             → is_held lease (max now moment) calls o ≡ false → list_any (same_id o) os.items ≡ true)) }
         ensures held { IfOk result (λ os. ForEachLog self.now (λ lease moment calls. (o : ObjId) → list_any (same_id o) os.items ≡ true
             → is_held lease moment calls o ≡ true)) }
     {
-        ended::freed(alloc, &self.clients, self.time(now))
+        lease_ends::freed_objects(alloc, &self.clients, self.time(now))
     }
 
     /// Whether a lease may end as time passes to `now`. Where none may, each object that a client holds at the greatest moment so far is held then, too.
@@ -256,7 +256,7 @@ impl Leases {
         ensures stands { ForEachLog self.old (λ lease moment calls.
             StandsFor lease self.new moment (map (without_all objects.now) calls)) }
     {
-        if objects.len() <= FEW {
+        if objects.len() <= MAX_DROPPED_ONE_BY_ONE {
             self.drop_each(objects);
         } else {
             self.drop_together(objects);

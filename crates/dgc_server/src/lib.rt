@@ -4,11 +4,11 @@
 
 mod clients;
 mod drops;
-mod ended;
 mod entry;
 mod few_marks;
 mod holders;
 mod lapses;
+mod lease_ends;
 mod leases;
 mod many_marks;
 mod mark_list;

@@ -5,8 +5,8 @@ ghost use Rattle.indexmap.specs.IndexMap.{spare, values, insert_entry};
 ghost use Rattle.object_ids.specs.Same.{same_id, same_key};
 ghost use Rattle.dgc_server.specs.Numbers.{no_numbers, strong_part, is_remembered};
 ghost use Rattle.dgc_server.specs.Entry.{object_entries, numbers_of, has_object, with_numbers, tenure_forgotten};
-ghost use Rattle.dgc_server.specs.Stands.{each_once};
-ghost use Rattle.dgc_server.specs.Index.{is_named};
+ghost use Rattle.dgc_server.specs.StandsForCalls.{each_once};
+ghost use Rattle.dgc_server.specs.HolderIndex.{is_named};
 
 use crate::few_marks::Mark;
 use crate::holders::{self, Counts};

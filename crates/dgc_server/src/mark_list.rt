@@ -5,8 +5,8 @@ ghost use Rattle.std.specs.Map.Iter.{TakesFirst, deref_pair};
 ghost use Rattle.object_ids.specs.Same.{same_id};
 ghost use Rattle.dgc_server.specs.Numbers.{is_remembered};
 ghost use Rattle.dgc_server.specs.Entry.{object_entries, numbers_of, has_object, with_numbers, tenure_forgotten, is_empty};
-ghost use Rattle.dgc_server.specs.Stands.{each_once};
-ghost use Rattle.dgc_server.specs.Index.{is_named};
+ghost use Rattle.dgc_server.specs.StandsForCalls.{each_once};
+ghost use Rattle.dgc_server.specs.HolderIndex.{is_named};
 
 use crate::few_marks::{self, Mark};
 use crate::holders::Counts;
@@ -19,8 +19,8 @@ use std::alloc::{AllocError, Global};
 use std::marker::Model;
 use std::slice;
 
-/// So many objects at most are kept in a list: the table of a map is made for nine or more.
-const MOST_IN_LIST: usize = 8;
+/// The most objects that a list keeps. The table of a map is made for nine or more.
+const MAX_LIST_LEN: usize = 8;
 
 /// For each object that a client named the numbers of the calls that count for it. Contracts see it as a `MarkList`.
 pub struct Marks {
@@ -223,7 +223,7 @@ impl Marks {
 
 /// Whether a list of so many objects may take so many more.
 fn fits_list(len: usize, more: usize) -> bool {
-    more <= MOST_IN_LIST && len <= MOST_IN_LIST - more
+    more <= MAX_LIST_LEN && len <= MAX_LIST_LEN - more
 }
 
 /// A walk over the objects with their numbers, seen as the list of those that are left.

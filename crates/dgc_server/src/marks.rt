@@ -5,8 +5,8 @@ ghost use Rattle.object_ids.specs.declared.ids.ObjId.{ObjId};
 ghost use Rattle.object_ids.specs.Same.{same_key};
 ghost use Rattle.dgc_server.specs.Numbers.{is_remembered};
 ghost use Rattle.dgc_server.specs.Entry.{object_entries, each_has_number, numbers_of, is_in, has_object, fresh_in, absent_in, room_for, object_noted, objects_noted, objects_after, with_numbers, tenure_forgotten, call_counts};
-ghost use Rattle.dgc_server.specs.Stands.{each_once};
-ghost use Rattle.dgc_server.specs.Index.{Way, counted_at, has_count, one_if, counts_in, is_named};
+ghost use Rattle.dgc_server.specs.StandsForCalls.{each_once};
+ghost use Rattle.dgc_server.specs.HolderIndex.{Way, counted_at, has_count, one_if, counts_in, is_named};
 
 use crate::few_marks::equal;
 use crate::holders::{self, ClientHint, Counts, Share};
@@ -17,8 +17,8 @@ use indexmap::IndexSet;
 use object_ids::ObjId;
 use std::alloc::{AllocError, Global};
 
-/// So many objects are counted without memory.
-const COUNTED_WITHOUT_MEMORY: usize = 16;
+/// The most objects that are counted without memory.
+const MAX_COUNTED_WITHOUT_MEMORY: usize = 16;
 
 /// How many objects make a remembered pair, where the client has time left or has not: if it has, all.
 pub fn remembered_in(objects: &Marks, left: bool) -> usize
@@ -37,7 +37,7 @@ pub fn remembered_in(objects: &Marks, left: bool) -> usize
 pub fn fresh_count(alloc: Global, objects: &Marks, named: &[ObjId], left: bool) -> usize
     ensures { result ≡ fresh_in left (object_entries objects.now.entries) named.now }
 {
-    if named.len() > COUNTED_WITHOUT_MEMORY {
+    if named.len() > MAX_COUNTED_WITHOUT_MEMORY {
         match fresh_with_memory(alloc, objects, named, left) {
             Ok(count) => count,
             Err(_refused) => fresh_one_by_one(objects, named, left),
@@ -265,7 +265,7 @@ fn note_one(
 {
     let names = objects.names(object);
     let before = objects.numbers_of(object);
-    let after = before.noted(kind, number);
+    let after = before.with_call_noted(kind, number);
     put(objects, object, &after, names);
     let share = Share {
         holds: before.is_dirty_highest(),

@@ -3,11 +3,11 @@ ghost use Rattle.std.specs.Prelude.{◌≡◌, ◌<◌, ◌≤◌, ◌↔◌, le
 ghost use Rattle.std.specs.List.{list_any, list_all, AllByRecursion};
 ghost use Rattle.history.specs.declared.limits.TheConstants.{MAX_CLIENTS, MAX_PAIRS};
 ghost use Rattle.dgc_server.specs.Entry.{each_has_number, entry_holds, has_time_left, row_of};
-ghost use Rattle.dgc_server.specs.Stands.{is_in_order};
-ghost use Rattle.dgc_server.specs.Index.{sums_at};
+ghost use Rattle.dgc_server.specs.StandsForCalls.{is_in_order};
+ghost use Rattle.dgc_server.specs.HolderIndex.{sums_at};
 ghost use Rattle.dgc_server.specs.Chunks.{all_of, IsBounded};
 ghost use Rattle.dgc_server.specs.Table.{entry_of, clients_after, fresh_pairs, pairs_after};
-ghost use Rattle.dgc_server.specs.Table.{remembered as remembered_at};
+ghost use Rattle.dgc_server.specs.Table.{remembered_count as remembered_at};
 
 use crate::clients::{Chunk, Clients};
 use crate::marks::{Marks, counts_for, fresh_count};

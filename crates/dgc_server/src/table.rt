@@ -3,11 +3,11 @@ ghost use Rattle.std.specs.Prelude.{◌≡◌, ℕ, true, ◌++◌, ◌+◌, ◌
 ghost use Rattle.std.specs.List.{list_any, list_all, AllByRecursion};
 ghost use Rattle.std.specs.Option.{option_copied};
 ghost use Rattle.object_ids.specs.declared.ids.ObjId.{ObjId};
-ghost use Rattle.history.specs.declared.limits.TheConstants.{END_OF_TIME, MAX_DURATION};
+ghost use Rattle.history.specs.declared.limits.TheConstants.{END_OF_TIME, MAX_DURATION_MS};
 ghost use Rattle.dgc_server.specs.Entry.{Entry, each_has_number, is_in, entry_without, is_entry_kept, has_time_left, entry_holds, row_of};
-ghost use Rattle.dgc_server.specs.Stands.{each_once, is_in_order, entry_after};
-ghost use Rattle.dgc_server.specs.Index.{Way, counted_at, has_count, is_counted, is_named, with_only, object_count, objects_in, one_if, entry_names, entry_sums, bound_of, IsSettled, IsCalm, IsNoted};
-ghost use Rattle.dgc_server.specs.Table.{entry_of, no_entry, IsPlaceOf, with_entry, remembered};
+ghost use Rattle.dgc_server.specs.StandsForCalls.{each_once, is_in_order, entry_after};
+ghost use Rattle.dgc_server.specs.HolderIndex.{Way, counted_at, has_count, is_counted, is_named, with_only, object_count, objects_in, one_if, entry_names, entry_sums, bound_of, IsSettled, IsCalm, IsNoted};
+ghost use Rattle.dgc_server.specs.Table.{entry_of, no_entry, IsPlaceOf, with_entry, remembered_count};
 
 use crate::entry::{ClientEntry, LeaseCall};
 use crate::holders::{ClientHint, Counts};
@@ -79,7 +79,7 @@ pub fn note(
     requires later { from ≤ call.now.time }
     requires early { call.now.time < END_OF_TIME }
     requires some { 1 ≤ lease }
-    requires short { lease ≤ MAX_DURATION }
+    requires short { lease ≤ MAX_DURATION_MS }
     requires numbered { IsTrue (list_all (λ e. each_has_number e.objects) entries.old.items) }
     requires ordered { IsTrue (is_in_order entries.old.items) }
     requires once { IsTrue (list_all (λ e. each_once e.objects) entries.old.items) }
@@ -135,7 +135,7 @@ fn note_entry(
     requires later { from ≤ call.now.time }
     requires early { call.now.time < END_OF_TIME }
     requires some { 1 ≤ lease }
-    requires short { lease ≤ MAX_DURATION }
+    requires short { lease ≤ MAX_DURATION_MS }
     requires numbered { IsTrue (each_has_number entry.old.objects) }
     requires once { IsTrue (each_once entry.old.objects) }
     requires has { (o : ObjId) → is_in o call.now.objects.now ≡ true → has_count counts.old o ≡ true }
@@ -303,7 +303,7 @@ pub fn sums_of(entry: &ClientEntry, time: u64) -> Sums
     let leased = if entry.has_time_left(time) { 1 } else { 0 };
     Sums {
         leased,
-        pairs: entry.remembered(time) as u128,
+        pairs: entry.remembered_count(time) as u128,
     }
 }
 
@@ -325,12 +325,12 @@ pub fn sums_with(sums: Sums, before: Sums, after: Sums) -> Sums
 /// How many pairs of a client and an object are remembered.
 pub fn remembered_pairs(entries: &[ClientEntry], time: u64) -> u128
     requires { IsTrue (list_all (λ e. each_has_number e.objects) entries.now) }
-    ensures value { result ≡ remembered time entries.now }
+    ensures value { result ≡ remembered_count time entries.now }
     ensures small { result < 2 ^ 127 }
 {
     let mut sum: u128 = 0;
     for entry in entries {
-        sum += entry.remembered(time) as u128;
+        sum += entry.remembered_count(time) as u128;
     }
     sum
 }
@@ -340,9 +340,9 @@ pub fn sums_after(sums: Sums, entries: &[ClientEntry], from: u64, to: u64) -> Su
     requires later { from ≤ to }
     requires numbered { IsTrue (list_all (λ e. each_has_number e.objects) entries.now) }
     requires leased { length (filter (has_time_left from) entries.now) ≤ sums.leased }
-    requires pairs { remembered from entries.now ≤ sums.pairs }
+    requires pairs { remembered_count from entries.now ≤ sums.pairs }
     ensures leased { result.leased + length (filter (has_time_left from) entries.now) ≡ sums.leased + length (filter (has_time_left to) entries.now) }
-    ensures pairs { result.pairs + remembered from entries.now ≡ sums.pairs + remembered to entries.now }
+    ensures pairs { result.pairs + remembered_count from entries.now ≡ sums.pairs + remembered_count to entries.now }
 {
     let before = with_time_left(entries, from);
     let leased = with_time_left(entries, to);

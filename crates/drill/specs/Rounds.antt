@@ -57,22 +57,22 @@ asks_by i made d HoldLate = Dirty (client_in i d.client) (pos i -ℤ pos (d.late
 asks_by i made d Pass = Tick ∷ []
 
 -- how many objects were made after it
-abbrev pub made_by : ℕ → Choice → ℕ
-made_by made Make = made + 1
-made_by made _ = made
+abbrev pub made_count_after : ℕ → Choice → ℕ
+made_count_after made Make = made + 1
+made_count_after made _ = made
 
 -- where the drill stands after a round
 abbrev pub after_round : DrillState → DrillState
 after_round s =
     let d = draws_after s.state in
-    record { state = d.state; moment = s.moment + (1 + d.steps % 5999); made = made_by s.made d.choice }
+    record { state = d.state; moment = s.moment + (1 + d.steps % 5999); made = made_count_after s.made d.choice }
 
-abbrev pub asked_at : ℕ → Ask → Event
-asked_at moment ask = record { by = 1; moment = moment; ask = ask }
+abbrev pub event_asking : ℕ → Ask → Event
+event_asking moment ask = record { by = 1; moment = moment; ask = ask }
 
 -- the events of round i
 unfoldable pub events_in : ℕ → DrillState → List Event
-events_in i s = map (asked_at (after_round s).moment) (asks_by i s.made (draws_after s.state) (draws_after s.state).choice)
+events_in i s = map (event_asking (after_round s).moment) (asks_by i s.made (draws_after s.state) (draws_after s.state).choice)
 
 -- ---- a drill
 
@@ -90,5 +90,5 @@ abbrev pub start : ℕ → DrillState
 start seed = record { state = seed; moment = 0; made = 0 }
 
 -- the events of a drill of a seed and a number of rounds
-abbrev pub drilled : ℕ → ℕ → List Event
-drilled seed rounds = opening ∷ events_from 0 (start seed) rounds
+abbrev pub drill_events : ℕ → ℕ → List Event
+drill_events seed rounds = opening ∷ events_from 0 (start seed) rounds

@@ -3,7 +3,7 @@ ghost use Rattle.std.specs.Prelude.{◌≡◌, ◌+◌, ◌<◌, ◌^◌, pos, �
 ghost use Rattle.std.specs.List.{AllByRecursion};
 ghost use Rattle.history.specs.declared.asks.Ask.TheVariants.{Begin, Finish, Dirty, Clean};
 ghost use Rattle.history.specs.declared.limits.TheConstants.{END_OF_TIME};
-ghost use Rattle.drill.specs.Rounds.{uid_at, object_at, drill_config, opening, client_in, object_in, made_by, asks_by, asked_at, start, after_round, events_in};
+ghost use Rattle.drill.specs.Rounds.{uid_at, object_at, drill_config, opening, client_in, object_in, made_count_after, asks_by, event_asking, start, after_round, events_in};
 
 use crate::generator::{Choice, Draws, draws_after};
 use history::{Ask, Event, SpaceConfig};
@@ -88,7 +88,7 @@ fn late_by(round: u64, back: u64) -> i64
 
 /// Adds what connection 1 asks at a moment. A refusal, for want of memory, leaves the events as they were.
 fn put(events: &mut Vec<Event>, moment: u64, ask: Ask) -> Result<(), AllocError>
-    ensures put { OnOk result (events.new.items ≡ events.old.items ++ asked_at moment ask ∷ []) }
+    ensures put { OnOk result (events.new.items ≡ events.old.items ++ event_asking moment ask ∷ []) }
 {
     events.push(Event { by: 1, moment, ask })?;
     Ok(())
@@ -102,7 +102,7 @@ fn put_make(
     round: u64,
 ) -> Result<(), AllocError>
     requires { round < 2 ^ 33 }
-    ensures { OnOk result (events.new.items ≡ events.old.items ++ asked_at moment (Begin (object_at 16)) ∷ asked_at moment (Finish (object_at 16) (1 ∷ []) [] (uid_at (pos round))) ∷ []) }
+    ensures { OnOk result (events.new.items ≡ events.old.items ++ event_asking moment (Begin (object_at 16)) ∷ event_asking moment (Finish (object_at 16) (1 ∷ []) [] (uid_at (pos round))) ∷ []) }
 {
     let object = object_at(16);
     let made = Kinds::from_slice(alloc, &[1])?;
@@ -128,7 +128,7 @@ fn put_dirty(
 ) -> Result<(), AllocError>
     requires drawn { drawn < 2 ^ 31 }
     requires round { round < 2 ^ 33 }
-    ensures { OnOk result (events.new.items ≡ events.old.items ++ asked_at moment (Dirty (client_in round drawn) number (pos 600000) objects) ∷ []) }
+    ensures { OnOk result (events.new.items ≡ events.old.items ++ event_asking moment (Dirty (client_in round drawn) number (pos 600000) objects) ∷ []) }
 {
     let client = client_in(alloc, round, drawn)?;
     let ask = Ask::Dirty {
@@ -153,7 +153,7 @@ fn put_clean(
 ) -> Result<(), AllocError>
     requires drawn { drawn < 2 ^ 31 }
     requires round { round < 2 ^ 33 }
-    ensures { OnOk result (events.new.items ≡ events.old.items ++ asked_at moment (Clean (client_in round drawn) number objects strong) ∷ []) }
+    ensures { OnOk result (events.new.items ≡ events.old.items ++ event_asking moment (Clean (client_in round drawn) number objects strong) ∷ []) }
 {
     let client = client_in(alloc, round, drawn)?;
     let ask = Ask::Clean {
@@ -178,7 +178,7 @@ fn put_round(
     requires made { made < 2 ^ 34 }
     requires client { draws.now.client < 2 ^ 31 }
     requires late { draws.now.late < 2 ^ 31 }
-    ensures { OnOk result (events.new.items ≡ events.old.items ++ map (asked_at moment) (asks_by round made draws.now draws.now.choice)) }
+    ensures { OnOk result (events.new.items ≡ events.old.items ++ map (event_asking moment) (asks_by round made draws.now draws.now.choice)) }
 {
     let number = round as i64;
     let client = draws.client;
@@ -215,9 +215,9 @@ fn put_round(
 }
 
 /// How many objects were made after a round.
-fn made_by(made: u64, choice: Choice) -> u64
+fn made_count_after(made: u64, choice: Choice) -> u64
     requires { made < 2 ^ 34 }
-    ensures { result ≡ made_by made choice }
+    ensures { result ≡ made_count_after made choice }
 {
     match choice {
         Choice::Make => made + 1,
@@ -287,7 +287,7 @@ impl Drill {
         self.round += 1;
         self.state = draws.state;
         self.moment = moment;
-        self.made = made_by(self.made, draws.choice);
+        self.made = made_count_after(self.made, draws.choice);
         Ok(events)
     }
 }

@@ -2,7 +2,7 @@
 ghost use Rattle.std.specs.Prelude.{◌≡◌, ◌++◌, ◌≤◌, ◌<◌, ◌^◌, [], IfOk, IfErr, OnOk};
 ghost use Rattle.std.specs.List.{AllByRecursion};
 ghost use Rattle.history.specs.declared.limits.TheConstants.{END_OF_TIME};
-ghost use Rattle.drill.specs.Rounds.{drill_config, start, events_from, drilled};
+ghost use Rattle.drill.specs.Rounds.{drill_config, start, events_from, drill_events};
 ghost use Rattle.drill.specs.Runs.{EndsIn};
 
 use crate::rounds::{Drill, drill_config};
@@ -47,8 +47,8 @@ fn go_on(alloc: Global, space: &mut Space, seed: u64, rounds: u64) -> Result<(),
 pub fn drill(alloc: Global, seed: u64, rounds: u64) -> Result<Space, Refused>
     requires { rounds ≤ 2 ^ 32 }
     ensures config { IfOk result (λ space. space.configuration ≡ drill_config) }
-    ensures events { IfOk result (λ space. space.events ≡ drilled seed rounds) }
-    ensures refused { IfErr result (EndsIn drill_config [] (drilled seed rounds)) }
+    ensures events { IfOk result (λ space. space.events ≡ drill_events seed rounds) }
+    ensures refused { IfErr result (EndsIn drill_config [] (drill_events seed rounds)) }
 {
     let mut space = Space::fresh(alloc, &drill_config());
     let mut opening = Vec::with_capacity(alloc, 1)?;

@@ -39,9 +39,9 @@ client_of (Clean client number objects strong) = Some client
 client_of _ = None
 
 -- The name that is looked up.
-abbrev pub looked_up : Ask → Option (List ℕ)
-looked_up (Lookup name uid) = Some name
-looked_up _ = None
+abbrev pub name_looked_up : Ask → Option (List ℕ)
+name_looked_up (Lookup name uid) = Some name
+name_looked_up _ = None
 
 -- The client of a number that no client has.
 abbrev pub nobody : Client

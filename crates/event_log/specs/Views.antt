@@ -3,6 +3,6 @@ use Rattle.history.specs.declared.asks.Event.{Event}
 use Rattle.event_log.specs.declared.view.EventView.{EventView}
 use Rattle.event_log.specs.declared.view.EventView.TheVariants.{Kept, Made}
 
-abbrev pub viewed : EventView → Event
-viewed (Kept event) = event.now
-viewed (Made event) = event
+abbrev pub event_viewed : EventView → Event
+event_viewed (Kept event) = event.now
+event_viewed (Made event) = event

@@ -1,7 +1,7 @@
 //! A list of events in few bytes.
 ghost use Rattle.std.specs.Prelude.{◌≡◌, ◌⊎◌, ◌≤◌, ◌<◌, ◌+◌, ◌++◌, ◌∷◌, [], ◌↔◌, true, length, slice_get, Some, IsTrue, IfOk, OnOk, OnErr};
 ghost use Rattle.event_log.specs.Rows.{IsPlain};
-ghost use Rattle.event_log.specs.Views.{viewed};
+ghost use Rattle.event_log.specs.Views.{event_viewed};
 
 use crate::numbered::{Clients, Names};
 use crate::rows::{Row, is_plain, plain_row, row_of, view_of};
@@ -98,7 +98,7 @@ impl EventLog {
     /// The event at a place, counted from 0, where there is one. It is refused only for want of memory.
     pub fn event(&self, place: usize) -> Result<EventView<'_>, AllocError>
         requires { place < length self.now.items }
-        ensures { IfOk result (λ view. slice_get self.now.items place ≡ Some (viewed view)) }
+        ensures { IfOk result (λ view. slice_get self.now.items place ≡ Some (event_viewed view)) }
     {
         view_of(
             self.alloc,

@@ -2,8 +2,8 @@
 ghost use Rattle.std.specs.Prelude.{◌≡◌, ◌↔◌, ◌<◌, ◌+◌, ℕ, List, [], ◌∷◌, ◌++◌, length, slice_get, Some, is_some, true, option_copied, IsTrue, IsSome, IfSome, IfOk, vec_capacity};
 ghost use Rattle.history.specs.declared.asks.Ask.TheVariants.{Finish as FinishAsk, Dirty as DirtyAsk, Clean as CleanAsk, Lookup as LookupAsk};
 ghost use Rattle.object_ids.specs.Client.{Client};
-ghost use Rattle.event_log.specs.Rows.{IsPlain, IsOfFew, IsAmong, IsKnown, client_at, client_of, event_of, event_with, looked_up, name_at, objects_of};
-ghost use Rattle.event_log.specs.Views.{viewed};
+ghost use Rattle.event_log.specs.Rows.{IsPlain, IsOfFew, IsAmong, IsKnown, client_at, client_of, event_of, event_with, name_looked_up, name_at, objects_of};
+ghost use Rattle.event_log.specs.Views.{event_viewed};
 
 use crate::numbered::{Clients, Names};
 use crate::view::EventView;
@@ -405,15 +405,15 @@ fn add_caller(clients: &mut Clients, number: u32, ask: Ask)
 
 /// Whether it is a Lookup.
 fn is_lookup(ask: &Ask) -> bool
-    ensures { IsTrue result ↔ IsSome (looked_up ask.now) }
+    ensures { IsTrue result ↔ IsSome (name_looked_up ask.now) }
 {
     matches!(ask, Ask::Lookup { .. })
 }
 
 /// A number of the name that is looked up, if one is found.
 fn number_of_name(names: &Names, ask: &Ask) -> Option<u32>
-    ensures name { IfSome result (λ number. slice_get names.now.list.items number ≡ looked_up ask.now) }
-    ensures lookup { IfSome result (λ number. IsSome (looked_up ask.now)) }
+    ensures name { IfSome result (λ number. slice_get names.now.list.items number ≡ name_looked_up ask.now) }
+    ensures lookup { IfSome result (λ number. IsSome (name_looked_up ask.now)) }
 {
     match ask {
         Ask::Lookup { name, uid: _ } => names.find(name),
@@ -423,7 +423,7 @@ fn number_of_name(names: &Names, ask: &Ask) -> Option<u32>
 
 /// The name that is looked up, moved out of the ask.
 fn looked_up_in(ask: Ask) -> Option<Name>
-    ensures { result ≡ looked_up ask }
+    ensures { result ≡ name_looked_up ask }
 {
     match ask {
         Ask::Lookup { name, uid: _ } => Some(name),
@@ -433,8 +433,8 @@ fn looked_up_in(ask: Ask) -> Option<Name>
 
 /// What the row of a Lookup says, where its name has that number.
 fn lookup_what(name: u32, ask: &Ask) -> What
-    requires { IsSome (looked_up ask.now) }
-    ensures row { (space : Uid) → (clients : List Client) → (names : List (List ℕ)) → (by moment : ℕ) → slice_get names name ≡ looked_up ask.now →
+    requires { IsSome (name_looked_up ask.now) }
+    ensures row { (space : Uid) → (clients : List Client) → (names : List (List ℕ)) → (by moment : ℕ) → slice_get names name ≡ name_looked_up ask.now →
         event_with space clients names by moment result ≡ record { by = by; moment = moment; ask = ask.now } }
     ensures known { (clients names : ℕ) → name < names → IsAmong clients names result }
 {
@@ -447,8 +447,8 @@ fn lookup_what(name: u32, ask: &Ask) -> What
 
 /// The row of a Lookup, where its name has that number.
 fn lookup_row(name: u32, event: &Event) -> Row
-    requires { IsSome (looked_up event.now.ask) }
-    ensures row { (space : Uid) → (clients : List Client) → (names : List (List ℕ)) → slice_get names name ≡ looked_up event.now.ask → event_of space clients names result ≡ event.now }
+    requires { IsSome (name_looked_up event.now.ask) }
+    ensures row { (space : Uid) → (clients : List Client) → (names : List (List ℕ)) → slice_get names name ≡ name_looked_up event.now.ask → event_of space clients names result ≡ event.now }
     ensures known { (clients names : ℕ) → name < names → IsKnown clients names result }
 {
     Row {
@@ -478,7 +478,7 @@ fn other_row(names: &mut Names, spare: &mut Option<Box<Event>>, event: Event) ->
 
 /// The row of a Lookup whose name gets a number, where there is one.
 fn fresh_lookup(names: &mut Names, spare: &mut Option<Box<Event>>, event: Event) -> Row
-    requires lookup { IsSome (looked_up event.ask) }
+    requires lookup { IsSome (name_looked_up event.ask) }
     requires spare { is_some spare.old ≡ true }
     requires room { length names.old.list.items < vec_capacity names.old.list }
     ensures row { (space : Uid) → (clients : List Client) → event_of space clients names.new.list.items result ≡ event }
@@ -499,9 +499,9 @@ fn fresh_lookup(names: &mut Names, spare: &mut Option<Box<Event>>, event: Event)
 
 /// Gives the name that is looked up a number, for which there is room.
 fn add_name(names: &mut Names, number: u32, ask: Ask)
-    requires lookup { IsSome (looked_up ask) }
+    requires lookup { IsSome (name_looked_up ask) }
     requires room { length names.old.list.items < vec_capacity names.old.list }
-    ensures name { slice_get names.new.list.items (length names.old.list.items) ≡ looked_up ask }
+    ensures name { slice_get names.new.list.items (length names.old.list.items) ≡ name_looked_up ask }
     ensures len { length names.new.list.items ≡ length names.old.list.items + 1 }
     ensures names { (more : List (List ℕ)) × (names.new.list.items ≡ names.old.list.items ++ more) }
 {
@@ -556,7 +556,7 @@ fn dirty<'a>(
     asked: i64,
     objects: ObjIds,
 ) -> Result<EventView<'a>, AllocError>
-    ensures { IfOk result (λ view. viewed view ≡ record { by = row.now.by; moment = row.now.moment; ask = DirtyAsk client.now number asked objects }) }
+    ensures { IfOk result (λ view. event_viewed view ≡ record { by = row.now.by; moment = row.now.moment; ask = DirtyAsk client.now number asked objects }) }
 {
     let client = client.copy(alloc)?;
     let ask = Ask::Dirty {
@@ -581,7 +581,7 @@ fn clean<'a>(
     objects: ObjIds,
     strong: bool,
 ) -> Result<EventView<'a>, AllocError>
-    ensures { IfOk result (λ view. viewed view ≡ record { by = row.now.by; moment = row.now.moment; ask = CleanAsk client.now number objects strong }) }
+    ensures { IfOk result (λ view. event_viewed view ≡ record { by = row.now.by; moment = row.now.moment; ask = CleanAsk client.now number objects strong }) }
 {
     let client = client.copy(alloc)?;
     let ask = Ask::Clean {
@@ -599,7 +599,7 @@ fn clean<'a>(
 
 /// A Lookup of this name.
 fn lookup<'a>(alloc: Global, row: &Row, name: &Name, uid: Uid) -> Result<EventView<'a>, AllocError>
-    ensures { IfOk result (λ view. viewed view ≡ record { by = row.now.by; moment = row.now.moment; ask = LookupAsk name.now uid }) }
+    ensures { IfOk result (λ view. event_viewed view ≡ record { by = row.now.by; moment = row.now.moment; ask = LookupAsk name.now uid }) }
 {
     let name = name.copy(alloc)?;
     Ok(EventView::Made(Event {
@@ -618,7 +618,7 @@ pub(crate) fn view_of<'a>(
     row: &'a Row,
 ) -> Result<EventView<'a>, AllocError>
     requires { IsKnown (length clients.now) (length names.now) row.now }
-    ensures { IfOk result (λ view. viewed view ≡ event_of space clients.now names.now row.now) }
+    ensures { IfOk result (λ view. event_viewed view ≡ event_of space clients.now names.now row.now) }
 {
     let ask = match &row.what {
         What::Whole(event) => return Ok(EventView::Kept(event)),

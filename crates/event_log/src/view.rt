@@ -1,6 +1,6 @@
 //! An event of a log, to be read.
 ghost use Rattle.std.specs.Prelude.{◌≡◌};
-ghost use Rattle.event_log.specs.Views.{viewed};
+ghost use Rattle.event_log.specs.Views.{event_viewed};
 
 use history::Event;
 
@@ -16,7 +16,7 @@ pub enum EventView<'a> {
 impl<'a> EventView<'a> {
     /// The event.
     pub fn event(&self) -> &Event
-        ensures { result.now ≡ viewed self.now }
+        ensures { result.now ≡ event_viewed self.now }
     {
         match self {
             EventView::Kept(event) => event,

@@ -5,8 +5,8 @@ use Rattle.std.proofs.lemmas.Bool.{and_parts}
 use Rattle.object_ids.specs.declared.ids.ObjId.{ObjId}
 use Rattle.export_table.specs.declared.rows.Export.{Export}
 use Rattle.export_table.specs.declared.waits.Wait.{Wait}
-use Rattle.export_table.specs.Rows.{ids, is_among, is_row_kept, is_settled_but, stays_among, withdrawn}
-use Rattle.export_table.specs.Waits.{waiting}
+use Rattle.export_table.specs.ExportRows.{ids, is_among, is_row_kept, is_settled_but, stays_among, withdrawn_ids}
+use Rattle.export_table.specs.Waits.{still_waiting}
 use Rattle.export_table.proofs.Indexing.{kept-forgotten}
 
 -- A row stays exactly where it is kept.
@@ -35,22 +35,22 @@ others-among os t held ws (x ∷ rows) s =
 
 -- THE OBJECTS THAT GO.
 pub gone-among : (os : List ObjId) (t : ℕ) (held : ObjId → Bool) (ws : List Wait) (rows : List Export) →
-    is_settled_but os t held ws rows ≡ true → ids (filter (λ x. not (stays_among os t held ws x)) rows) ≡ withdrawn t held ws rows
+    is_settled_but os t held ws rows ≡ true → ids (filter (λ x. not (stays_among os t held ws x)) rows) ≡ withdrawn_ids t held ws rows
 gone-among os t held ws rows s = ap ids (others-among os t held ws rows s)
 
 -- The waits that ended keep none.
-stays-forgotten : (os : List ObjId) (t : ℕ) (held : ObjId → Bool) (ws : List Wait) (x : Export) → stays_among os t held (waiting t ws) x ≡ stays_among os t held ws x
+stays-forgotten : (os : List ObjId) (t : ℕ) (held : ObjId → Bool) (ws : List Wait) (x : Export) → stays_among os t held (still_waiting t ws) x ≡ stays_among os t held ws x
 stays-forgotten os t held ws x = ap (λ b. not (is_among os x) || b) (kept-forgotten t held ws x)
 
-pub staying-forgotten : (os : List ObjId) (t : ℕ) (held : ObjId → Bool) (ws : List Wait) (rows : List Export) → filter (stays_among os t held (waiting t ws)) rows ≡ filter (stays_among os t held ws) rows
+pub staying-forgotten : (os : List ObjId) (t : ℕ) (held : ObjId → Bool) (ws : List Wait) (rows : List Export) → filter (stays_among os t held (still_waiting t ws)) rows ≡ filter (stays_among os t held ws) rows
 staying-forgotten os t held ws [] = refl
 staying-forgotten os t held ws (x ∷ rows) = rw (stays-forgotten os t held ws x, staying-forgotten os t held ws rows) refl
 
 others-forgotten : (os : List ObjId) (t : ℕ) (held : ObjId → Bool) (ws : List Wait) (rows : List Export) →
-    filter (λ x. not (stays_among os t held (waiting t ws) x)) rows ≡ filter (λ x. not (stays_among os t held ws x)) rows
+    filter (λ x. not (stays_among os t held (still_waiting t ws) x)) rows ≡ filter (λ x. not (stays_among os t held ws x)) rows
 others-forgotten os t held ws [] = refl
 others-forgotten os t held ws (x ∷ rows) = rw (stays-forgotten os t held ws x, others-forgotten os t held ws rows) refl
 
 pub gone-forgotten : (os : List ObjId) (t : ℕ) (held : ObjId → Bool) (ws : List Wait) (rows : List Export) →
-    ids (filter (λ x. not (stays_among os t held (waiting t ws) x)) rows) ≡ ids (filter (λ x. not (stays_among os t held ws x)) rows)
+    ids (filter (λ x. not (stays_among os t held (still_waiting t ws) x)) rows) ≡ ids (filter (λ x. not (stays_among os t held ws x)) rows)
 gone-forgotten os t held ws rows = ap ids (others-forgotten os t held ws rows)

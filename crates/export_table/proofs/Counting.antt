@@ -5,8 +5,8 @@ use Rattle.object_ids.specs.declared.ids.ObjId.{ObjId}
 use Rattle.object_ids.specs.Same.{same_id, same_key}
 use Rattle.object_ids.proofs.Exact.{same_id-equal, same_key-same}
 use Rattle.indexmap.specs.IndexMap.{IndexMap, get}
-use Rattle.dgc_server.specs.Index.{one_if}
-use Rattle.export_table.specs.Index.{count_at}
+use Rattle.dgc_server.specs.HolderIndex.{one_if}
+use Rattle.export_table.specs.WaitIndex.{count_at}
 
 -- n has w at the key of k, and elsewhere what m has
 pub put-count : {S : Type 0} (k : ObjId) (w : ℕ) (m n : IndexMap ObjId ℕ S) → ((q : ObjId) → get same_key n q ≡ cond (same_key k q) (Some w) (get same_key m q)) →

@@ -4,7 +4,7 @@ use Rattle.std.specs.Prelude.{Bool, true, false, ◌&&◌, ◌||◌, not, filter
 use Rattle.std.specs.List.{list_any}
 use Rattle.std.proofs.Math.Dec.{leb}
 use Rattle.std.proofs.Math.Seq.{drop-cons}
-use Rattle.std.proofs.lemmas.Bool.{and_parts, ltb-true, leb-true}
+use Rattle.std.proofs.lemmas.Bool.{and_parts, ltb-true, leb-true, not-true}
 use Rattle.std.proofs.lemmas.List.Elements.{filter-append}
 use Rattle.object_ids.specs.declared.ids.Uid.{Uid}
 use Rattle.object_ids.specs.declared.ids.ObjId.{ObjId}
@@ -12,43 +12,43 @@ use Rattle.object_ids.specs.Same.{same_id, same_uid}
 use Rattle.object_ids.proofs.Exact.{same_id-equal, same_uid-equal}
 use Rattle.history.proofs.ListLemmas.{and_false}
 use Rattle.export_table.specs.declared.waits.Wait.{Wait}
-use Rattle.export_table.specs.Waits.{is_wait_of, goes_on, waiting, over, is_waiting, each_once}
-use Rattle.export_table.specs.Index.{EndsNoEarlier, EndsRise}
+use Rattle.export_table.specs.Waits.{is_wait_of, goes_on, still_waiting, ended_waits, is_waiting, each_once}
+use Rattle.export_table.specs.WaitIndex.{EndsNoEarlier, EndsRise}
 use Rattle.export_table.proofs.Indexing.{all-on, later-filter}
 
 -- ---- those that go on, and those that have ended
 
 -- Where all go on, none has ended.
-on-none : (t : ℕ) (ws : List Wait) → waiting t ws ≡ ws → over t ws ≡ []
-on-none t ws h = ap (over t) (sym h) ∙ passes ws
+on-none : (t : ℕ) (ws : List Wait) → still_waiting t ws ≡ ws → ended_waits t ws ≡ []
+on-none t ws h = ap (ended_waits t) (sym h) ∙ passes ws
   where
-    passes : (xs : List Wait) → over t (waiting t xs) ≡ []
+    passes : (xs : List Wait) → ended_waits t (still_waiting t xs) ≡ []
     passes [] = refl
     passes (w ∷ xs) = go (goes_on t w) refl (passes xs)
       where
-        go : (b : Bool) → goes_on t w ≡ b → over t (waiting t xs) ≡ [] → over t (cond b (w ∷ waiting t xs) (waiting t xs)) ≡ []
+        go : (b : Bool) → goes_on t w ≡ b → ended_waits t (still_waiting t xs) ≡ [] → ended_waits t (cond b (w ∷ still_waiting t xs) (still_waiting t xs)) ≡ []
         go true p h = rw p h
         go false p h = h
 
 -- Where all go on from a place on, those that have ended are before it.
-pub over-front : (t n : ℕ) (ws : List Wait) → waiting t (drop n ws) ≡ drop n ws → over t (take n ws) ≡ over t ws
+pub over-front : (t n : ℕ) (ws : List Wait) → still_waiting t (drop n ws) ≡ drop n ws → ended_waits t (take n ws) ≡ ended_waits t ws
 over-front t n ws h =
-    sym (append-nil (over t (take n ws)))
-    ∙ ap (λ l. over t (take n ws) ++ l) (sym (on-none t (drop n ws) h))
+    sym (append-nil (ended_waits t (take n ws)))
+    ∙ ap (λ l. ended_waits t (take n ws) ++ l) (sym (on-none t (drop n ws) h))
     ∙ sym (filter-append (λ w. not (goes_on t w)) (take n ws) (drop n ws))
-    ∙ ap (over t) (take-append-drop n ws)
+    ∙ ap (ended_waits t) (take-append-drop n ws)
 
 -- What goes on goes on.
-pub waiting-twice : (t : ℕ) (ws : List Wait) → waiting t (waiting t ws) ≡ waiting t ws
+pub waiting-twice : (t : ℕ) (ws : List Wait) → still_waiting t (still_waiting t ws) ≡ still_waiting t ws
 waiting-twice t [] = refl
 waiting-twice t (w ∷ ws) = go (goes_on t w) refl (waiting-twice t ws)
   where
-    go : (b : Bool) → goes_on t w ≡ b → waiting t (waiting t ws) ≡ waiting t ws → waiting t (cond b (w ∷ waiting t ws) (waiting t ws)) ≡ cond b (w ∷ waiting t ws) (waiting t ws)
+    go : (b : Bool) → goes_on t w ≡ b → still_waiting t (still_waiting t ws) ≡ still_waiting t ws → still_waiting t (cond b (w ∷ still_waiting t ws) (still_waiting t ws)) ≡ cond b (w ∷ still_waiting t ws) (still_waiting t ws)
     go true p h = rw p (ap (λ l. w ∷ l) h)
     go false p h = h
 
-pub rest-waits : (t n : ℕ) (ws : List Wait) → waiting t ws ≡ drop n ws → waiting t (drop n ws) ≡ drop n ws
-rest-waits t n ws h = ap (waiting t) (sym h) ∙ waiting-twice t ws ∙ h
+pub rest-waits : (t n : ℕ) (ws : List Wait) → still_waiting t ws ≡ drop n ws → still_waiting t (drop n ws) ≡ drop n ws
+rest-waits t n ws h = ap (still_waiting t) (sym h) ∙ waiting-twice t ws ∙ h
 
 -- Those of some kind go on or have ended.
 pub count-on-over : (t : ℕ) (p : Wait → Bool) (ws : List Wait) →
@@ -69,32 +69,32 @@ count-on-over t p (w ∷ ws) = go (goes_on t w) (p w) (count-on-over t p ws)
     go false true h = omega arith
     go false false h = h
 
-pub count-waiting : (t : ℕ) (ws : List Wait) → length (waiting t ws) + length (over t ws) ≡ length ws
+pub count-waiting : (t : ℕ) (ws : List Wait) → length (still_waiting t ws) + length (ended_waits t ws) ≡ length ws
 count-waiting t [] = refl
 count-waiting t (w ∷ ws) = go (goes_on t w) (count-waiting t ws)
   where
-    go : (a : Bool) → length (waiting t ws) + length (over t ws) ≡ length ws →
-        length (cond a (w ∷ waiting t ws) (waiting t ws)) + length (cond (not a) (w ∷ over t ws) (over t ws)) ≡ suc (length ws)
+    go : (a : Bool) → length (still_waiting t ws) + length (ended_waits t ws) ≡ length ws →
+        length (cond a (w ∷ still_waiting t ws) (still_waiting t ws)) + length (cond (not a) (w ∷ ended_waits t ws) (ended_waits t ws)) ≡ suc (length ws)
     go true h = omega arith
     go false h = omega arith
 
 -- Those of some kind that have ended, by those that have ended.
-pub over-of : (t : ℕ) (p : Wait → Bool) (ws : List Wait) → filter (λ w. not (goes_on t w) && p w) ws ≡ filter p (over t ws)
+pub over-of : (t : ℕ) (p : Wait → Bool) (ws : List Wait) → filter (λ w. not (goes_on t w) && p w) ws ≡ filter p (ended_waits t ws)
 over-of t p [] = refl
 over-of t p (w ∷ ws) = go (goes_on t w) (p w) refl (over-of t p ws)
   where
-    go : (a b : Bool) → p w ≡ b → filter (λ v. not (goes_on t v) && p v) ws ≡ filter p (over t ws) →
-        cond (not a && b) (w ∷ filter (λ v. not (goes_on t v) && p v) ws) (filter (λ v. not (goes_on t v) && p v) ws) ≡ filter p (cond (not a) (w ∷ over t ws) (over t ws))
+    go : (a b : Bool) → p w ≡ b → filter (λ v. not (goes_on t v) && p v) ws ≡ filter p (ended_waits t ws) →
+        cond (not a && b) (w ∷ filter (λ v. not (goes_on t v) && p v) ws) (filter (λ v. not (goes_on t v) && p v) ws) ≡ filter p (cond (not a) (w ∷ ended_waits t ws) (ended_waits t ws))
     go true b e h = h
     go false true e h = rw e (ap (λ l. w ∷ l) h)
     go false false e h = rw e h
 
-pub any-over-of : (t : ℕ) (p : Wait → Bool) (ws : List Wait) → list_any (λ w. not (goes_on t w) && p w) ws ≡ list_any p (over t ws)
+pub any-over-of : (t : ℕ) (p : Wait → Bool) (ws : List Wait) → list_any (λ w. not (goes_on t w) && p w) ws ≡ list_any p (ended_waits t ws)
 any-over-of t p [] = refl
 any-over-of t p (w ∷ ws) = go (goes_on t w) (any-over-of t p ws)
   where
-    go : (a : Bool) → list_any (λ v. not (goes_on t v) && p v) ws ≡ list_any p (over t ws) →
-        ((not a && p w) || list_any (λ v. not (goes_on t v) && p v) ws) ≡ list_any p (cond (not a) (w ∷ over t ws) (over t ws))
+    go : (a : Bool) → list_any (λ v. not (goes_on t v) && p v) ws ≡ list_any p (ended_waits t ws) →
+        ((not a && p w) || list_any (λ v. not (goes_on t v) && p v) ws) ≡ list_any p (cond (not a) (w ∷ ended_waits t ws) (ended_waits t ws))
     go true h = h
     go false h = ap (λ b. p w || b) h
 
@@ -123,10 +123,6 @@ waits-not-over t o u (w ∷ ws) once =
     whole true = refl
     whole false = refl
 
-    absent : (b : Bool) → not b ≡ true → b ≡ false
-    absent true h = absurd (cc)
-    absent false h = refl
-
     same-and : (a : Bool) → (a && true) ≡ a
     same-and true = refl
     same-and false = refl
@@ -135,7 +131,7 @@ waits-not-over t o u (w ∷ ws) once =
         is_waiting t o u ws ≡ (list_any (is_wait_of o u) ws && not (list_any (λ v. not (goes_on t v) && is_wait_of o u v) ws)) →
         ((goes_on t w && b) || is_waiting t o u ws) ≡ ((b || list_any (is_wait_of o u) ws) && not ((not (goes_on t w) && b) || list_any (λ v. not (goes_on t v) && is_wait_of o u v) ws))
     go true e h ih =
-        let none : list_any (is_wait_of o u) ws ≡ false = none-of o u w ws e (absent (list_any (is_wait_of w.object w.uid) ws) h) in
+        let none : list_any (is_wait_of o u) ws ≡ false = none-of o u w ws e (not-true (list_any (is_wait_of w.object w.uid) ws) h) in
         rw (less-any (goes_on t) (is_wait_of o u) ws none, less-any (λ v. not (goes_on t v)) (is_wait_of o u) ws none, same-and (goes_on t w), same-and (not (goes_on t w))) (whole (goes_on t w))
     go false e h ih = rw (and_false (goes_on t w), and_false (not (goes_on t w))) ih
 
@@ -168,17 +164,17 @@ from-rise m [] rise = tt
 from-rise m (w ∷ ws) rise = (from-below w.until ws w.until (omega arith) rise.1, from-rise w.until ws rise.1)
 
 -- Where the first goes on, all do.
-pub rise-on : (t : ℕ) (w : Wait) (ws : List Wait) → EndsRise (w ∷ ws) → goes_on t w ≡ true → waiting t (w ∷ ws) ≡ w ∷ ws
+pub rise-on : (t : ℕ) (w : Wait) (ws : List Wait) → EndsRise (w ∷ ws) → goes_on t w ≡ true → still_waiting t (w ∷ ws) ≡ w ∷ ws
 rise-on t w ws rise e = rw e (ap (λ l. w ∷ l) (all-on t w.until ws (ltb-true t w.until e) rise.0))
 
 -- What goes on from a place on, where the wait there has ended, and where it goes on.
-pub due-more : (t : ℕ) (ws : List Wait) (i : ℕ) (d : Wait) → i < length ws → goes_on t (get_or ws i d) ≡ false → waiting t (drop i ws) ≡ waiting t (drop (i + 1) ws)
+pub due-more : (t : ℕ) (ws : List Wait) (i : ℕ) (d : Wait) → i < length ws → goes_on t (get_or ws i d) ≡ false → still_waiting t (drop i ws) ≡ still_waiting t (drop (i + 1) ws)
 due-more t ws i d h e = let here : drop i ws ≡ get_or ws i d ∷ drop (i + 1) ws = rw add-one (drop-cons ws i d h) in rw here (rw e refl)
 
-pub due-rest : (t : ℕ) (ws : List Wait) (i : ℕ) (d : Wait) → i < length ws → EndsRise ws → goes_on t (get_or ws i d) ≡ true → waiting t (drop i ws) ≡ drop i ws
+pub due-rest : (t : ℕ) (ws : List Wait) (i : ℕ) (d : Wait) → i < length ws → EndsRise ws → goes_on t (get_or ws i d) ≡ true → still_waiting t (drop i ws) ≡ drop i ws
 due-rest t ws i d h rise e =
     let here : drop i ws ≡ get_or ws i d ∷ drop (i + 1) ws = rw add-one (drop-cons ws i d h) in
-    ap (waiting t) here ∙ rise-on t (get_or ws i d) (drop (i + 1) ws) (subst EndsRise here (rise-drop i ws rise)) e ∙ sym here
+    ap (still_waiting t) here ∙ rise-on t (get_or ws i d) (drop (i + 1) ws) (subst EndsRise here (rise-drop i ws rise)) e ∙ sym here
 
 -- A wait that ends no earlier than the last one.
 last-push : (v : Wait) (w : Wait) (ws : List Wait) → EndsNoEarlier v.until ws → v.until ≤ w.until → EndsNoEarlier v.until (ws ++ w ∷ [])

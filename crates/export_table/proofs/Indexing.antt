@@ -3,7 +3,7 @@ use Rattle.std.proofs.Common.{◌≡◌, ℕ, ◌+◌, ◌<◌, ◌≤◌, List,
 use Rattle.std.specs.Prelude.{Bool, true, false, ◌&&◌, ◌||◌, not, filter, nat_lt, min, if◌then◌else◌}
 use Rattle.std.specs.List.{list_any}
 use Rattle.std.proofs.Math.Seq.{drop-cons}
-use Rattle.std.proofs.lemmas.Bool.{and_parts, and_from, lt-ltb}
+use Rattle.std.proofs.lemmas.Bool.{and_parts, and_from, lt-ltb, not-true, or_parts}
 use Rattle.std.proofs.lemmas.List.{take_more}
 use Rattle.std.proofs.lemmas.List.Elements.{filter-append}
 use Rattle.object_ids.specs.declared.ids.Uid.{Uid}
@@ -13,14 +13,14 @@ use Rattle.object_ids.proofs.Exact.{same_id-self, same_id-equal, same_uid-self, 
 use Rattle.indexmap.specs.IndexMap.{IndexMap}
 use Rattle.indexmap.specs.IndexSet.{IndexSet, contains}
 use Rattle.dgc_server.proofs.HolderLaws.{no_id}
-use Rattle.dgc_server.specs.Index.{one_if}
+use Rattle.dgc_server.specs.HolderIndex.{one_if}
 use Rattle.export_table.specs.declared.counts.Reference.{Reference}
 use Rattle.export_table.specs.declared.waits.Wait.{Wait}
 use Rattle.history.proofs.ListLemmas.{list_any-filter, list_any-same, filter-same, every-always}
 use Rattle.export_table.specs.declared.rows.Export.{Export}
-use Rattle.export_table.specs.Rows.{ids, is_pinned, is_row_kept, withdrawn}
-use Rattle.export_table.specs.Waits.{is_wait_of, goes_on, waiting, is_awaited, end_of_wait, of_return, each_once}
-use Rattle.export_table.specs.Index.{same_reference, count_at, returned_at, has_reference, is_reference, of_object, IsIndexOf, EndsNoEarlier}
+use Rattle.export_table.specs.ExportRows.{ids, is_pinned, is_row_kept, withdrawn_ids}
+use Rattle.export_table.specs.Waits.{is_wait_of, goes_on, still_waiting, is_awaited, end_of_wait, of_return, each_once}
+use Rattle.export_table.specs.WaitIndex.{same_reference, count_at, returned_at, has_reference, is_reference, of_object, IsIndexOf, EndsNoEarlier}
 
 -- ---- where none ends
 
@@ -53,14 +53,6 @@ later-push n w [] later = (omega arith, later)
 later-push n w (v ∷ ws) later = (let first = later.0 in omega arith, later-push n w ws later.1)
 
 -- ---- one wait among others
-
-is_absent : (b : Bool) → not b ≡ true → b ≡ false
-is_absent true h = absurd (cc)
-is_absent false h = refl
-
-neither : (a b : Bool) → (a || b) ≡ false → (a ≡ false) × (b ≡ false)
-neither true b e = absurd (cc)
-neither false b e = (refl, e)
 
 pub count-split : (p : Wait → Bool) (xs : List Wait) (w : Wait) (ys : List Wait) → length (filter p (xs ++ w ∷ ys)) ≡ length (filter p (xs ++ ys)) + one_if (p w)
 count-split p [] w ys = go (p w)
@@ -97,19 +89,19 @@ turned v w e = go (is_wait_of w.object w.uid v) refl
 
 -- What is listed once is not among the others.
 once-apart : (xs : List Wait) (w : Wait) (ys : List Wait) → each_once (xs ++ w ∷ ys) ≡ true → list_any (is_wait_of w.object w.uid) (xs ++ ys) ≡ false
-once-apart [] w ys h = is_absent (list_any (is_wait_of w.object w.uid) ys) (and_parts (not (list_any (is_wait_of w.object w.uid) ys)) (each_once ys) h).0
+once-apart [] w ys h = not-true (list_any (is_wait_of w.object w.uid) ys) (and_parts (not (list_any (is_wait_of w.object w.uid) ys)) (each_once ys) h).0
 once-apart (x ∷ xs) w ys h =
     let two = and_parts (not (list_any (is_wait_of x.object x.uid) (xs ++ w ∷ ys))) (each_once (xs ++ w ∷ ys)) h in
-    let none = is_absent (list_any (is_wait_of x.object x.uid) (xs ++ w ∷ ys)) two.0 in
-    let parts = neither (is_wait_of x.object x.uid w) (list_any (is_wait_of x.object x.uid) (xs ++ ys)) (sym (any-split (is_wait_of x.object x.uid) xs w ys) ∙ none) in
+    let none = not-true (list_any (is_wait_of x.object x.uid) (xs ++ w ∷ ys)) two.0 in
+    let parts = or_parts (is_wait_of x.object x.uid w) (list_any (is_wait_of x.object x.uid) (xs ++ ys)) (sym (any-split (is_wait_of x.object x.uid) xs w ys) ∙ none) in
     rw (turned x w parts.0) (once-apart xs w ys two.1)
 
 pub once-without : (xs : List Wait) (w : Wait) (ys : List Wait) → each_once (xs ++ w ∷ ys) ≡ true → each_once (xs ++ ys) ≡ true
 once-without [] w ys h = (and_parts (not (list_any (is_wait_of w.object w.uid) ys)) (each_once ys) h).1
 once-without (x ∷ xs) w ys h =
     let two = and_parts (not (list_any (is_wait_of x.object x.uid) (xs ++ w ∷ ys))) (each_once (xs ++ w ∷ ys)) h in
-    let none = is_absent (list_any (is_wait_of x.object x.uid) (xs ++ w ∷ ys)) two.0 in
-    let parts = neither (is_wait_of x.object x.uid w) (list_any (is_wait_of x.object x.uid) (xs ++ ys)) (sym (any-split (is_wait_of x.object x.uid) xs w ys) ∙ none) in
+    let none = not-true (list_any (is_wait_of x.object x.uid) (xs ++ w ∷ ys)) two.0 in
+    let parts = or_parts (is_wait_of x.object x.uid w) (list_any (is_wait_of x.object x.uid) (xs ++ ys)) (sym (any-split (is_wait_of x.object x.uid) xs w ys) ∙ none) in
     rw (parts.1, once-without xs w ys two.1) refl
 
 -- ---- the index, as one is listed and as one goes
@@ -252,13 +244,13 @@ so-far-last s ws i h =
 pub until-none : (o : ObjId) (u : Uid) (ws : List Wait) → list_any (is_wait_of o u) ws ≡ false → end_of_wait o u ws ≡ 0
 until-none o u [] h = refl
 until-none o u (w ∷ ws) h =
-    let parts = neither (is_wait_of o u w) (list_any (is_wait_of o u) ws) h in
+    let parts = or_parts (is_wait_of o u w) (list_any (is_wait_of o u) ws) h in
     rw parts.0 (until-none o u ws parts.1)
 
 pub none-dropped : (p : Wait → Bool) (ws : List Wait) → list_any p ws ≡ false → filter (λ w. not (p w)) ws ≡ ws
 none-dropped p [] h = refl
 none-dropped p (w ∷ ws) h =
-    let parts = neither (p w) (list_any p ws) h in
+    let parts = or_parts (p w) (list_any p ws) h in
     rw parts.0 (ap (λ l. w ∷ l) (none-dropped p ws parts.1))
 
 -- ---- where those that ended are forgotten
@@ -267,18 +259,18 @@ twice : (a b : Bool) → (a && (a && b)) ≡ (a && b)
 twice true b = refl
 twice false b = refl
 
-awaited-forgotten : (t : ℕ) (o : ObjId) (ws : List Wait) → is_awaited t o (waiting t ws) ≡ is_awaited t o ws
+awaited-forgotten : (t : ℕ) (o : ObjId) (ws : List Wait) → is_awaited t o (still_waiting t ws) ≡ is_awaited t o ws
 awaited-forgotten t o ws =
     list_any-filter (λ w. goes_on t w && same_id w.object o) (goes_on t) ws
     ∙ list_any-same (λ w. goes_on t w && (goes_on t w && same_id w.object o)) (λ w. goes_on t w && same_id w.object o) (λ w. twice (goes_on t w) (same_id w.object o)) ws
 
-pub kept-forgotten : (t : ℕ) (held : ObjId → Bool) (ws : List Wait) (x : Export) → is_row_kept t held (waiting t ws) x ≡ is_row_kept t held ws x
+pub kept-forgotten : (t : ℕ) (held : ObjId → Bool) (ws : List Wait) (x : Export) → is_row_kept t held (still_waiting t ws) x ≡ is_row_kept t held ws x
 kept-forgotten t held ws x = ap (λ b. is_pinned x || b || held x.id) (awaited-forgotten t x.id ws)
 
-pub rows-forgotten : (t : ℕ) (held : ObjId → Bool) (ws : List Wait) (rows : List Export) → filter (is_row_kept t held (waiting t ws)) rows ≡ filter (is_row_kept t held ws) rows
-rows-forgotten t held ws rows = filter-same (is_row_kept t held (waiting t ws)) (is_row_kept t held ws) rows (every-always (λ x. is_row_kept t held (waiting t ws) x ≡ is_row_kept t held ws x) (kept-forgotten t held ws) rows)
+pub rows-forgotten : (t : ℕ) (held : ObjId → Bool) (ws : List Wait) (rows : List Export) → filter (is_row_kept t held (still_waiting t ws)) rows ≡ filter (is_row_kept t held ws) rows
+rows-forgotten t held ws rows = filter-same (is_row_kept t held (still_waiting t ws)) (is_row_kept t held ws) rows (every-always (λ x. is_row_kept t held (still_waiting t ws) x ≡ is_row_kept t held ws x) (kept-forgotten t held ws) rows)
 
-pub withdrawn-forgotten : (t : ℕ) (held : ObjId → Bool) (ws : List Wait) (rows : List Export) → withdrawn t held (waiting t ws) rows ≡ withdrawn t held ws rows
+pub withdrawn-forgotten : (t : ℕ) (held : ObjId → Bool) (ws : List Wait) (rows : List Export) → withdrawn_ids t held (still_waiting t ws) rows ≡ withdrawn_ids t held ws rows
 withdrawn-forgotten t held ws rows =
-    ap ids (filter-same (λ x. not (is_row_kept t held (waiting t ws) x)) (λ x. not (is_row_kept t held ws x)) rows
-    (every-always (λ x. not (is_row_kept t held (waiting t ws) x) ≡ not (is_row_kept t held ws x)) (λ x. ap not (kept-forgotten t held ws x)) rows))
+    ap ids (filter-same (λ x. not (is_row_kept t held (still_waiting t ws) x)) (λ x. not (is_row_kept t held ws x)) rows
+    (every-always (λ x. not (is_row_kept t held (still_waiting t ws) x) ≡ not (is_row_kept t held ws x)) (λ x. ap not (kept-forgotten t held ws x)) rows))

@@ -2,6 +2,7 @@
 use Rattle.std.proofs.Common.{◌≡◌, ℕ, ◌+◌, List, [], ◌∷◌, length, refl, ap, sym, subst, ◌∙◌, cond, map, max, arith}
 use Rattle.std.specs.Prelude.{Bool, true, false, ◌&&◌, ◌||◌, filter, nat_lt, if◌then◌else◌}
 use Rattle.std.specs.List.{list_any, AllByRecursion}
+use Rattle.sequence.proofs.Lists.{none-either}
 use Rattle.object_ids.specs.declared.ids.Uid.{Uid}
 use Rattle.object_ids.specs.declared.ids.ObjId.{ObjId}
 use Rattle.object_ids.specs.Same.{same_id}
@@ -9,26 +10,25 @@ use Rattle.history.specs.declared.asks.SpaceConfig.{SpaceConfig}
 use Rattle.history.specs.declared.asks.Event.{Event}
 use Rattle.history.specs.declared.asks.Ask.{Ask}
 use Rattle.history.specs.declared.asks.Ask.TheVariants.{Open, Begin, Finish, Abandon, Dirty, Clean, Ack, Bind, Rebind, Unbind, Lookup, List as ListNames, Tick}
-use Rattle.history.specs.declared.places.Place.{Place}
 use Rattle.history.specs.declared.places.Exported.{Exported}
 use Rattle.history.specs.declared.places.Returned.{Returned}
 use Rattle.history.specs.Awaiting.{is_ack_of, is_awaited as awaited_in}
 use Rattle.history.specs.LeaseCalls.{lease_calls}
 use Rattle.history.specs.Leases.{is_held}
 use Rattle.history.specs.Names.{is_name_of, is_named, names, names_of}
-use Rattle.history.specs.Places.{History, now, next, id_at, exported_from}
-use Rattle.history.specs.Running.{begins_any, ends_any, running, running_calls, is_running}
-use Rattle.history.specs.Table.{is_pinned, is_kept, is_effective, exports, place_of, places}
+use Rattle.history.specs.Places.{History, now, exported_count, id_at, exported_from}
+use Rattle.history.specs.Running.{begins_any, ends_any, running_calls_by, running_calls, is_running}
+use Rattle.history.specs.Table.{is_kept_locally, is_kept, is_effective, exports, place_of, places}
 use Rattle.history.proofs.AwaitingLaws.{is_awaited-members}
 use Rattle.history.proofs.ListLemmas.{list_any-length}
 use Rattle.history.proofs.NameCounts.{names-still}
-use Rattle.history.proofs.NumberLaws.{length-exported_from}
+use Rattle.history.proofs.NumberLaws.{length-exported_from, next-push}
 use Rattle.history.proofs.Partitions.{one_if}
 use Rattle.history.proofs.RunningLaws.{running_calls-push, is_running-calls}
 use Rattle.history.proofs.TableLaws.{ask-place_of, places-push}
 use Rattle.export_table.specs.declared.waits.Wait.{Wait}
-use Rattle.export_table.specs.Rows.{new_row}
-use Rattle.export_table.specs.Stands.{rows_of, reference_of, end_of, AreWaits, kinds_exported, is_exported_pinned, added_rows, OthersLeaveWaits, OthersLeaveRows, ExportsAreAdded, ExportsAreCounted, RowsAreKept}
+use Rattle.export_table.specs.ExportRows.{new_row}
+use Rattle.export_table.specs.StandsForHistory.{rows_of, reference_of, end_of, AreWaits, kinds_exported, is_exported_pinned, added_rows, OthersLeaveWaits, OthersLeaveRows, ExportsAreAdded, ExportsAreCounted, RowsAreKept}
 use Rattle.export_table.specs.Waits.{is_awaited}
 use Rattle.export_table.proofs.StandLaws.{names_for, row_with, row-same}
 use Rattle.export_table.proofs.ThereLaws.{new-runs-none, new-unnamed}
@@ -61,24 +61,20 @@ others-leave-rows config events e objects begins ends still =
 
 -- ---- what is added
 
-none-either : {X : Type 0} (b : Bool) → ◌≡◌ {A = List X} (if b then [] else []) []
-none-either true = refl
-none-either false = refl
-
 -- What an event exports are objects of the kinds that its ask exports.
 exports-are : (config : SpaceConfig) (h : History) (e : Event) →
-    (place_of config h e).exported_here ≡ exported_from config.uid (next h) (is_exported_pinned e.ask) (kinds_exported (is_effective config h e.by e.ask) e.ask)
+    (place_of config h e).exported_here ≡ exported_from config.uid (exported_count h) (is_exported_pinned e.ask) (kinds_exported (is_effective config h e.by e.ask) e.ask)
 unfolding place_of is_effective exports
 exports-are config h e = go e.ask
   where
-    made_by : (b : Bool) (made : List ℕ) → ◌≡◌ {A = List Exported} (if b then exported_from config.uid (next h) false made else []) (exported_from config.uid (next h) false (if b then made else []))
+    made_by : (b : Bool) (made : List ℕ) → ◌≡◌ {A = List Exported} (if b then exported_from config.uid (exported_count h) false made else []) (exported_from config.uid (exported_count h) false (if b then made else []))
     made_by true made = refl
     made_by false made = refl
 
-    go : (a : Ask) → (place_of config h (record e { ask = a })).exported_here ≡ exported_from config.uid (next h) (is_exported_pinned a) (kinds_exported (is_effective config h e.by a) a)
+    go : (a : Ask) → (place_of config h (record e { ask = a })).exported_here ≡ exported_from config.uid (exported_count h) (is_exported_pinned a) (kinds_exported (is_effective config h e.by a) a)
     go (Open kind pinned) = refl
     go (Begin x) = none-either _
-    go (Finish x made listed u) = made_by (nat_lt 0 (running h e.by x)) made
+    go (Finish x made listed u) = made_by (nat_lt 0 (running_calls_by h e.by x)) made
     go (Abandon x) = none-either _
     go (Dirty x y z w) = refl
     go (Clean x y z w) = refl
@@ -105,23 +101,19 @@ exports-are-added config events e =
     let kinds : List ℕ = kinds_exported (is_effective config (places config events) e.by e.ask) e.ask in
     let P : List Exported → Type 0 = λ l. AllByRecursion (λ (x : Exported). running_calls (place_of config (places config events) e ∷ places config events) x.id ≡ 0) l in
     let N : List Exported → Type 0 = λ l. AllByRecursion (λ (x : Exported). names_for (place_of config (places config events) e ∷ places config events) x.id ≡ 0) l in
-    let H : History → Type 0 = λ h. rows_of h (place_of config (places config events) e).exported_here ≡ added_rows config.uid (next (places config events)) (is_exported_pinned e.ask) kinds in
+    let H : History → Type 0 = λ h. rows_of h (place_of config (places config events) e).exported_here ≡ added_rows config.uid (exported_count (places config events)) (is_exported_pinned e.ask) kinds in
     subst H (sym (places-push config events e)) (
     ap (rows_of (place_of config (places config events) e ∷ places config events)) (exports-are config (places config events) e)
-    ∙ added-rows config.uid (next (places config events)) (running_calls (place_of config (places config events) e ∷ places config events)) (names_for (place_of config (places config events) e ∷ places config events)) (is_exported_pinned e.ask) kinds
+    ∙ added-rows config.uid (exported_count (places config events)) (running_calls (place_of config (places config events) e ∷ places config events)) (names_for (place_of config (places config events) e ∷ places config events)) (is_exported_pinned e.ask) kinds
     (subst P (exports-are config (places config events) e) (new-runs-none config events e)) (subst N (exports-are config (places config events) e) (new-unnamed config events e)))
-
-next-push : (p : Place) (h : History) → next (p ∷ h) ≡ next h + length p.exported_here
-unfolding next
-next-push p h = refl
 
 pub exports-are-counted : ExportsAreCounted
 exports-are-counted config events e =
     let kinds : List ℕ = kinds_exported (is_effective config (places config events) e.by e.ask) e.ask in
-    ap next (places-push config events e) ∙ next-push (place_of config (places config events) e) (places config events)
-    ∙ ap (λ (n : ℕ). next (places config events) + n) (
+    ap exported_count (places-push config events e) ∙ next-push (place_of config (places config events) e) (places config events)
+    ∙ ap (λ (n : ℕ). exported_count (places config events) + n) (
     ap length (exports-are config (places config events) e)
-    ∙ length-exported_from config.uid (next (places config events)) (is_exported_pinned e.ask) kinds)
+    ∙ length-exported_from config.uid (exported_count (places config events)) (is_exported_pinned e.ask) kinds)
 
 -- ---- what is kept
 
@@ -146,7 +138,7 @@ unfolding is_named names_of
 named-counted h o = sym (list_any-length (is_name_of h o) (names h))
 
 pub rows-are-kept : RowsAreKept
-unfolding is_kept is_pinned
+unfolding is_kept is_kept_locally
 rows-are-kept config events waits x s =
     let h : History = places config events in
     let held : Bool = is_held config.lease_ms (now h) (lease_calls h) x.id in

@@ -4,7 +4,7 @@ use Rattle.std.specs.Prelude.{Bool, true, int_lt}
 use Rattle.std.specs.List.{list_all}
 use Rattle.std.proofs.lemmas.Bool.{and_parts, and_from}
 use Rattle.object_ids.specs.declared.ids.ObjId.{ObjId}
-use Rattle.export_table.specs.Rows.{IsPart, is_rising}
+use Rattle.export_table.specs.ExportRows.{IsPart, is_rising}
 
 pub part-none : {X : Type 0} → IsPart {X = X} [] []
 part-none = refl

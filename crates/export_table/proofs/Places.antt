@@ -9,7 +9,7 @@ use Rattle.std.proofs.lemmas.Cmp.{int_cmp_total, tied_itself}
 use Rattle.object_ids.specs.declared.ids.ObjId.{ObjId}
 use Rattle.object_ids.proofs.Exact.{same_id-equal}
 use Rattle.export_table.specs.declared.rows.Export.{Export}
-use Rattle.export_table.specs.Rows.{is_of, is_exported, row_of, ids, changed}
+use Rattle.export_table.specs.ExportRows.{is_of, is_exported, row_of, ids, with_row_changed}
 
 -- ---- numbers
 
@@ -45,11 +45,11 @@ row-none o (x ∷ xs) h = go (is_of o x) h (row-none o xs)
     go false f rest = rest f
 
 -- Rows of which none is the object's stay.
-pub changed-none : (f : Export → Export) (o : ObjId) (xs : List Export) → is_exported xs o ≡ false → changed f o xs ≡ xs
+pub changed-none : (f : Export → Export) (o : ObjId) (xs : List Export) → is_exported xs o ≡ false → with_row_changed f o xs ≡ xs
 changed-none f o [] h = refl
 changed-none f o (x ∷ xs) h = go (is_of o x) h (changed-none f o xs)
   where
-    go : (b : Bool) → (b || is_exported xs o) ≡ false → (is_exported xs o ≡ false → changed f o xs ≡ xs) → (if b then f x else x) ∷ changed f o xs ≡ x ∷ xs
+    go : (b : Bool) → (b || is_exported xs o) ≡ false → (is_exported xs o ≡ false → with_row_changed f o xs ≡ xs) → (if b then f x else x) ∷ with_row_changed f o xs ≡ x ∷ xs
     go true h rest = absurd (cc)
     go false h rest = ap (λ l. x ∷ l) (rest h)
 
@@ -60,5 +60,5 @@ later-apart o d (y ∷ ys) e h =
     rw (apart o d y e two.0) (later-apart o d ys e two.1)
 
 -- No change where the object isn't.
-pub absent-changed : (rows given : List Export) (o : ObjId) (f : Export → Export) → given ≡ rows → is_exported given o ≡ false → rows ≡ changed f o rows
+pub absent-changed : (rows given : List Export) (o : ObjId) (f : Export → Export) → given ≡ rows → is_exported given o ≡ false → rows ≡ with_row_changed f o rows
 absent-changed rows given o f e none = sym (changed-none f o rows (ap (λ l. is_exported l o) (sym e) ∙ none))

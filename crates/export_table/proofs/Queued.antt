@@ -3,7 +3,7 @@ use Rattle.std.proofs.Common.{◌≡◌, ℕ, ◌+◌, ◌≤◌, List, [], ◌�
 use Rattle.std.specs.Prelude.{Bool, true, filter, min}
 use Rattle.std.proofs.lemmas.List.{drop-append-le, drop-drop, drop-take, drop_at, take-append-le}
 use Rattle.export_table.specs.declared.waits.Wait.{Wait}
-use Rattle.export_table.specs.Index.{EndsNoEarlier, EndsRise}
+use Rattle.export_table.specs.WaitIndex.{EndsNoEarlier, EndsRise}
 use Rattle.export_table.specs.WaitTable.{IsQueue}
 use Rattle.export_table.proofs.Indexing.{later-filter, later-push}
 use Rattle.export_table.proofs.Ends.{rise-drop, rise-filter}

@@ -10,12 +10,12 @@ use Rattle.object_ids.specs.declared.ids.ObjId.{ObjId}
 use Rattle.object_ids.specs.Same.{same_id, same_uid, same_uid_key}
 use Rattle.object_ids.proofs.Exact.{same_uid-equal, same_uid_key-same}
 use Rattle.indexmap.specs.IndexMap.{IndexMap, get}
-use Rattle.dgc_server.specs.Index.{one_if}
+use Rattle.dgc_server.specs.HolderIndex.{one_if}
 use Rattle.export_table.specs.declared.waits.Wait.{Wait}
 use Rattle.history.proofs.ListLemmas.{filter-same, every-always, and_false}
 use Rattle.export_table.specs.declared.waits.Stays.TheVariants.{OtherReturns}
 use Rattle.export_table.specs.Waits.{is_wait_of, end_of_wait, of_return, objects}
-use Rattle.export_table.specs.Index.{returned_at, stays}
+use Rattle.export_table.specs.WaitIndex.{returned_at, stays}
 
 -- ---- one count
 

@@ -13,8 +13,8 @@ use Rattle.history.specs.Lists.{AllOnce}
 use Rattle.history.proofs.ListLemmas.{list_any-filter, or_false, and_false}
 use Rattle.export_table.specs.declared.rows.Export.{Export}
 use Rattle.export_table.specs.declared.waits.Wait.{Wait}
-use Rattle.export_table.specs.Rows.{is_of, row_of, is_exported, kind_of, ids, is_rising, is_given, changed, is_row_kept, withdrawn}
-use Rattle.export_table.specs.Waits.{is_wait_of, goes_on, waiting, is_waiting, end_of_wait, listed, acknowledged}
+use Rattle.export_table.specs.ExportRows.{is_of, row_of, is_exported, kind_of, ids, is_rising, is_given, with_row_changed, is_row_kept, withdrawn_ids}
+use Rattle.export_table.specs.Waits.{is_wait_of, goes_on, still_waiting, is_waiting, end_of_wait, with_listed, without_acknowledged}
 use Rattle.export_table.proofs.Places.{row-none, not_below}
 
 -- ---- the order of the objects
@@ -72,7 +72,7 @@ next-absent space k (x ∷ rows) h =
 
 -- THE ROW of any object after a change to that of one.
 pub row-changed : (f : Export → Export) (o p : ObjId) → ((x : Export) → (f x).id ≡ x.id) → (rows : List Export) →
-    row_of (changed f o rows) p ≡ option_map (λ x. if is_of o x then f x else x) (row_of rows p)
+    row_of (with_row_changed f o rows) p ≡ option_map (λ x. if is_of o x then f x else x) (row_of rows p)
 row-changed f o p k [] = refl
 row-changed f o p k (x ∷ rows) = rw (one (is_of o x)) (go (is_of p x) (row-changed f o p k rows))
   where
@@ -80,12 +80,12 @@ row-changed f o p k (x ∷ rows) = rw (one (is_of o x)) (go (is_of p x) (row-cha
     one true = ap (λ (q : ObjId). same_id q p) (k x)
     one false = refl
 
-    go : (b : Bool) → row_of (changed f o rows) p ≡ option_map (λ y. if is_of o y then f y else y) (row_of rows p) →
-        cond b (Some (if is_of o x then f x else x)) (row_of (changed f o rows) p) ≡ option_map (λ y. if is_of o y then f y else y) (cond b (Some x) (row_of rows p))
+    go : (b : Bool) → row_of (with_row_changed f o rows) p ≡ option_map (λ y. if is_of o y then f y else y) (row_of rows p) →
+        cond b (Some (if is_of o x then f x else x)) (row_of (with_row_changed f o rows) p) ≡ option_map (λ y. if is_of o y then f y else y) (cond b (Some x) (row_of rows p))
     go true rest = refl
     go false rest = rest
 
-pub exported-changed : (f : Export → Export) (o p : ObjId) → ((x : Export) → (f x).id ≡ x.id) → (rows : List Export) → is_exported (changed f o rows) p ≡ is_exported rows p
+pub exported-changed : (f : Export → Export) (o p : ObjId) → ((x : Export) → (f x).id ≡ x.id) → (rows : List Export) → is_exported (with_row_changed f o rows) p ≡ is_exported rows p
 exported-changed f o p k [] = refl
 exported-changed f o p k (x ∷ rows) = rw (one (is_of o x), exported-changed f o p k rows) refl
   where
@@ -94,12 +94,12 @@ exported-changed f o p k (x ∷ rows) = rw (one (is_of o x), exported-changed f 
     one false = refl
 
 -- The other objects' rows stay.
-pub other-changed : (f : Export → Export) (o p : ObjId) → ((x : Export) → (f x).id ≡ x.id) → same_id p o ≡ false → (rows : List Export) → row_of (changed f o rows) p ≡ row_of rows p
+pub other-changed : (f : Export → Export) (o p : ObjId) → ((x : Export) → (f x).id ≡ x.id) → same_id p o ≡ false → (rows : List Export) → row_of (with_row_changed f o rows) p ≡ row_of rows p
 other-changed f o p k apart [] = refl
 other-changed f o p k apart (x ∷ rows) = go (is_of o x) (is_of p x) refl refl (other-changed f o p k apart rows)
   where
-    go : (a b : Bool) → is_of o x ≡ a → is_of p x ≡ b → row_of (changed f o rows) p ≡ row_of rows p →
-        row_of ((if a then f x else x) ∷ changed f o rows) p ≡ cond b (Some x) (row_of rows p)
+    go : (a b : Bool) → is_of o x ≡ a → is_of p x ≡ b → row_of (with_row_changed f o rows) p ≡ row_of rows p →
+        row_of ((if a then f x else x) ∷ with_row_changed f o rows) p ≡ cond b (Some x) (row_of rows p)
     go false true e g rest = rw g refl
     go false false e g rest = rw g rest
     go true false e g rest = rw (ap (λ (q : ObjId). same_id q p) (k x) ∙ g) rest
@@ -118,7 +118,7 @@ any-ids o (x ∷ rows) = ap (λ v. is_of o x || v) (any-ids o rows)
 
 -- AN OBJECT IS WITHDRAWN exactly where some row of it isn't kept.
 pub among-withdrawn : (t : ℕ) (held : ObjId → Bool) (waits : List Wait) (rows : List Export) (o : ObjId) →
-    list_any (λ p. same_id p o) (withdrawn t held waits rows) ≡ list_any (λ x. not (is_row_kept t held waits x) && is_of o x) rows
+    list_any (λ p. same_id p o) (withdrawn_ids t held waits rows) ≡ list_any (λ x. not (is_row_kept t held waits x) && is_of o x) rows
 among-withdrawn t held waits rows o =
     any-ids o (filter (λ x. not (is_row_kept t held waits x)) rows) ∙ list_any-filter (is_of o) (λ x. not (is_row_kept t held waits x)) rows
 
@@ -128,18 +128,18 @@ longer : (t k : ℕ) (w : Wait) → t ≤ k → goes_on k w ≡ true → goes_on
 longer t k w le h = lt-ltb t w.until (let less = ltb-true k w.until h in omega arith)
 
 -- Forgetting what has ended changes nothing later.
-pub waiting-forgotten : (t k : ℕ) (o : ObjId) (u : Uid) (waits : List Wait) → t ≤ k → is_waiting k o u (waiting t waits) ≡ is_waiting k o u waits
+pub waiting-forgotten : (t k : ℕ) (o : ObjId) (u : Uid) (waits : List Wait) → t ≤ k → is_waiting k o u (still_waiting t waits) ≡ is_waiting k o u waits
 waiting-forgotten t k o u [] le = refl
 waiting-forgotten t k o u (w ∷ waits) le = go (goes_on t w) (goes_on k w) refl refl (waiting-forgotten t k o u waits le)
   where
-    go : (a b : Bool) → goes_on t w ≡ a → goes_on k w ≡ b → is_waiting k o u (waiting t waits) ≡ is_waiting k o u waits →
-        is_waiting k o u (cond a (w ∷ waiting t waits) (waiting t waits)) ≡ ((b && is_wait_of o u w) || is_waiting k o u waits)
+    go : (a b : Bool) → goes_on t w ≡ a → goes_on k w ≡ b → is_waiting k o u (still_waiting t waits) ≡ is_waiting k o u waits →
+        is_waiting k o u (cond a (w ∷ still_waiting t waits) (still_waiting t waits)) ≡ ((b && is_wait_of o u w) || is_waiting k o u waits)
     go true b x y rest = rw (y, rest) refl
     go false false x y rest = rest
     go false true x y rest = absurd (let z = longer t k w le y in cc)
 
 -- AN ACKNOWLEDGEMENT ends the waits of its return, and no others.
-pub waiting-acknowledged : (k : ℕ) (o : ObjId) (u v : Uid) (waits : List Wait) → is_waiting k o u (acknowledged v waits) ≡ (not (same_uid u v) && is_waiting k o u waits)
+pub waiting-acknowledged : (k : ℕ) (o : ObjId) (u v : Uid) (waits : List Wait) → is_waiting k o u (without_acknowledged v waits) ≡ (not (same_uid u v) && is_waiting k o u waits)
 waiting-acknowledged k o u v [] = sym (and_false (not (same_uid u v)))
 waiting-acknowledged k o u v (w ∷ waits) = go (same_uid w.uid v) (same_uid w.uid u) refl refl (waiting-acknowledged k o u v waits)
   where
@@ -156,8 +156,8 @@ waiting-acknowledged k o u v (w ∷ waits) = go (same_uid w.uid v) (same_uid w.u
     passed n true false c = refl
     passed n false b c = refl
 
-    go : (a b : Bool) → same_uid w.uid v ≡ a → same_uid w.uid u ≡ b → is_waiting k o u (acknowledged v waits) ≡ (not (same_uid u v) && is_waiting k o u waits) →
-        is_waiting k o u (cond (not a) (w ∷ acknowledged v waits) (acknowledged v waits)) ≡ (not (same_uid u v) && ((goes_on k w && (same_id w.object o && b)) || is_waiting k o u waits))
+    go : (a b : Bool) → same_uid w.uid v ≡ a → same_uid w.uid u ≡ b → is_waiting k o u (without_acknowledged v waits) ≡ (not (same_uid u v) && is_waiting k o u waits) →
+        is_waiting k o u (cond (not a) (w ∷ without_acknowledged v waits) (without_acknowledged v waits)) ≡ (not (same_uid u v) && ((goes_on k w && (same_id w.object o && b)) || is_waiting k o u waits))
     go true true x y rest =
         rest ∙ left_out (not (same_uid u v)) (goes_on k w) (same_id w.object o && true) (is_waiting k o u waits) (ap (λ (z : Uid). not (same_uid z v)) (sym (same_uid-equal w.uid u y)) ∙ ap not x)
     go true false x y rest = rest ∙ sym (unlisted (not (same_uid u v)) (goes_on k w) (same_id w.object o) (is_waiting k o u waits))
@@ -172,11 +172,11 @@ waiting-acknowledged k o u v (w ∷ waits) = go (same_uid w.uid v) (same_uid w.u
 
 -- A REFERENCE THAT IS LISTED waits until its new end; the others wait as before.
 pub waiting-listed : (ack t k : ℕ) (o p : ObjId) (u v : Uid) (waits : List Wait) → t ≤ k →
-    is_waiting k p v (listed ack t o u waits)
+    is_waiting k p v (with_listed ack t o u waits)
     ≡ (if same_id o p && same_uid u v then nat_lt k (max (t + ack) (end_of_wait o u waits)) else is_waiting k p v waits)
 waiting-listed ack t k o p u v waits le =
-    list_any-append (λ w. goes_on k w && is_wait_of p v w) (filter (λ w. not (is_wait_of o u w)) (waiting t waits)) (record { object = o; uid = u; until = max (t + ack) (end_of_wait o u waits) } ∷ [])
-    ∙ ap (λ b. is_waiting k p v (filter (λ w. not (is_wait_of o u w)) (waiting t waits)) || b) (or_false (nat_lt k (max (t + ack) (end_of_wait o u waits)) && (same_id o p && same_uid u v)))
+    list_any-append (λ w. goes_on k w && is_wait_of p v w) (filter (λ w. not (is_wait_of o u w)) (still_waiting t waits)) (record { object = o; uid = u; until = max (t + ack) (end_of_wait o u waits) } ∷ [])
+    ∙ ap (λ b. is_waiting k p v (filter (λ w. not (is_wait_of o u w)) (still_waiting t waits)) || b) (or_false (nat_lt k (max (t + ack) (end_of_wait o u waits)) && (same_id o p && same_uid u v)))
     ∙ go (same_id o p && same_uid u v) refl
   where
     out : (b : Bool) → (same_id o p && same_uid u v) ≡ b → (ws : List Wait) → is_waiting k p v (filter (λ w. not (is_wait_of o u w)) ws) ≡ (not b && is_waiting k p v ws)
@@ -212,9 +212,9 @@ waiting-listed ack t k o p u v waits le =
     now_other false false = refl
 
     go : (b : Bool) → (same_id o p && same_uid u v) ≡ b →
-        (is_waiting k p v (filter (λ w. not (is_wait_of o u w)) (waiting t waits)) || (nat_lt k (max (t + ack) (end_of_wait o u waits)) && b))
+        (is_waiting k p v (filter (λ w. not (is_wait_of o u w)) (still_waiting t waits)) || (nat_lt k (max (t + ack) (end_of_wait o u waits)) && b))
         ≡ (if b then nat_lt k (max (t + ack) (end_of_wait o u waits)) else is_waiting k p v waits)
-    go true e = ap (λ x. x || (nat_lt k (max (t + ack) (end_of_wait o u waits)) && true)) (out true e (waiting t waits)) ∙ now_same (nat_lt k (max (t + ack) (end_of_wait o u waits)))
+    go true e = ap (λ x. x || (nat_lt k (max (t + ack) (end_of_wait o u waits)) && true)) (out true e (still_waiting t waits)) ∙ now_same (nat_lt k (max (t + ack) (end_of_wait o u waits)))
     go false e =
-        ap (λ x. x || (nat_lt k (max (t + ack) (end_of_wait o u waits)) && false)) (out false e (waiting t waits) ∙ waiting-forgotten t k p v waits le)
+        ap (λ x. x || (nat_lt k (max (t + ack) (end_of_wait o u waits)) && false)) (out false e (still_waiting t waits) ∙ waiting-forgotten t k p v waits le)
         ∙ now_other (is_waiting k p v waits) (nat_lt k (max (t + ack) (end_of_wait o u waits)))

@@ -4,13 +4,13 @@ use Rattle.std.specs.Prelude.{ℤ, Bool, true, false, not, int_lt}
 use Rattle.std.specs.List.{list_all}
 use Rattle.std.specs.Ordering.{int_cmp}
 use Rattle.std.specs.declared.cmp.Ordering.TheVariants.{Less, Equal, Greater}
-use Rattle.std.proofs.lemmas.Bool.{and_parts, and_from}
+use Rattle.std.proofs.lemmas.Bool.{and_parts, and_from, not-true}
 use Rattle.std.proofs.lemmas.Cmp.{int_cmp_total}
 use Rattle.object_ids.specs.declared.ids.ObjId.{ObjId}
 use Rattle.object_ids.proofs.Exact.{same_id-equal}
 use Rattle.dgc_server.proofs.HolderLaws.{no_id}
 use Rattle.export_table.specs.declared.rows.Export.{Export}
-use Rattle.export_table.specs.Rows.{is_of, is_exported, ids, is_rising}
+use Rattle.export_table.specs.ExportRows.{is_of, is_exported, ids, is_rising}
 use Rattle.export_table.proofs.Places.{not_below}
 
 lt-less : (a b : ℤ) → int_lt a b ≡ true → int_cmp a b ≡ Less
@@ -34,10 +34,6 @@ all_below n rows = list_all (λ o. int_lt o.number n) (ids rows)
 
 abbrev pub none_below : ℤ → List Export → Bool
 none_below n rows = list_all (λ o. not (int_lt o.number n)) (ids rows)
-
-is_false : (b : Bool) → not b ≡ true → b ≡ false
-is_false true h = absurd (cc)
-is_false false h = refl
 
 rising-at : (x : Export) (rows : List Export) (i : ℕ) (d : Export) → list_all (λ p. int_lt x.id.number p.number) (ids rows) ≡ true → i < length rows → int_lt x.id.number (get_or rows i d).id.number ≡ true
 rising-at x [] i d h w = absurd (omega arith)
@@ -110,7 +106,7 @@ missing o [] i d r b a n = refl
 missing o (x ∷ rows) zero d r b a n =
     let two = and_parts (list_all (λ p. int_lt x.id.number p.number) (ids rows)) (is_rising (ids rows)) r in
     let from = and_parts (not (int_lt x.id.number o.number)) (none_below o.number rows) a in
-    rw (n (omega arith)) (after-none o x rows (is_false (int_lt x.id.number o.number) from.0) two.0)
+    rw (n (omega arith)) (after-none o x rows (not-true (int_lt x.id.number o.number) from.0) two.0)
 missing o (x ∷ rows) (suc i) d r b a n =
     let two = and_parts (int_lt x.id.number o.number) (all_below o.number (take i rows)) b in
     rw (other-below o x two.0)

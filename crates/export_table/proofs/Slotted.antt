@@ -2,7 +2,7 @@
 use Rattle.std.proofs.Common.{◌≡◌, ℕ, ◌+◌, ◌<◌, ◌≤◌, inl, inr, List, [], ◌∷◌, ◌++◌, length, map, take, drop, get_or, refl, ap, sym, subst, ◌∙◌, arith, cond, Some, None, suc, zero, append-nil, add-one}
 use Rattle.std.specs.Prelude.{ℤ, pos, Bool, true, false, ◌||◌, filter, int_lt, slice_set, Option, option_map, unwrap_or, if◌then◌else◌}
 use Rattle.std.specs.List.{list_all, list_any}
-use Rattle.std.proofs.lemmas.Bool.{and_parts, and_from}
+use Rattle.std.proofs.lemmas.Bool.{and_parts, and_from, or_parts}
 use Rattle.std.proofs.lemmas.List.{map-append, get_or_default, take_more}
 use Rattle.std.proofs.Math.ListN.{get_or-map}
 use Rattle.object_ids.specs.declared.ids.ObjId.{ObjId}
@@ -10,8 +10,8 @@ use Rattle.export_table.specs.declared.rows.Export.{Export}
 use Rattle.export_table.specs.declared.slots.Slot.{Slot}
 use Rattle.export_table.specs.declared.slots.Standing.{Standing}
 use Rattle.export_table.specs.declared.slots.Standing.TheVariants.{Here, Leaving, Gap}
-use Rattle.export_table.specs.Rows.{is_of, is_exported, row_of, kind_of, running_of, pins_of, ids, is_rising, changed, IsPart}
-use Rattle.export_table.specs.Slots.{stands_here, stands_leaving, stands_empty, is_here, is_leaving, is_gap, all_rows, rows_here, slot_of, altered, none_leaving, AreSlots, IsSlotOf}
+use Rattle.export_table.specs.ExportRows.{is_of, is_exported, row_of, kind_of, running_of, pins_of, ids, is_rising, with_row_changed, IsPart}
+use Rattle.export_table.specs.Slots.{stands_here, stands_leaving, stands_empty, is_here, is_leaving, is_gap, all_rows, rows_here, slot_of, with_slot_changed, none_leaving, AreSlots, IsSlotOf}
 use Rattle.export_table.proofs.Parts.{part-map, part-all, part-rising}
 use Rattle.export_table.proofs.Places.{apart, later-apart, changed-none}
 use Rattle.export_table.proofs.RowLaws.{found-exported, kind-none}
@@ -33,17 +33,12 @@ slot-above x (s ∷ slots) zero d h w = (and_parts (int_lt x.id.number s.row.id.
 slot-above x (s ∷ slots) (suc i) d h w =
     slot-above x slots i d (and_parts (int_lt x.id.number s.row.id.number) (list_all (λ p. int_lt x.id.number p.number) (ids (all_rows slots))) h).1 (omega arith)
 
-pub neither : (a b : Bool) → (a || b) ≡ false → (a ≡ false) × (b ≡ false)
-neither false false e = (refl, refl)
-neither true b e = absurd (cc)
-neither false true e = absurd (cc)
-
 -- ---- a change at an object's slot
 
 map-none : (f : Slot → Slot) (o : ObjId) (slots : List Slot) → is_exported (all_rows slots) o ≡ false → ((s : Slot) → is_of o s.row ≡ false → f s ≡ s) → map f slots ≡ slots
 map-none f o [] h k = refl
 map-none f o (s ∷ slots) h k =
-    let two = neither (is_of o s.row) (is_exported (all_rows slots) o) h in
+    let two = or_parts (is_of o s.row) (is_exported (all_rows slots) o) h in
     ap (λ t. t ∷ map f slots) (k s two.0) ∙ ap (λ l. s ∷ l) (map-none f o slots two.1 k)
 
 -- A CHANGE that leaves all other slots is one at the object's place.
@@ -58,52 +53,52 @@ map-at f o (s ∷ slots) (suc i) d r w h k =
     let other = k s (earlier-apart o s.row (get_or slots i d).row h (slot-above s.row slots i d two.0 (omega arith))) in
     ap (λ l. s ∷ l) (map-at f o slots i d two.1 (omega arith) h k) ∙ ap (λ t. t ∷ map f slots) (sym other)
 
-pub altered-other : (f : Export → Export) (o : ObjId) (s : Slot) → is_of o s.row ≡ false → altered f o s ≡ s
+pub altered-other : (f : Export → Export) (o : ObjId) (s : Slot) → is_of o s.row ≡ false → with_slot_changed f o s ≡ s
 altered-other f o s e = rw e refl
 
-pub altered-its : (f : Export → Export) (o : ObjId) (s : Slot) → is_of o s.row ≡ true → altered f o s ≡ record s { row = f s.row }
+pub altered-its : (f : Export → Export) (o : ObjId) (s : Slot) → is_of o s.row ≡ true → with_slot_changed f o s ≡ record s { row = f s.row }
 altered-its f o s e = rw e refl
 
 -- At the object's place the change is to its row.
 pub altered-at : (f : Export → Export) (slots : List Slot) (o : ObjId) (i : ℕ) (x : Slot) → is_rising (ids (all_rows slots)) ≡ true → IsSlotOf slots o i → x ≡ get_or slots i x →
-    slice_set slots i (record x { row = f x.row }) ≡ map (altered f o) slots
+    slice_set slots i (record x { row = f x.row }) ≡ map (with_slot_changed f o) slots
 altered-at f slots o i x r p at =
     let here : is_of o x.row ≡ true = ap (λ (s : Slot). is_of o s.row) at ∙ p.its x in
-    ap (slice_set slots i) (sym (altered-its f o x here) ∙ ap (altered f o) at)
-    ∙ map-at (altered f o) o slots i x r p.within (p.its x) (altered-other f o)
+    ap (slice_set slots i) (sym (altered-its f o x here) ∙ ap (with_slot_changed f o) at)
+    ∙ map-at (with_slot_changed f o) o slots i x r p.within (p.its x) (altered-other f o)
 
 -- THE ROWS then are those with the change.
-pub altered-rows : (f : Export → Export) (o : ObjId) (slots : List Slot) → rows_here (map (altered f o) slots) ≡ changed f o (rows_here slots)
+pub altered-rows : (f : Export → Export) (o : ObjId) (slots : List Slot) → rows_here (map (with_slot_changed f o) slots) ≡ with_row_changed f o (rows_here slots)
 altered-rows f o [] = refl
 altered-rows f o (s ∷ slots) = go (is_of o s.row) refl (altered-rows f o slots)
   where
-    its : (h : Bool) → f s.row ≡ (if is_of o s.row then f s.row else s.row) → rows_here (map (altered f o) slots) ≡ changed f o (rows_here slots) →
-        map (λ (t : Slot). t.row) (cond h (record s { row = f s.row } ∷ filter is_here (map (altered f o) slots)) (filter is_here (map (altered f o) slots)))
-        ≡ changed f o (map (λ (t : Slot). t.row) (cond h (s ∷ filter is_here slots) (filter is_here slots)))
-    its true e rest = ap (λ x. x ∷ rows_here (map (altered f o) slots)) e ∙ ap (λ l. (if is_of o s.row then f s.row else s.row) ∷ l) rest
+    its : (h : Bool) → f s.row ≡ (if is_of o s.row then f s.row else s.row) → rows_here (map (with_slot_changed f o) slots) ≡ with_row_changed f o (rows_here slots) →
+        map (λ (t : Slot). t.row) (cond h (record s { row = f s.row } ∷ filter is_here (map (with_slot_changed f o) slots)) (filter is_here (map (with_slot_changed f o) slots)))
+        ≡ with_row_changed f o (map (λ (t : Slot). t.row) (cond h (s ∷ filter is_here slots) (filter is_here slots)))
+    its true e rest = ap (λ x. x ∷ rows_here (map (with_slot_changed f o) slots)) e ∙ ap (λ l. (if is_of o s.row then f s.row else s.row) ∷ l) rest
     its false e rest = rest
 
-    others : (h : Bool) → s.row ≡ (if is_of o s.row then f s.row else s.row) → rows_here (map (altered f o) slots) ≡ changed f o (rows_here slots) →
-        map (λ (t : Slot). t.row) (cond h (s ∷ filter is_here (map (altered f o) slots)) (filter is_here (map (altered f o) slots)))
-        ≡ changed f o (map (λ (t : Slot). t.row) (cond h (s ∷ filter is_here slots) (filter is_here slots)))
-    others true e rest = ap (λ x. x ∷ rows_here (map (altered f o) slots)) e ∙ ap (λ l. (if is_of o s.row then f s.row else s.row) ∷ l) rest
+    others : (h : Bool) → s.row ≡ (if is_of o s.row then f s.row else s.row) → rows_here (map (with_slot_changed f o) slots) ≡ with_row_changed f o (rows_here slots) →
+        map (λ (t : Slot). t.row) (cond h (s ∷ filter is_here (map (with_slot_changed f o) slots)) (filter is_here (map (with_slot_changed f o) slots)))
+        ≡ with_row_changed f o (map (λ (t : Slot). t.row) (cond h (s ∷ filter is_here slots) (filter is_here slots)))
+    others true e rest = ap (λ x. x ∷ rows_here (map (with_slot_changed f o) slots)) e ∙ ap (λ l. (if is_of o s.row then f s.row else s.row) ∷ l) rest
     others false e rest = rest
 
-    go : (b : Bool) → is_of o s.row ≡ b → rows_here (map (altered f o) slots) ≡ changed f o (rows_here slots) → rows_here (altered f o s ∷ map (altered f o) slots) ≡ changed f o (rows_here (s ∷ slots))
-    go true e rest = ap (λ (t : Slot). rows_here (t ∷ map (altered f o) slots)) (altered-its f o s e) ∙ its (is_here s) (ap (λ b. if b then f s.row else s.row) (sym e)) rest
-    go false e rest = ap (λ (t : Slot). rows_here (t ∷ map (altered f o) slots)) (altered-other f o s e) ∙ others (is_here s) (ap (λ b. if b then f s.row else s.row) (sym e)) rest
+    go : (b : Bool) → is_of o s.row ≡ b → rows_here (map (with_slot_changed f o) slots) ≡ with_row_changed f o (rows_here slots) → rows_here (with_slot_changed f o s ∷ map (with_slot_changed f o) slots) ≡ with_row_changed f o (rows_here (s ∷ slots))
+    go true e rest = ap (λ (t : Slot). rows_here (t ∷ map (with_slot_changed f o) slots)) (altered-its f o s e) ∙ its (is_here s) (ap (λ b. if b then f s.row else s.row) (sym e)) rest
+    go false e rest = ap (λ (t : Slot). rows_here (t ∷ map (with_slot_changed f o) slots)) (altered-other f o s e) ∙ others (is_here s) (ap (λ b. if b then f s.row else s.row) (sym e)) rest
 
-altered-ids : (f : Export → Export) (o : ObjId) → ((x : Export) → (f x).id ≡ x.id) → (slots : List Slot) → ids (all_rows (map (altered f o) slots)) ≡ ids (all_rows slots)
+altered-ids : (f : Export → Export) (o : ObjId) → ((x : Export) → (f x).id ≡ x.id) → (slots : List Slot) → ids (all_rows (map (with_slot_changed f o) slots)) ≡ ids (all_rows slots)
 altered-ids f o k [] = refl
-altered-ids f o k (s ∷ slots) = ap (λ p. p ∷ ids (all_rows (map (altered f o) slots))) (one (is_of o s.row)) ∙ ap (λ l. s.row.id ∷ l) (altered-ids f o k slots)
+altered-ids f o k (s ∷ slots) = ap (λ p. p ∷ ids (all_rows (map (with_slot_changed f o) slots))) (one (is_of o s.row)) ∙ ap (λ l. s.row.id ∷ l) (altered-ids f o k slots)
   where
     one : (b : Bool) → (if b then record s { row = f s.row } else s).row.id ≡ s.row.id
     one true = k s.row
     one false = refl
 
-altered-leaving : (f : Export → Export) (o : ObjId) (slots : List Slot) → list_any is_leaving (map (altered f o) slots) ≡ list_any is_leaving slots
+altered-leaving : (f : Export → Export) (o : ObjId) (slots : List Slot) → list_any is_leaving (map (with_slot_changed f o) slots) ≡ list_any is_leaving slots
 altered-leaving f o [] = refl
-altered-leaving f o (s ∷ slots) = ap (λ b. b || list_any is_leaving (map (altered f o) slots)) (one (is_of o s.row)) ∙ ap (λ b. is_leaving s || b) (altered-leaving f o slots)
+altered-leaving f o (s ∷ slots) = ap (λ b. b || list_any is_leaving (map (with_slot_changed f o) slots)) (one (is_of o s.row)) ∙ ap (λ b. is_leaving s || b) (altered-leaving f o slots)
   where
     one : (b : Bool) → is_leaving (if b then record s { row = f s.row } else s) ≡ is_leaving s
     one true = refl
@@ -115,17 +110,17 @@ count-same false false s t xs ys e h = h
 count-same true false s t xs ys e h = absurd (cc)
 count-same false true s t xs ys e h = absurd (cc)
 
-altered-gaps : (f : Export → Export) (o : ObjId) (slots : List Slot) → length (filter is_gap (map (altered f o) slots)) ≡ length (filter is_gap slots)
+altered-gaps : (f : Export → Export) (o : ObjId) (slots : List Slot) → length (filter is_gap (map (with_slot_changed f o) slots)) ≡ length (filter is_gap slots)
 altered-gaps f o [] = refl
 altered-gaps f o (s ∷ slots) =
-    count-same (is_gap (altered f o s)) (is_gap s) (altered f o s) s (filter is_gap (map (altered f o) slots)) (filter is_gap slots) (one (is_of o s.row)) (altered-gaps f o slots)
+    count-same (is_gap (with_slot_changed f o s)) (is_gap s) (with_slot_changed f o s) s (filter is_gap (map (with_slot_changed f o) slots)) (filter is_gap slots) (one (is_of o s.row)) (altered-gaps f o slots)
   where
     one : (b : Bool) → is_gap (if b then record s { row = f s.row } else s) ≡ is_gap s
     one true = refl
     one false = refl
 
 -- They are slots as before.
-pub slots-altered : (f : Export → Export) (o : ObjId) (slots : List Slot) (added gaps : ℕ) → ((x : Export) → (f x).id ≡ x.id) → AreSlots slots added gaps → AreSlots (map (altered f o) slots) added gaps
+pub slots-altered : (f : Export → Export) (o : ObjId) (slots : List Slot) (added gaps : ℕ) → ((x : Export) → (f x).id ≡ x.id) → AreSlots slots added gaps → AreSlots (map (with_slot_changed f o) slots) added gaps
 slots-altered f o slots added gaps k s = record {
   rising = ap is_rising (altered-ids f o k slots) ∙ s.rising;
   given = ap (list_all (λ p. int_lt p.number (pos (16 + added)))) (altered-ids f o k slots) ∙ s.given;
@@ -156,7 +151,7 @@ row-here o (s ∷ slots) (suc i) d r w h k =
 pub absent-here : (o : ObjId) (slots : List Slot) → is_exported (all_rows slots) o ≡ false → is_exported (rows_here slots) o ≡ false
 absent-here o [] h = refl
 absent-here o (s ∷ slots) h =
-    let two = neither (is_of o s.row) (is_exported (all_rows slots) o) h in
+    let two = or_parts (is_of o s.row) (is_exported (all_rows slots) o) h in
     go (is_here s) two.0 (absent-here o slots two.1)
   where
     go : (b : Bool) → is_of o s.row ≡ false → is_exported (rows_here slots) o ≡ false → is_exported (map (λ (t : Slot). t.row) (cond b (s ∷ filter is_here slots) (filter is_here slots))) o ≡ false
@@ -231,7 +226,7 @@ slots-added slots added gaps x e s = record {
 
     any-last : (l : List Slot) → none_leaving l → none_leaving (l ++ slot_of x ∷ [])
     any-last [] h = refl
-    any-last (t ∷ l) h = let two = neither (is_leaving t) (list_any is_leaving l) h in rw two.0 (any-last l two.1)
+    any-last (t ∷ l) h = let two = or_parts (is_leaving t) (list_any is_leaving l) h in rw two.0 (any-last l two.1)
 
 -- ---- how many
 
@@ -249,7 +244,7 @@ split-counts (s ∷ slots) = go s.standing (split-counts slots)
 
 pub nothing-passes : (p : Slot → Bool) (slots : List Slot) → list_any p slots ≡ false → filter p slots ≡ []
 nothing-passes p [] h = refl
-nothing-passes p (s ∷ slots) h = let two = neither (p s) (list_any p slots) h in rw two.0 (nothing-passes p slots two.1)
+nothing-passes p (s ∷ slots) h = let two = or_parts (p s) (list_any p slots) h in rw two.0 (nothing-passes p slots two.1)
 
 -- ALL BUT THE GAPS are rows.
 pub rows-counted : (slots : List Slot) (added gaps : ℕ) → AreSlots slots added gaps → length (rows_here slots) + gaps ≡ length slots
@@ -354,7 +349,7 @@ slot-row slots given o i d e r p =
     let P : List Slot → Type 0 = λ l. IsSlotOf l o i in let q = subst P e p in row-here o slots i d r q.within (q.its d) (q.stands d)
 
 pub slot-changed : (f : Export → Export) (slots given : List Slot) (o : ObjId) (i : ℕ) (x : Slot) → given ≡ slots → is_rising (ids (all_rows slots)) ≡ true → IsSlotOf given o i → x ≡ get_or slots i x →
-    slice_set slots i (record x { row = f x.row }) ≡ map (altered f o) slots
+    slice_set slots i (record x { row = f x.row }) ≡ map (with_slot_changed f o) slots
 slot-changed f slots given o i x e r p at = let P : List Slot → Type 0 = λ l. IsSlotOf l o i in altered-at f slots o i x r (subst P e p) at
 
 no_slot : Slot
@@ -377,7 +372,7 @@ slot-kind slots given o i x e r p at =
 
 -- THE ROWS with a change at the object's slot.
 pub slot-rows : (f : Export → Export) (slots given after : List Slot) (o : ObjId) (i : ℕ) (x : Slot) → given ≡ slots → is_rising (ids (all_rows slots)) ≡ true → IsSlotOf given o i → x ≡ get_or slots i x →
-    after ≡ slice_set slots i (record x { row = f x.row }) → rows_here after ≡ changed f o (rows_here slots)
+    after ≡ slice_set slots i (record x { row = f x.row }) → rows_here after ≡ with_row_changed f o (rows_here slots)
 slot-rows f slots given after o i x e r p at a = ap rows_here (a ∙ slot-changed f slots given o i x e r p at) ∙ altered-rows f o slots
 
 pub slot-slots : (f : Export → Export) (slots given : List Slot) (o : ObjId) (i : ℕ) (x : Slot) (added gaps : ℕ) → ((y : Export) → (f y).id ≡ y.id) → given ≡ slots → AreSlots slots added gaps → IsSlotOf given o i → x ≡ get_or slots i x →
@@ -385,7 +380,7 @@ pub slot-slots : (f : Export → Export) (slots given : List Slot) (o : ObjId) (
 slot-slots f slots given o i x added gaps k e s p at =
     let P : List Slot → Type 0 = λ l. AreSlots l added gaps in subst P (sym (slot-changed f slots given o i x e s.rising p at)) (slots-altered f o slots added gaps k s)
 
-pub absent-slots : (slots given : List Slot) (o : ObjId) (f : Export → Export) → given ≡ slots → is_exported (rows_here given) o ≡ false → rows_here slots ≡ changed f o (rows_here slots)
+pub absent-slots : (slots given : List Slot) (o : ObjId) (f : Export → Export) → given ≡ slots → is_exported (rows_here given) o ≡ false → rows_here slots ≡ with_row_changed f o (rows_here slots)
 absent-slots slots given o f e none = sym (changed-none f o (rows_here slots) (ap (λ (l : List Slot). is_exported (rows_here l) o) (sym e) ∙ none))
 
 pub no-kind : (slots given : List Slot) (o : ObjId) → given ≡ slots → is_exported (rows_here given) o ≡ false → kind_of (rows_here slots) o ≡ None

@@ -1,42 +1,39 @@
 -- What holds of each table stays as rows and waits change.
-use Rattle.std.proofs.Common.{◌≡◌, inl, inr, ℕ, ◌+◌, ◌<◌, ◌≤◌, List, [], ◌∷◌, ◌++◌, length, map, refl, ap, sym, subst, ◌∙◌, arith, cond, suc, length-append}
+use Rattle.std.proofs.Common.{◌≡◌, inl, inr, ℕ, ◌+◌, ◌<◌, ◌≤◌, List, [], ◌∷◌, ◌++◌, length, refl, ap, sym, subst, ◌∙◌, arith, cond, suc, length-append}
 use Rattle.std.specs.Prelude.{ℤ, pos, negsuc, max, Bool, true, false, ◌&&◌, ◌||◌, not, filter, int_lt, if◌then◌else◌}
 use Rattle.std.specs.List.{list_any, list_all}
-use Rattle.std.proofs.lemmas.Bool.{and_parts, and_from, lt-ltb, ltb-true}
-use Rattle.std.proofs.lemmas.List.{map-append}
+use Rattle.std.proofs.lemmas.Bool.{and_parts, and_from, lt-ltb, ltb-true, not-true}
+use Rattle.std.proofs.lemmas.List.{map-append, length-map}
 use Rattle.std.proofs.str.Laws.{order}
+use Rattle.sequence.proofs.Lists.{filter-shorter}
 use Rattle.object_ids.specs.declared.ids.Uid.{Uid}
 use Rattle.object_ids.specs.declared.ids.ObjId.{ObjId}
 use Rattle.object_ids.specs.Same.{same_id, same_uid}
 use Rattle.object_ids.proofs.Exact.{same_id-equal, same_id-self, same_uid-equal, same_uid-self}
-use Rattle.history.specs.declared.limits.TheConstants.{MAX_EXPORTS, MAX_AWAITING, END_OF_NUMBERS}
+use Rattle.history.specs.declared.limits.TheConstants.{MAX_EXPORTS, MAX_AWAITING, END_OF_OBJECT_COUNT}
 use Rattle.history.specs.Places.{id_at}
 use Rattle.history.proofs.ListLemmas.{list_any-filter}
 use Rattle.export_table.specs.declared.rows.Export.{Export}
 use Rattle.export_table.specs.declared.waits.Wait.{Wait}
-use Rattle.export_table.specs.Rows.{is_of, ids, is_rising, is_given, new_row, changed, IsPart}
-use Rattle.export_table.specs.Waits.{is_wait_of, goes_on, waiting, is_waiting, end_of_wait, listed, each_once}
+use Rattle.export_table.specs.ExportRows.{is_of, ids, is_rising, is_given, new_row, with_row_changed, IsPart}
+use Rattle.export_table.specs.Waits.{is_wait_of, goes_on, still_waiting, is_waiting, end_of_wait, with_listed, each_once}
 use Rattle.export_table.specs.Table.{IsSound}
 use Rattle.export_table.proofs.Parts.{part-map, part-length, part-all, part-rising}
 
 -- ---- a change to one row
 
-ids-changed : (f : Export → Export) (o : ObjId) → ((x : Export) → (f x).id ≡ x.id) → (rows : List Export) → ids (changed f o rows) ≡ ids rows
+ids-changed : (f : Export → Export) (o : ObjId) → ((x : Export) → (f x).id ≡ x.id) → (rows : List Export) → ids (with_row_changed f o rows) ≡ ids rows
 ids-changed f o k [] = refl
-ids-changed f o k (x ∷ rows) = ap (λ p. p ∷ ids (changed f o rows)) (one (is_of o x)) ∙ ap (λ l. x.id ∷ l) (ids-changed f o k rows)
+ids-changed f o k (x ∷ rows) = ap (λ p. p ∷ ids (with_row_changed f o rows)) (one (is_of o x)) ∙ ap (λ l. x.id ∷ l) (ids-changed f o k rows)
   where
     one : (b : Bool) → (if b then f x else x).id ≡ x.id
     one true = k x
     one false = refl
 
-length-map : {X Y : Type 0} (f : X → Y) (xs : List X) → length (map f xs) ≡ length xs
-length-map f [] = refl
-length-map f (x ∷ xs) = ap suc (length-map f xs)
-
 pub sound-changed : (space : Uid) (ack k : ℕ) (rows : List Export) (waits : List Wait) (f : Export → Export) (o : ObjId) → ((x : Export) → (f x).id ≡ x.id) →
-    IsSound space ack k rows waits → IsSound space ack k (changed f o rows) waits
+    IsSound space ack k rows waits → IsSound space ack k (with_row_changed f o rows) waits
 sound-changed space ack k rows waits f o same s =
-    let few = s.few in let long = length-map (λ x. if is_of o x then f x else x) rows in record {
+    let few = s.few in let long = length-map rows (λ x. if is_of o x then f x else x) in record {
       some = s.some;
       short = s.short;
       countable = s.countable;
@@ -75,7 +72,7 @@ rising-push space k (o ∷ os) g r =
     and_from (list_all (λ p. int_lt o.number p.number) (os ++ id_at space k ∷ [])) (is_rising (os ++ id_at space k ∷ []))
     (all-push (λ p. int_lt o.number p.number) os (id_at space k) two.0 (and_parts (same_uid o.space space) (int_lt o.number (pos (16 + k))) own.0).1) (rising-push space k os own.1 two.1)
 
-pub sound-added : (space : Uid) (ack k : ℕ) (rows : List Export) (waits : List Wait) (kind : ℕ) (pinned : Bool) → k < END_OF_NUMBERS → length rows < MAX_EXPORTS →
+pub sound-added : (space : Uid) (ack k : ℕ) (rows : List Export) (waits : List Wait) (kind : ℕ) (pinned : Bool) → k < END_OF_OBJECT_COUNT → length rows < MAX_EXPORTS →
     IsSound space ack k rows waits → IsSound space ack (k + 1) (rows ++ new_row (id_at space k) kind pinned ∷ []) waits
 sound-added space ack k rows waits kind pinned early room s =
     let x = new_row (id_at space k) kind pinned in
@@ -118,31 +115,19 @@ absent-filter q p (w ∷ waits) h = go (p w) (q w) refl h (absent-filter q p wai
     go true false e f rest = rw e (rest f)
     go false false e f rest = rest f
 
-is_absent : (b : Bool) → not b ≡ true → b ≡ false
-is_absent true h = absurd (cc)
-is_absent false h = refl
-
 pub once-filter : (p : Wait → Bool) (waits : List Wait) → each_once waits ≡ true → each_once (filter p waits) ≡ true
 once-filter p [] h = refl
 once-filter p (w ∷ waits) h =
     let two = and_parts (not (list_any (is_wait_of w.object w.uid) waits)) (each_once waits) h in
-    go (p w) (absent-filter (is_wait_of w.object w.uid) p waits (is_absent (list_any (is_wait_of w.object w.uid) waits) two.0)) (once-filter p waits two.1)
+    go (p w) (absent-filter (is_wait_of w.object w.uid) p waits (not-true (list_any (is_wait_of w.object w.uid) waits) two.0)) (once-filter p waits two.1)
   where
     go : (a : Bool) → list_any (is_wait_of w.object w.uid) (filter p waits) ≡ false → each_once (filter p waits) ≡ true → each_once (cond a (w ∷ filter p waits) (filter p waits)) ≡ true
     go true x rest = rw (x, rest) refl
     go false x rest = rest
 
-pub length-filter : (p : Wait → Bool) (waits : List Wait) → length (filter p waits) ≤ length waits
-length-filter p [] = omega arith
-length-filter p (w ∷ waits) = go (p w) (length-filter p waits)
-  where
-    go : (a : Bool) → length (filter p waits) ≤ length waits → length (cond a (w ∷ filter p waits) (filter p waits)) ≤ suc (length waits)
-    go true h = omega arith
-    go false h = omega arith
-
 pub sound-filter : (space : Uid) (ack k : ℕ) (rows : List Export) (waits : List Wait) (p : Wait → Bool) → IsSound space ack k rows waits → IsSound space ack k rows (filter p waits)
 sound-filter space ack k rows waits p s =
-    let few = s.few_waits in let fewer = length-filter p waits in record {
+    let few = s.few_waits in let fewer = filter-shorter p waits in record {
       some = s.some;
       short = s.short;
       countable = s.countable;
@@ -156,7 +141,7 @@ sound-filter space ack k rows waits p s =
 -- One that passes is left out.
 shorter : (p : Wait → Bool) (waits : List Wait) → list_any p waits ≡ true → length (filter (λ w. not (p w)) waits) < length waits
 shorter p [] h = absurd (cc)
-shorter p (w ∷ waits) h = go (p w) h (shorter p waits) (length-filter (λ v. not (p v)) waits)
+shorter p (w ∷ waits) h = go (p w) h (shorter p waits) (filter-shorter (λ v. not (p v)) waits)
   where
     go : (a : Bool) → (a || list_any p waits) ≡ true → (list_any p waits ≡ true → length (filter (λ v. not (p v)) waits) < length waits) → length (filter (λ v. not (p v)) waits) ≤ length waits →
         length (cond (not a) (w ∷ filter (λ v. not (p v)) waits) (filter (λ v. not (p v)) waits)) < suc (length waits)
@@ -171,7 +156,7 @@ once-push [] v o h = refl
 once-push (w ∷ waits) v o h =
     let two = and_parts (not (list_any (is_wait_of w.object w.uid) waits)) (each_once waits) o in
     let parts = apart_both (is_wait_of v.object v.uid w) (list_any (is_wait_of v.object v.uid) waits) h in
-    rw (absent (list_any (is_wait_of w.object w.uid) (waits ++ v ∷ [])) (push waits (is_absent (list_any (is_wait_of w.object w.uid) waits) two.0) (turned parts.0)), once-push waits v two.1 parts.1) refl
+    rw (absent (list_any (is_wait_of w.object w.uid) (waits ++ v ∷ [])) (push waits (not-true (list_any (is_wait_of w.object w.uid) waits) two.0) (turned parts.0)), once-push waits v two.1 parts.1) refl
   where
     apart_both : (a b : Bool) → (a || b) ≡ false → (a ≡ false) × (b ≡ false)
     apart_both true b e = absurd (cc)
@@ -203,31 +188,31 @@ gone-filter p (w ∷ waits) = go (p w) refl (gone-filter p waits)
     go false e rest = rw e rest
 
 -- One more wait, where there is a place for it.
-fewer-listed : (t : ℕ) (o : ObjId) (u : Uid) (waits : List Wait) (most : ℕ) → length waits ≤ most → ((most ≤ length (waiting t waits)) × (is_waiting t o u waits ≡ false) → ⊥) →
-    length (filter (λ w. not (is_wait_of o u w)) (waiting t waits)) < most
+fewer-listed : (t : ℕ) (o : ObjId) (u : Uid) (waits : List Wait) (most : ℕ) → length waits ≤ most → ((most ≤ length (still_waiting t waits)) × (is_waiting t o u waits ≡ false) → ⊥) →
+    length (filter (λ w. not (is_wait_of o u w)) (still_waiting t waits)) < most
 fewer-listed t o u waits most few room = go (is_waiting t o u waits) refl
   where
-    go : (b : Bool) → is_waiting t o u waits ≡ b → length (filter (λ w. not (is_wait_of o u w)) (waiting t waits)) < most
+    go : (b : Bool) → is_waiting t o u waits ≡ b → length (filter (λ w. not (is_wait_of o u w)) (still_waiting t waits)) < most
     go true e =
-        let one = shorter (is_wait_of o u) (waiting t waits) (list_any-filter (is_wait_of o u) (goes_on t) waits ∙ e) in
-        let fewer = length-filter (goes_on t) waits in omega arith
+        let one = shorter (is_wait_of o u) (still_waiting t waits) (list_any-filter (is_wait_of o u) (goes_on t) waits ∙ e) in
+        let fewer = filter-shorter (goes_on t) waits in omega arith
     go false e =
-        let one = length-filter (λ w. not (is_wait_of o u w)) (waiting t waits) in
-        elim (order most (length (waiting t waits))) [
+        let one = filter-shorter (λ w. not (is_wait_of o u w)) (still_waiting t waits) in
+        elim (order most (length (still_waiting t waits))) [
           | inl less ↦ absurd (room (omega arith, e))
           | inr more ↦ tight more one
         ]
       where
-        tight : length (waiting t waits) ≤ most → length (filter (λ w. not (is_wait_of o u w)) (waiting t waits)) ≤ length (waiting t waits) → length (filter (λ w. not (is_wait_of o u w)) (waiting t waits)) < most
-        tight a b = elim (order (length (waiting t waits)) most) [
+        tight : length (still_waiting t waits) ≤ most → length (filter (λ w. not (is_wait_of o u w)) (still_waiting t waits)) ≤ length (still_waiting t waits) → length (filter (λ w. not (is_wait_of o u w)) (still_waiting t waits)) < most
+        tight a b = elim (order (length (still_waiting t waits)) most) [
           | inl less ↦ omega arith
           | inr same ↦ absurd (room (same, e))
         ]
 
-pub sound-listed : (space : Uid) (ack k : ℕ) (rows : List Export) (waits : List Wait) (t : ℕ) (o : ObjId) (u : Uid) → ((MAX_AWAITING ≤ length (waiting t waits)) × (is_waiting t o u waits ≡ false) → ⊥) →
-    IsSound space ack k rows waits → IsSound space ack k rows (listed ack t o u waits)
+pub sound-listed : (space : Uid) (ack k : ℕ) (rows : List Export) (waits : List Wait) (t : ℕ) (o : ObjId) (u : Uid) → ((MAX_AWAITING ≤ length (still_waiting t waits)) × (is_waiting t o u waits ≡ false) → ⊥) →
+    IsSound space ack k rows waits → IsSound space ack k rows (with_listed ack t o u waits)
 sound-listed space ack k rows waits t o u room s =
-    let others = filter (λ w. not (is_wait_of o u w)) (waiting t waits) in
+    let others = filter (λ w. not (is_wait_of o u w)) (still_waiting t waits) in
     let w : Wait = record { object = o; uid = u; until = max (t + ack) (end_of_wait o u waits) } in
     let fewer = fewer-listed t o u waits MAX_AWAITING s.few_waits room in let long = length-append others (w ∷ []) in record {
       some = s.some;
@@ -237,5 +222,5 @@ sound-listed space ack k rows waits t o u room s =
       given = s.given;
       few = s.few;
       few_waits = omega arith;
-      once = once-push others w (once-filter (λ v. not (is_wait_of o u v)) (waiting t waits) (once-filter (goes_on t) waits s.once)) (gone-filter (is_wait_of o u) (waiting t waits));
+      once = once-push others w (once-filter (λ v. not (is_wait_of o u v)) (still_waiting t waits) (once-filter (goes_on t) waits s.once)) (gone-filter (is_wait_of o u) (still_waiting t waits));
     }

@@ -13,7 +13,7 @@ use Rattle.history.specs.declared.asks.Ask.{Ask}
 use Rattle.history.specs.declared.asks.Ask.TheVariants.{Begin, Finish, Abandon, Ack, Bind, Rebind, Unbind, Lookup}
 use Rattle.history.specs.declared.places.Exported.{Exported}
 use Rattle.history.specs.declared.places.Returned.{Returned}
-use Rattle.history.specs.Awaiting.{same_returned, returned, return_uid, is_ack_of, awaiting, awaiting_of, until_of}
+use Rattle.history.specs.Awaiting.{same_returned, returned_references, return_uid, is_ack_of, awaiting_references, awaiting_references_to, until_of}
 use Rattle.history.specs.Names.{name_in, object_bound, is_name_change, is_name_of, names, names_of, stands_for}
 use Rattle.history.specs.Places.{History, has, now}
 use Rattle.history.specs.Running.{is_begin_of, is_end_of, running_calls}
@@ -24,15 +24,15 @@ use Rattle.history.proofs.NameCounts.{is_object, names_less, names_more, names-c
 use Rattle.history.proofs.Partitions.{one_if}
 use Rattle.history.proofs.RunningLaws.{running_calls-push}
 use Rattle.history.proofs.TableLaws.{ask-place_of, places-push}
-use Rattle.dgc_server.proofs.Distinct.{turned}
 use Rattle.export_table.specs.declared.rows.Export.{Export}
 use Rattle.export_table.specs.declared.waits.Wait.{Wait}
-use Rattle.export_table.specs.Rows.{is_of, is_exported, kind_of, running_of, pins_of, changed, begun, ended, pinned_once, unpinned_once, unpinned}
-use Rattle.export_table.specs.Stands.{row_of, rows_of, waits_once, references, reference_of, end_of, WaitsStand, AreWaits, NoneAwaits, WaitingAwaits, WaitingStands, ReturnLists, AckEnds, RowsCount, BeginCounts, EndsCallOf, EndCounts, BindPins, RebindPins, UnbindUnpins}
-use Rattle.export_table.specs.Waits.{waiting, is_waiting, listed as listed_wait, listed_each}
+use Rattle.export_table.specs.ExportRows.{is_of, is_exported, kind_of, running_of, pins_of, with_row_changed, with_call_begun, with_call_ended, pinned_once, unpinned_once, with_pin_removed}
+use Rattle.export_table.specs.StandsForHistory.{row_of, rows_of, waits_once, references, reference_of, end_of, WaitsStand, AreWaits, NoneAwaits, WaitingAwaits, WaitingStands, ReturnLists, AckEnds, RowsCount, BeginCounts, EndsCallOf, EndCounts, BindPins, RebindPins, UnbindUnpins}
+use Rattle.export_table.specs.Waits.{still_waiting, is_waiting, with_listed as listed_wait, with_each_listed}
 use Rattle.export_table.proofs.WaitLaws.{until-none, waits-await, waiting_refs, refs-any, refs-await, refs-waiting-once, count-awaiting, count-awaiting_of}
 use Rattle.export_table.proofs.WaitSteps.{until_in-find, waits-later, going, going-until, but, listed, listed-once, listed_all, waits-push, waits-push-ack}
 use Rattle.history.proofs.ListLemmas.{AllOnce-filter}
+use Rattle.history.proofs.Equalities.{same_id-turned}
 
 -- ---- the references that await
 
@@ -60,12 +60,12 @@ refs-length ref until t ws = go (filter (λ w. nat_lt t (until w)) ws)
 
 -- HOW MANY REFERENCES AWAIT, by a list of waits.
 pub awaiting-counted : {W : Type 0} (ref : W → Returned) (until : W → ℕ) (ack m t : ℕ) (h : History) (ws : List W) → m ≤ t → WaitsStand ref until ack m h ws →
-    length (awaiting ack t h) ≡ length (filter (λ w. nat_lt t (until w)) ws)
+    length (awaiting_references ack t h) ≡ length (filter (λ w. nat_lt t (until w)) ws)
 awaiting-counted ref until ack m t h ws le s =
     count-awaiting ack t h (waiting_refs ref until t ws) (refs-waiting-once ref until t ws s.once) (refs-await ref until ack m t h ws le s) ∙ refs-length ref until t ws
 
 pub awaiting_of-counted : {W : Type 0} (ref : W → Returned) (until : W → ℕ) (ack m t : ℕ) (h : History) (o : ObjId) (ws : List W) → m ≤ t → WaitsStand ref until ack m h ws →
-    length (awaiting_of ack t h o) ≡ length (filter (λ w. nat_lt t (until w) && same_id (ref w).object o) ws)
+    length (awaiting_references_to ack t h o) ≡ length (filter (λ w. nat_lt t (until w) && same_id (ref w).object o) ws)
 awaiting_of-counted ref until ack m t h o ws le s =
     count-awaiting_of ack t h o (waiting_refs ref until t ws) (refs-waiting-once ref until t ws s.once) (refs-await ref until ack m t h ws le s) ∙ refs-of ref until t o ws
 
@@ -81,7 +81,7 @@ listed-is ack t r waits =
     ap (λ (n : ℕ). but reference_of r (going end_of t waits) ++ record { object = r.object; uid = r.uid; until = max (t + ack) n } ∷ []) (until_in-find reference_of end_of r waits)
 
 pub listed-each-is : (ack t : ℕ) (uid : Uid) (os : List ObjId) (waits : List Wait) →
-    listed_all reference_of end_of (λ s n. record { object = s.object; uid = s.uid; until = n }) ack t (references uid os) waits ≡ listed_each ack t uid os waits
+    listed_all reference_of end_of (λ s n. record { object = s.object; uid = s.uid; until = n }) ack t (references uid os) waits ≡ with_each_listed ack t uid os waits
 listed-each-is ack t uid [] waits = refl
 listed-each-is ack t uid (o ∷ os) waits =
     ap (listed_all reference_of end_of (λ s n. record { object = s.object; uid = s.uid; until = n }) ack t (references uid os)) (listed-is ack t (record { object = o; uid = uid }) waits)
@@ -95,7 +95,7 @@ listed-stays-once ack t o uid waits once =
 
 -- ---- what ended is forgotten
 
-pub waits-going : (m : ℕ) (ack : ℕ) (h : History) (ws : List Wait) → WaitsStand reference_of end_of ack m h ws → WaitsStand reference_of end_of ack m h (waiting m ws)
+pub waits-going : (m : ℕ) (ack : ℕ) (h : History) (ws : List Wait) → WaitsStand reference_of end_of ack m h ws → WaitsStand reference_of end_of ack m h (still_waiting m ws)
 waits-going m ack h ws w = record {
   once = AllOnce-filter (λ a b. same_returned (reference_of a) (reference_of b)) (λ v. nat_lt m (end_of v)) ws w.once;
   each = λ r. going-until reference_of end_of m r ws w.once ∙ w.each r;
@@ -190,25 +190,22 @@ pub count-push : (config : SpaceConfig) (events : List Event) (e : Event) (o : O
 unfolding place_of
 count-push config events e o = running_calls-push config events e o
 
-pub id-turned : (a b : ObjId) → same_id a b ≡ same_id b a
-id-turned a b = turned (record { equal = same_id-equal; self = same_id-self }) a b
-
 -- The rows, where the counts of running calls and of pins are the old and the new ones.
 pub row-same : (old new pold pnew : ObjId → ℕ) → ((o : ObjId) → new o ≡ old o) → ((o : ObjId) → pnew o ≡ pold o) → (objects : List Exported) → map (row_with old pold) objects ≡ map (row_with new pnew) objects
 row-same old new pold pnew same still [] = refl
 row-same old new pold pnew same still (x ∷ objects) = rw (same x.id, still x.id, row-same old new pold pnew same still objects) refl
 
 pub row-changed : (old new pold pnew : ObjId → ℕ) (f : Export → Export) (o : ObjId) → ((x : Exported) → (if same_id x.id o then f (row_with old pold x) else row_with old pold x) ≡ row_with new pnew x) → (objects : List Exported) →
-    changed f o (map (row_with old pold) objects) ≡ map (row_with new pnew) objects
+    with_row_changed f o (map (row_with old pold) objects) ≡ map (row_with new pnew) objects
 row-changed old new pold pnew f o same [] = refl
 row-changed old new pold pnew f o same (x ∷ objects) = rw (same x, row-changed old new pold pnew f o same objects) refl
 
-pub begun-row : (old new pold pnew : ObjId → ℕ) (x : Exported) (b : Bool) → new x.id ≡ old x.id + one_if b → pnew x.id ≡ pold x.id → (if b then begun (row_with old pold x) else row_with old pold x) ≡ row_with new pnew x
+pub begun-row : (old new pold pnew : ObjId → ℕ) (x : Exported) (b : Bool) → new x.id ≡ old x.id + one_if b → pnew x.id ≡ pold x.id → (if b then with_call_begun (row_with old pold x) else row_with old pold x) ≡ row_with new pnew x
 unfolding one_if
 begun-row old new pold pnew x true e s = rw (e, s) refl
 begun-row old new pold pnew x false e s = (let same : new x.id ≡ old x.id = omega (arith, e) in rw (same, s) refl)
 
-pub ended-row : (old new pold pnew : ObjId → ℕ) (x : Exported) (b : Bool) → new x.id + one_if b ≡ old x.id → pnew x.id ≡ pold x.id → (if b then ended (row_with old pold x) else row_with old pold x) ≡ row_with new pnew x
+pub ended-row : (old new pold pnew : ObjId → ℕ) (x : Exported) (b : Bool) → new x.id + one_if b ≡ old x.id → pnew x.id ≡ pold x.id → (if b then with_call_ended (row_with old pold x) else row_with old pold x) ≡ row_with new pnew x
 unfolding one_if
 ended-row old new pold pnew x true e s = (let same : old x.id - 1 ≡ new x.id = omega (arith, e) in rw (same, s) refl)
 ended-row old new pold pnew x false e s = (let same : old x.id ≡ new x.id = omega (arith, e) in rw (same, s) refl)
@@ -225,16 +222,16 @@ unpinned-row old new pold pnew x false s e = (let same : pold x.id ≡ pnew x.id
 
 -- The rows without a pin of this object, if there is one.
 pub rows-unpinned : (old new pold pnew : ObjId → ℕ) (stood : Option ObjId) → ((o : ObjId) → new o ≡ old o) → ((o : ObjId) → pnew o + one_if (is_object o stood) ≡ pold o) → (objects : List Exported) →
-    unpinned stood (map (row_with old pold) objects) ≡ map (row_with new pnew) objects
+    with_pin_removed stood (map (row_with old pold) objects) ≡ map (row_with new pnew) objects
 unfolding one_if
 rows-unpinned old new pold pnew None same less objects = row-same old new pold pnew same (λ o. let step = less o in omega (arith, step)) objects
 rows-unpinned old new pold pnew (Some q) same less objects =
-    row-changed old new pold pnew unpinned_once q (λ x. unpinned-row old new pold pnew x (same_id x.id q) (same x.id) (let step = less x.id in let turn = ap one_if (id-turned q x.id) in omega (arith, step, turn))) objects
+    row-changed old new pold pnew unpinned_once q (λ x. unpinned-row old new pold pnew x (same_id x.id q) (same x.id) (let step = less x.id in let turn = ap one_if (same_id-turned q x.id) in omega (arith, step, turn))) objects
 
 pub rows-pinned : (old new pold pnew : ObjId → ℕ) (o : ObjId) → ((y : ObjId) → new y ≡ old y) → ((y : ObjId) → pnew y ≡ pold y + one_if (same_id o y)) → (objects : List Exported) →
-    changed pinned_once o (map (row_with old pold) objects) ≡ map (row_with new pnew) objects
+    with_row_changed pinned_once o (map (row_with old pold) objects) ≡ map (row_with new pnew) objects
 rows-pinned old new pold pnew o same more objects =
-    row-changed old new pold pnew pinned_once o (λ x. pinned-row old new pold pnew x (same_id x.id o) (same x.id) (let step = more x.id in let turn = ap one_if (id-turned o x.id) in omega (arith, step, turn))) objects
+    row-changed old new pold pnew pinned_once o (λ x. pinned-row old new pold pnew x (same_id x.id o) (same x.id) (let step = more x.id in let turn = ap one_if (same_id-turned o x.id) in omega (arith, step, turn))) objects
 
 none-of : one_if false ≡ 0
 unfolding one_if
@@ -267,9 +264,9 @@ return-lists config events e uid waits r s =
     let asked = ask-place_of config (places config events) e in
     let pushed = waits-push reference_of end_of (λ x n. record { object = x.object; uid = x.uid; until = n }) config events e waits (λ x n. refl) (λ x n. refl)
     (λ u. ap (is_ack_of u) asked ∙ no-ack e.ask uid u r) s in
-    let all : returned (place_of config (places config events) e) ≡ references uid (place_of config (places config events) e).returned_here =
+    let all : returned_references (place_of config (places config events) e) ≡ references uid (place_of config (places config events) e).returned_here =
     ap (λ u. flat_map (λ x. map (λ o. record { object = o; uid = x }) (place_of config (places config events) e).returned_here) (option_to_list u)) (ap return_uid asked ∙ r) ∙ one_list uid (place_of config (places config events) e).returned_here in
-    let H : History → Type 0 = λ h. AreWaits config.ack_ms (max e.moment (now (places config events))) h (listed_each config.ack_ms (max e.moment (now (places config events))) uid (place_of config (places config events) e).returned_here waits) in
+    let H : History → Type 0 = λ h. AreWaits config.ack_ms (max e.moment (now (places config events))) h (with_each_listed config.ack_ms (max e.moment (now (places config events))) uid (place_of config (places config events) e).returned_here waits) in
     let R : List Returned → Type 0 = λ rs. AreWaits config.ack_ms (max e.moment (now (places config events))) (place_of config (places config events) e ∷ places config events)
     (listed_all reference_of end_of (λ x n. record { object = x.object; uid = x.uid; until = n }) config.ack_ms (max e.moment (now (places config events))) rs waits) in
     let W : List Wait → Type 0 = λ ws. AreWaits config.ack_ms (max e.moment (now (places config events))) (place_of config (places config events) e ∷ places config events) ws in
@@ -299,15 +296,15 @@ begin-counts config events e o objects asked eff =
     let new : ObjId → ℕ = running_calls (place_of config (places config events) e ∷ places config events) in
     let pold : ObjId → ℕ = names_for (places config events) in
     let pnew : ObjId → ℕ = names_for (place_of config (places config events) e ∷ places config events) in
-    let H : History → Type 0 = λ h. changed begun o (rows_of (places config events) objects) ≡ rows_of h objects in
-    subst H (sym (places-push config events e)) (row-changed old new pold pnew begun o (λ x. begun-row old new pold pnew x (same_id x.id o) (step x.id) (asked-no-name config events e (Begin o) asked refl x.id)) objects)
+    let H : History → Type 0 = λ h. with_row_changed with_call_begun o (rows_of (places config events) objects) ≡ rows_of h objects in
+    subst H (sym (places-push config events e)) (row-changed old new pold pnew with_call_begun o (λ x. begun-row old new pold pnew x (same_id x.id o) (step x.id) (asked-no-name config events e (Begin o) asked refl x.id)) objects)
   where
     step : (x : ObjId) → running_calls (place_of config (places config events) e ∷ places config events) x ≡ running_calls (places config events) x + one_if (same_id x o)
     step x =
         let push = count-push config events e x in
         let ends : one_if (is_effective config (places config events) e.by e.ask && is_end_of x e.ask) ≡ one_if false = ap (λ a. one_if (is_effective config (places config events) e.by e.ask && is_end_of x a)) asked ∙ ap (λ v. one_if (v && false)) eff in
         let begins : one_if (is_effective config (places config events) e.by e.ask && is_begin_of x e.ask) ≡ one_if (same_id x o) =
-        ap (λ a. one_if (is_effective config (places config events) e.by e.ask && is_begin_of x a)) asked ∙ ap (λ v. one_if (v && same_id o x)) eff ∙ ap one_if (id-turned o x) in
+        ap (λ a. one_if (is_effective config (places config events) e.by e.ask && is_begin_of x a)) asked ∙ ap (λ v. one_if (v && same_id o x)) eff ∙ ap one_if (same_id-turned o x) in
         let zero_if = none-of in
         omega (arith, push, ends, begins, zero_if)
 
@@ -317,8 +314,8 @@ end-counts config events e o objects asked eff =
     let new : ObjId → ℕ = running_calls (place_of config (places config events) e ∷ places config events) in
     let pold : ObjId → ℕ = names_for (places config events) in
     let pnew : ObjId → ℕ = names_for (place_of config (places config events) e ∷ places config events) in
-    let H : History → Type 0 = λ h. changed ended o (rows_of (places config events) objects) ≡ rows_of h objects in
-    subst H (sym (places-push config events e)) (row-changed old new pold pnew ended o (λ x. ended-row old new pold pnew x (same_id x.id o) (step x.id) (names-still config events e (no-name e.ask asked) x.id)) objects)
+    let H : History → Type 0 = λ h. with_row_changed with_call_ended o (rows_of (places config events) objects) ≡ rows_of h objects in
+    subst H (sym (places-push config events e)) (row-changed old new pold pnew with_call_ended o (λ x. ended-row old new pold pnew x (same_id x.id o) (step x.id) (names-still config events e (no-name e.ask asked) x.id)) objects)
   where
     no-name : (a : Ask) → EndsCallOf o a → is_name_change a ≡ false
     no-name (Finish object made listed uid) h = refl
@@ -339,7 +336,7 @@ end-counts config events e o objects asked eff =
     step x =
         let push = count-push config events e x in
         let ends : one_if (is_effective config (places config events) e.by e.ask && is_end_of x e.ask) ≡ one_if (same_id x o) =
-        ap (λ v. one_if (v && is_end_of x e.ask)) eff ∙ ap one_if (is-end e.ask x asked ∙ id-turned o x) in
+        ap (λ v. one_if (v && is_end_of x e.ask)) eff ∙ ap one_if (is-end e.ask x asked ∙ same_id-turned o x) in
         let begins : one_if (is_effective config (places config events) e.by e.ask && is_begin_of x e.ask) ≡ one_if false =
         ap (λ v. one_if (v && is_begin_of x e.ask)) eff ∙ ap one_if (no-begin e.ask x asked) in
         let zero_if = none-of in
@@ -392,7 +389,7 @@ bind-stood config h by n o eff = go (stands_for h n) (and_parts (has (table conf
 
 pub bind-pins : BindPins
 bind-pins config events e n o objects asked eff =
-    let H : History → Type 0 = λ h. changed pinned_once o (rows_of (places config events) objects) ≡ rows_of h objects in
+    let H : History → Type 0 = λ h. with_row_changed pinned_once o (rows_of (places config events) objects) ≡ rows_of h objects in
     subst H (sym (places-push config events e)) (rows-pinned (running_calls (places config events)) (running_calls (place_of config (places config events) e ∷ places config events)) (names_for (places config events)) (names_for (place_of config (places config events) e ∷ places config events)) o
     (names-no-call config events e (ap is_name_change asked)) step objects)
   where
@@ -406,17 +403,17 @@ bind-pins config events e n o objects asked eff =
 
 pub rebind-pins : RebindPins
 rebind-pins config events e n o objects asked eff =
-    let H : History → Type 0 = λ h. unpinned (stands_for (places config events) n) (changed pinned_once o (rows_of (places config events) objects)) ≡ rows_of h objects in
+    let H : History → Type 0 = λ h. with_pin_removed (stands_for (places config events) n) (with_row_changed pinned_once o (rows_of (places config events) objects)) ≡ rows_of h objects in
     let more : ObjId → ℕ = λ y. names_for (places config events) y + one_if (same_id o y) in
     let calls : ObjId → ℕ = running_calls (places config events) in
     subst H (sym (places-push config events e)) (
-    ap (unpinned (stands_for (places config events) n)) (rows-pinned calls calls (names_for (places config events)) more o (λ y. refl) (λ y. refl) objects)
+    ap (with_pin_removed (stands_for (places config events) n)) (rows-pinned calls calls (names_for (places config events)) more o (λ y. refl) (λ y. refl) objects)
     ∙ rows-unpinned calls (running_calls (place_of config (places config events) e ∷ places config events)) more (names_for (place_of config (places config events) e ∷ places config events)) (stands_for (places config events) n)
     (names-no-call config events e (ap is_name_change asked)) (λ y. names-step config events e (Rebind n o) asked eff y) objects)
 
 pub unbind-unpins : UnbindUnpins
 unbind-unpins config events e n objects asked eff =
-    let H : History → Type 0 = λ h. unpinned (stands_for (places config events) n) (rows_of (places config events) objects) ≡ rows_of h objects in
+    let H : History → Type 0 = λ h. with_pin_removed (stands_for (places config events) n) (rows_of (places config events) objects) ≡ rows_of h objects in
     subst H (sym (places-push config events e)) (rows-unpinned (running_calls (places config events)) (running_calls (place_of config (places config events) e ∷ places config events)) (names_for (places config events)) (names_for (place_of config (places config events) e ∷ places config events)) (stands_for (places config events) n)
     (names-no-call config events e (ap is_name_change asked)) step objects)
   where

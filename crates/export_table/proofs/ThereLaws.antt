@@ -17,13 +17,13 @@ use Rattle.history.specs.Awaiting.{is_awaited}
 use Rattle.history.specs.LeaseCalls.{lease_calls}
 use Rattle.history.specs.Leases.{is_held}
 use Rattle.history.specs.Names.{is_named, is_name_of, name_in, names, names_of, stands_for}
-use Rattle.history.specs.Places.{History, has, now, added, id_at}
+use Rattle.history.specs.Places.{History, has, now, ever_exported, id_at}
 use Rattle.history.specs.Running.{begins_any, ends_any, running_calls}
-use Rattle.history.specs.Table.{is_pinned, is_kept, is_effective, table, place_of, places}
+use Rattle.history.specs.Table.{is_kept_locally, is_kept, is_effective, table, place_of, places}
 use Rattle.history.proofs.ListLemmas.{every-weaker}
 use Rattle.history.proofs.NameCounts.{is_object, names_less, names_more, names-counted}
 use Rattle.history.proofs.NamedLaws.{by-events, stays, in-front, named-exported}
-use Rattle.history.proofs.NumberLaws.{NumberedFrom, adds-numbered, added-numbered, has-smaller, has-self, table-exported}
+use Rattle.history.proofs.NumberLaws.{NumberedFrom, adds-numbered, ever_exported-numbered, has-smaller, has-self, table-exported}
 use Rattle.history.proofs.Partitions.{one_if}
 use Rattle.history.proofs.RunningLaws.{running_calls-difference, running_calls-push, is_running-calls}
 use Rattle.history.proofs.TableLaws.{places-push, places-none}
@@ -43,7 +43,7 @@ begun-there config h e o b = go e.ask b
     go a t = never (place_of config h (record e { ask = a })).effective t
 
 kept-running : (config : SpaceConfig) (h : History) (x : Exported) → 0 < running_calls h x.id → is_kept config h x ≡ true
-unfolding is_kept is_pinned
+unfolding is_kept is_kept_locally
 kept-running config h x r = rw (is_running-calls h x.id ∙ lt-ltb 0 (running_calls h x.id) r) (go x.pinned (is_named h x.id) (is_awaited config.ack_ms (now h) h x.id) (is_held config.lease_ms (now h) (lease_calls h) x.id))
   where
     go : (a b c d : Bool) → (((a || b) || true) || c || d) ≡ true
@@ -88,20 +88,20 @@ numbered-has space k (x ∷ xs) y n h = elim (or_cases (same_id x.id y) (has xs 
 ]
 
 -- What was exported before is not new.
-pub old-not-new : (config : SpaceConfig) (events : List Event) (e : Event) (y : ObjId) → has (added (places config events)) y ≡ true → has (place_of config (places config events) e).exported_here y ≡ false
+pub old-not-new : (config : SpaceConfig) (events : List Event) (e : Event) (y : ObjId) → has (ever_exported (places config events)) y ≡ true → has (place_of config (places config events) e).exported_here y ≡ false
 old-not-new config events e y h =
-    let some = numbered-has config.uid 0 (added (places config events)) y (added-numbered config events) h in
+    let some = numbered-has config.uid 0 (ever_exported (places config events)) y (ever_exported-numbered config events) h in
     ap (has (place_of config (places config events) e).exported_here) some.1
-    ∙ has-smaller config.uid some.0 (length (added (places config events))) (place_of config (places config events) e).exported_here (adds-numbered config (places config events) e) (let l = some.2 in omega arith)
+    ∙ has-smaller config.uid some.0 (length (ever_exported (places config events))) (place_of config (places config events) e).exported_here (adds-numbered config (places config events) e) (let l = some.2 in omega arith)
 
-pub new-not-old : (config : SpaceConfig) (events : List Event) (e : Event) (y : ObjId) → has (place_of config (places config events) e).exported_here y ≡ true → has (added (places config events)) y ≡ false
-new-not-old config events e y h = go (has (added (places config events)) y) refl
+pub new-not-old : (config : SpaceConfig) (events : List Event) (e : Event) (y : ObjId) → has (place_of config (places config events) e).exported_here y ≡ true → has (ever_exported (places config events)) y ≡ false
+new-not-old config events e y h = go (has (ever_exported (places config events)) y) refl
   where
-    go : (b : Bool) → has (added (places config events)) y ≡ b → b ≡ false
+    go : (b : Bool) → has (ever_exported (places config events)) y ≡ b → b ≡ false
     go false t = refl
     go true t = absurd (let never = old-not-new config events e y t in cc)
 
-pub not-exported-nowhere : (config : SpaceConfig) (events : List Event) (y : ObjId) → has (added (places config events)) y ≡ false → has (table config (places config events)) y ≡ false
+pub not-exported-nowhere : (config : SpaceConfig) (events : List Event) (y : ObjId) → has (ever_exported (places config events)) y ≡ false → has (table config (places config events)) y ≡ false
 not-exported-nowhere config events y h = go (has (table config (places config events)) y) refl
   where
     go : (b : Bool) → has (table config (places config events)) y ≡ b → b ≡ false

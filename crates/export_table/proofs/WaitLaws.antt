@@ -11,28 +11,23 @@ use Rattle.history.specs.declared.asks.SpaceConfig.{SpaceConfig}
 use Rattle.history.specs.declared.asks.Event.{Event}
 use Rattle.history.specs.declared.places.Place.{Place}
 use Rattle.history.specs.declared.places.Returned.{Returned}
-use Rattle.history.specs.Awaiting.{same_returned, returns, is_ack_of, awaits, awaiting, awaiting_of, until_of}
+use Rattle.history.specs.Awaiting.{same_returned, returns, is_ack_of, awaits, awaiting_references, awaiting_references_to, until_of}
 use Rattle.history.specs.Lists.{distinct, AllOnce}
 use Rattle.history.specs.Places.{History, now}
 use Rattle.history.specs.Table.{place_of, places_back, places}
-use Rattle.history.proofs.AwaitingLaws.{returned-equality, awaiting-member, awaiting-once}
-use Rattle.history.proofs.ListLemmas.{IsEquality, AllOnce-distinct, AllOnce-filter, length-members, list_any-distinct, same_test, and_false}
+use Rattle.history.proofs.AwaitingLaws.{returned-equality, awaiting_references-member, awaiting_references-once}
+use Rattle.history.proofs.ListLemmas.{IsEquality, AllOnce-distinct, AllOnce-filter, length-members, same_test, and_false, any-filtered, same-turned, no_time, any-distinct}
 use Rattle.history.proofs.TableLaws.{IsNumbered, index-place_of, places_back-numbered, moment-place_of, now-push, places-numbered}
-use Rattle.dgc_server.proofs.Distinct.{Decides, any-filtered, turned}
-use Rattle.dgc_server.proofs.Outputs.{no_time}
-use Rattle.export_table.specs.Stands.{until_in, waits_once, WaitsStand}
+use Rattle.export_table.specs.StandsForHistory.{until_in, waits_once, WaitsStand}
 
 -- ---- how many items a list has, each counted once
-
-pub any-distinct : {X : Type 0} (same : X → X → Bool) → IsEquality same → (k : X) (xs : List X) → list_any (same k) (distinct same xs) ≡ list_any (same k) xs
-any-distinct same e k xs = list_any-distinct same (same k) (λ a b h. ap (same k) (e.equal a b h)) xs
 
 -- Lists with the same items have as many.
 pub distinct-same : {X : Type 0} (same : X → X → Bool) → IsEquality same → (xs ys : List X) → ((k : X) → list_any (same k) xs ≡ list_any (same k) ys) →
     length (distinct same xs) ≡ length (distinct same ys)
 distinct-same same e xs ys f =
     length-members same e (distinct same xs) (distinct same ys) (AllOnce-distinct same e xs) (AllOnce-distinct same e ys)
-    (λ k. any-distinct same e k xs ∙ f k ∙ sym (any-distinct same e k ys))
+    (λ k. any-distinct e k xs ∙ f k ∙ sym (any-distinct e k ys))
 
 -- ---- until when
 
@@ -80,26 +75,23 @@ until-bound ack config events r = until_back ack config (reverse events) r
 
 -- ---- counts, by another list of the same references
 
-pub decides-returned : Decides same_returned
-decides-returned = record { equal = returned-equality.equal; self = returned-equality.self }
-
-pub count-awaiting : (ack t : ℕ) (h : History) (rs : List Returned) → AllOnce same_returned rs → ((r : Returned) → list_any (same_returned r) rs ≡ awaits ack t h r) → length (awaiting ack t h) ≡ length rs
+pub count-awaiting : (ack t : ℕ) (h : History) (rs : List Returned) → AllOnce same_returned rs → ((r : Returned) → list_any (same_returned r) rs ≡ awaits ack t h r) → length (awaiting_references ack t h) ≡ length rs
 count-awaiting ack t h rs once f =
-    length-members same_returned returned-equality (awaiting ack t h) rs (awaiting-once ack t h) once (λ r. awaiting-member ack t h r ∙ sym (f r))
+    length-members same_returned returned-equality (awaiting_references ack t h) rs (awaiting_references-once ack t h) once (λ r. awaiting_references-member ack t h r ∙ sym (f r))
 
 pub count-awaiting_of : (ack t : ℕ) (h : History) (o : ObjId) (rs : List Returned) → AllOnce same_returned rs → ((r : Returned) → list_any (same_returned r) rs ≡ awaits ack t h r) →
-    length (awaiting_of ack t h o) ≡ length (filter (λ r. same_id r.object o) rs)
-unfolding awaiting_of
+    length (awaiting_references_to ack t h o) ≡ length (filter (λ r. same_id r.object o) rs)
+unfolding awaiting_references_to
 count-awaiting_of ack t h o rs once f =
-    length-members same_returned returned-equality (filter (λ r. same_id r.object o) (awaiting ack t h)) (filter (λ r. same_id r.object o) rs)
-    (AllOnce-filter same_returned (λ r. same_id r.object o) (awaiting ack t h) (awaiting-once ack t h)) (AllOnce-filter same_returned (λ r. same_id r.object o) rs once)
-    (λ r. any-filtered decides-returned (λ x. same_id x.object o) r (awaiting ack t h) ∙ ap (λ v. v && same_id r.object o) (awaiting-member ack t h r ∙ sym (f r)) ∙ sym (any-filtered decides-returned (λ x. same_id x.object o) r rs))
+    length-members same_returned returned-equality (filter (λ r. same_id r.object o) (awaiting_references ack t h)) (filter (λ r. same_id r.object o) rs)
+    (AllOnce-filter same_returned (λ r. same_id r.object o) (awaiting_references ack t h) (awaiting_references-once ack t h)) (AllOnce-filter same_returned (λ r. same_id r.object o) rs once)
+    (λ r. any-filtered returned-equality (λ x. same_id x.object o) r (awaiting_references ack t h) ∙ ap (λ v. v && same_id r.object o) (awaiting_references-member ack t h r ∙ sym (f r)) ∙ sym (any-filtered returned-equality (λ x. same_id x.object o) r rs))
 
 pub count-awaiting-with : (ack t : ℕ) (h : History) (rs more : List Returned) → ((r : Returned) → list_any (same_returned r) rs ≡ awaits ack t h r) →
-    length (distinct same_returned (awaiting ack t h ++ more)) ≡ length (distinct same_returned (rs ++ more))
+    length (distinct same_returned (awaiting_references ack t h ++ more)) ≡ length (distinct same_returned (rs ++ more))
 count-awaiting-with ack t h rs more f =
-    distinct-same same_returned returned-equality (awaiting ack t h ++ more) (rs ++ more)
-    (λ r. list_any-append (same_returned r) (awaiting ack t h) more ∙ ap (λ v. v || list_any (same_returned r) more) (awaiting-member ack t h r ∙ sym (f r)) ∙ sym (list_any-append (same_returned r) rs more))
+    distinct-same same_returned returned-equality (awaiting_references ack t h ++ more) (rs ++ more)
+    (λ r. list_any-append (same_returned r) (awaiting_references ack t h) more ∙ ap (λ v. v || list_any (same_returned r) more) (awaiting_references-member ack t h r ∙ sym (f r)) ∙ sym (list_any-append (same_returned r) rs more))
 
 -- ---- lists of waits: each is of a reference, and has a moment until which it waits
 
@@ -112,7 +104,7 @@ pub others-absent : {W : Type 0} (ref : W → Returned) (w : W) (r : Returned) (
 others-absent ref w r [] e h = refl
 others-absent ref w r (v ∷ ws) e h =
     let two = or_parts (same_returned (ref w) (ref v)) (list_any (λ u. same_returned (ref w) (ref u)) ws) h in
-    rw (turned decides-returned (ref v) r ∙ ap (λ x. same_returned x (ref v)) (sym (returned-equality.equal (ref w) r e)) ∙ two.0) (others-absent ref w r ws e two.1)
+    rw (same-turned returned-equality (ref v) r ∙ ap (λ x. same_returned x (ref v)) (sym (returned-equality.equal (ref w) r e)) ∙ two.0) (others-absent ref w r ws e two.1)
 
 -- A reference waits at a moment exactly where its moment comes later.
 pub goes-until : {W : Type 0} (ref : W → Returned) (until : W → ℕ) (t : ℕ) (r : Returned) (ws : List W) → waits_once ref ws →
@@ -155,7 +147,7 @@ refs-any {W} ref until t r (w ∷ ws) = go (nat_lt t (until w)) (refs-any ref un
   where
     go : (b : Bool) → list_any (same_returned r) (waiting_refs ref until t ws) ≡ list_any (λ v. nat_lt t (until v) && same_returned (ref v) r) ws →
         list_any (same_returned r) (map ref (cond b (w ∷ filter (λ v. nat_lt t (until v)) ws) (filter (λ v. nat_lt t (until v)) ws))) ≡ ((b && same_returned (ref w) r) || list_any (λ v. nat_lt t (until v) && same_returned (ref v) r) ws)
-    go true e = rw (turned decides-returned r (ref w), e) refl
+    go true e = rw (same-turned returned-equality r (ref w), e) refl
     go false e = e
 
 refs-once : {W : Type 0} (ref : W → Returned) (ws : List W) → waits_once ref ws → AllOnce same_returned (map ref ws)

@@ -12,15 +12,14 @@ use Rattle.history.specs.declared.asks.SpaceConfig.{SpaceConfig}
 use Rattle.history.specs.declared.asks.Event.{Event}
 use Rattle.history.specs.declared.asks.Ask.TheVariants.{Ack}
 use Rattle.history.specs.declared.places.Returned.{Returned}
-use Rattle.history.specs.Awaiting.{same_returned, returned, returns, return_uid, is_ack_of, until_of}
+use Rattle.history.specs.Awaiting.{same_returned, returned_references, returns, return_uid, is_ack_of, until_of}
 use Rattle.history.specs.Places.{now}
 use Rattle.history.specs.Table.{place_of, places}
 use Rattle.history.proofs.AwaitingLaws.{returned-equality}
-use Rattle.history.proofs.ListLemmas.{AllOnce-filter}
+use Rattle.history.proofs.ListLemmas.{AllOnce-filter, same-turned}
 use Rattle.history.proofs.TableLaws.{moment-place_of, ask-place_of}
-use Rattle.dgc_server.proofs.Distinct.{turned}
-use Rattle.export_table.specs.Stands.{until_in, waits_once, WaitsFor, WaitsStand}
-use Rattle.export_table.proofs.WaitLaws.{until-push, until-bound, decides-returned, absent-until, others-absent, numbered-place}
+use Rattle.export_table.specs.StandsForHistory.{until_in, waits_once, WaitsFor, WaitsStand}
+use Rattle.export_table.proofs.WaitLaws.{until-push, until-bound, absent-until, others-absent, numbered-place}
 
 -- The same moment, by the first wait that is of the reference.
 pub until_in-find : {W : Type 0} (ref : W → Returned) (until : W → ℕ) (r : Returned) (ws : List W) →
@@ -162,7 +161,7 @@ waits-listed_all {W} ref until make ack m f (r ∷ rs) ws is at bound w =
     one s false = bound s
 
     both : (s : Returned) (a b : Bool) → same_returned r s ≡ b → (if a then m + ack else (if b then m + ack else f s)) ≡ (if same_returned s r || a then m + ack else f s)
-    both s a b e = rw (turned decides-returned s r ∙ e) (go a b)
+    both s a b e = rw (same-turned returned-equality s r ∙ e) (go a b)
       where
         go : (x y : Bool) → (if x then m + ack else (if y then m + ack else f s)) ≡ (if y || x then m + ack else f s)
         go true true = refl
@@ -217,17 +216,17 @@ pub waits-push : {W : Type 0} (ref : W → Returned) (until : W → ℕ) (make :
     ((s : Returned) (n : ℕ) → ref (make s n) ≡ s) → ((s : Returned) (n : ℕ) → until (make s n) ≡ n) →
     ((u : Uid) → is_ack_of u (place_of config (places config events) e).event.ask ≡ false) → WaitsStand ref until config.ack_ms (now (places config events)) (places config events) ws →
     WaitsStand ref until config.ack_ms (max e.moment (now (places config events))) (place_of config (places config events) e ∷ places config events)
-    (listed_all ref until make config.ack_ms (max e.moment (now (places config events))) (returned (place_of config (places config events) e)) ws)
+    (listed_all ref until make config.ack_ms (max e.moment (now (places config events))) (returned_references (place_of config (places config events) e)) ws)
 waits-push ref until make config events e ws is at other w =
     let m : ℕ = max e.moment (now (places config events)) in
     let late : now (places config events) ≤ max e.moment (now (places config events)) = omega arith in
     let before = waits-later ref until (now (places config events)) (max e.moment (now (places config events))) (until_of config.ack_ms (places config events)) ws late w in
-    let all = waits-listed_all ref until make config.ack_ms (max e.moment (now (places config events))) (until_of config.ack_ms (places config events)) (returned (place_of config (places config events) e)) ws is at
+    let all = waits-listed_all ref until make config.ack_ms (max e.moment (now (places config events))) (until_of config.ack_ms (places config events)) (returned_references (place_of config (places config events) e)) ws is at
     (λ s. let b = until-bound config.ack_ms config events s in omega arith) before in
     waits-same ref until (max e.moment (now (places config events)))
-    (λ s. if list_any (same_returned s) (returned (place_of config (places config events) e)) then max e.moment (now (places config events)) + config.ack_ms else until_of config.ack_ms (places config events) s)
+    (λ s. if list_any (same_returned s) (returned_references (place_of config (places config events) e)) then max e.moment (now (places config events)) + config.ack_ms else until_of config.ack_ms (places config events) s)
     (until_of config.ack_ms (place_of config (places config events) e ∷ places config events))
-    (listed_all ref until make config.ack_ms (max e.moment (now (places config events))) (returned (place_of config (places config events) e)) ws)
+    (listed_all ref until make config.ack_ms (max e.moment (now (places config events))) (returned_references (place_of config (places config events) e)) ws)
     (λ s. sym (until-push config.ack_ms (place_of config (places config events) e) (places config events) s (numbered-place config events e)
     ∙ ap (λ b. if returns s (place_of config (places config events) e) then (place_of config (places config events) e).moment + config.ack_ms else if b then 0 else until_of config.ack_ms (places config events) s) (other s.uid)
     ∙ ap (λ n. if returns s (place_of config (places config events) e) then n + config.ack_ms else until_of config.ack_ms (places config events) s) (moment-place_of config (places config events) e)))
@@ -255,7 +254,7 @@ waits-push-ack ref until config events e u ws asked w =
     silent s = ap (λ a. list_any (same_returned s) (flat_map (λ v. map (λ o. record { object = o; uid = v }) (place_of config (places config events) e).returned_here) (option_to_list (return_uid a)))) ask
 
     uid-turned : (a b : Uid) → same_uid a b ≡ same_uid b a
-    uid-turned a b = turned (record { equal = same_uid-equal; self = same_uid-self }) a b
+    uid-turned a b = same-turned (record { equal = same_uid-equal; self = same_uid-self }) a b
 
     acks : (s : Returned) → is_ack_of s.uid (place_of config (places config events) e).event.ask ≡ same_uid s.uid u
     acks s = ap (is_ack_of s.uid) ask ∙ uid-turned u s.uid

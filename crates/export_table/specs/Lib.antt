@@ -1,7 +1,7 @@
-pub mod Rows
+pub mod ExportRows
 pub mod Table
 pub mod Waits
 pub mod Slots
-pub mod Stands
-pub mod Index
+pub mod StandsForHistory
+pub mod WaitIndex
 pub mod WaitTable

@@ -6,7 +6,7 @@ use Rattle.export_table.specs.declared.rows.Export.{Export}
 use Rattle.export_table.specs.declared.slots.Slot.{Slot}
 use Rattle.export_table.specs.declared.slots.Standing.{Standing}
 use Rattle.export_table.specs.declared.slots.Standing.TheVariants.{Here, Leaving, Gap}
-use Rattle.export_table.specs.Rows.{is_of, ids, is_rising}
+use Rattle.export_table.specs.ExportRows.{is_of, ids, is_rising}
 
 -- ---- how a slot stands
 
@@ -56,20 +56,20 @@ abbrev pub slot_of : Export → Slot
 slot_of x = record { row = x; standing = Here }
 
 -- The slot with a change to its row, if it is the object's.
-abbrev pub altered : (Export → Export) → ObjId → Slot → Slot
-altered f o s = if is_of o s.row then record s { row = f s.row } else s
+abbrev pub with_slot_changed : (Export → Export) → ObjId → Slot → Slot
+with_slot_changed f o s = if is_of o s.row then record s { row = f s.row } else s
 
 -- Its object is about to go.
-abbrev pub going : Slot → Slot
-going s = record s { standing = Leaving }
+abbrev pub as_leaving : Slot → Slot
+as_leaving s = record s { standing = Leaving }
 
 -- Its object is about to go, unless the row is to stay.
-abbrev pub marked : (Export → Bool) → Slot → Slot
-marked keeps s = if is_here s && not (keeps s.row) then going s else s
+abbrev pub as_marked : (Export → Bool) → Slot → Slot
+as_marked keeps s = if is_here s && not (keeps s.row) then as_leaving s else s
 
 -- The slot once its object went, if it was about to.
-abbrev pub swept : Slot → Slot
-swept s = if is_leaving s then record s { standing = Gap } else s
+abbrev pub as_swept : Slot → Slot
+as_swept s = if is_leaving s then record s { standing = Gap } else s
 
 -- An exported object has the slot at this place.
 pub record IsSlotOf (slots : List Slot) (o : ObjId) (i : ℕ) : Type 0 where
@@ -80,7 +80,7 @@ pub record IsSlotOf (slots : List Slot) (o : ObjId) (i : ℕ) : Type 0 where
 -- In the second list some objects are about to go that were exported in the first one, and nothing else differs.
 abbrev pub AreMarked : List Slot → List Slot → Type 0
 AreMarked [] after = after ≡ []
-AreMarked (s ∷ before) after = (t : Slot) × (rest : List Slot) × (after ≡ t ∷ rest) × ((t ≡ s) ⊎ ((is_here s ≡ true) × (t ≡ going s))) × AreMarked before rest
+AreMarked (s ∷ before) after = (t : Slot) × (rest : List Slot) × (after ≡ t ∷ rest) × ((t ≡ s) ⊎ ((is_here s ≡ true) × (t ≡ as_leaving s))) × AreMarked before rest
 
 -- None of these is about to go.
 abbrev pub none_leaving : List Slot → Type 0

@@ -2,10 +2,10 @@
 use Rattle.std.specs.Prelude.{ℕ, ◌≤◌, IsTrue, List, length}
 use Rattle.std.specs.List.{list_all}
 use Rattle.object_ids.specs.declared.ids.Uid.{Uid}
-use Rattle.history.specs.declared.limits.TheConstants.{MAX_EXPORTS, MAX_AWAITING, END_OF_NUMBERS, MAX_DURATION}
+use Rattle.history.specs.declared.limits.TheConstants.{MAX_EXPORTS, MAX_AWAITING, END_OF_OBJECT_COUNT, MAX_DURATION_MS}
 use Rattle.export_table.specs.declared.rows.Export.{Export}
 use Rattle.export_table.specs.declared.waits.Wait.{Wait}
-use Rattle.export_table.specs.Rows.{ids, is_rising, is_given}
+use Rattle.export_table.specs.ExportRows.{ids, is_rising, is_given}
 use Rattle.export_table.specs.Waits.{each_once}
 
 -- How many exports and waits can be added without memory.
@@ -30,8 +30,8 @@ pub record ExportTable : Type 0 where
 -- them and in their order, and there are no more entries than can be, each once.
 pub record IsSound (space : Uid) (ack added : ℕ) (rows : List Export) (waits : List Wait) : Type 0 where
   pub some : 1 ≤ ack
-  pub short : ack ≤ MAX_DURATION
-  pub countable : added ≤ END_OF_NUMBERS
+  pub short : ack ≤ MAX_DURATION_MS
+  pub countable : added ≤ END_OF_OBJECT_COUNT
   pub rising : IsTrue (is_rising (ids rows))
   pub given : IsTrue (list_all (is_given space added) (ids rows))
   pub few : length rows ≤ MAX_EXPORTS

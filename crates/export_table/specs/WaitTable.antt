@@ -7,7 +7,7 @@ use Rattle.object_ids.specs.declared.ids.Uid.{Uid}
 use Rattle.export_table.specs.declared.counts.Reference.{Reference}
 use Rattle.export_table.specs.declared.waits.Wait.{Wait}
 use Rattle.export_table.specs.Waits.{each_once}
-use Rattle.export_table.specs.Index.{IsIndexOf, EndsNoEarlier, EndsRise}
+use Rattle.export_table.specs.WaitIndex.{IsIndexOf, EndsNoEarlier, EndsRise}
 
 -- The references that await, the last listed last, and how many more can be listed without memory.
 pub record WaitTable : Type 0 where

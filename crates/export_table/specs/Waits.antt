@@ -15,8 +15,8 @@ abbrev pub goes_on : ℕ → Wait → Bool
 goes_on t w = nat_lt t w.until
 
 -- Those that wait at the moment t.
-abbrev pub waiting : ℕ → List Wait → List Wait
-waiting t waits = filter (goes_on t) waits
+abbrev pub still_waiting : ℕ → List Wait → List Wait
+still_waiting t waits = filter (goes_on t) waits
 
 -- This object and return wait at the moment t.
 abbrev pub is_waiting : ℕ → ObjId → Uid → List Wait → Bool
@@ -36,23 +36,23 @@ end_of_wait o u waits = unwrap_or (option_map (λ w. w.until) (find (is_wait_of 
 
 -- The waits once an object is listed in a return at the moment t, the last listed last: it waits for `ack` from t on, and no shorter than
 -- it did before. Those that ended are gone.
-abbrev pub listed : ℕ → ℕ → ObjId → Uid → List Wait → List Wait
-listed ack t o u waits =
-    filter (λ w. not (is_wait_of o u w)) (waiting t waits)
+abbrev pub with_listed : ℕ → ℕ → ObjId → Uid → List Wait → List Wait
+with_listed ack t o u waits =
+    filter (λ w. not (is_wait_of o u w)) (still_waiting t waits)
     ++ record { object = o; uid = u; until = max (t + ack) (end_of_wait o u waits) } ∷ []
 
 -- The waits once objects are listed in a return at the moment t, one after another.
-abbrev pub listed_each : ℕ → ℕ → Uid → List ObjId → List Wait → List Wait
-listed_each ack t uid [] waits = waits
-listed_each ack t uid (o ∷ os) waits = listed_each ack t uid os (listed ack t o uid waits)
+abbrev pub with_each_listed : ℕ → ℕ → Uid → List ObjId → List Wait → List Wait
+with_each_listed ack t uid [] waits = waits
+with_each_listed ack t uid (o ∷ os) waits = with_each_listed ack t uid os (with_listed ack t o uid waits)
 
 -- The waits once a return is acknowledged.
-abbrev pub acknowledged : Uid → List Wait → List Wait
-acknowledged u waits = filter (λ w. not (same_uid w.uid u)) waits
+abbrev pub without_acknowledged : Uid → List Wait → List Wait
+without_acknowledged u waits = filter (λ w. not (same_uid w.uid u)) waits
 
 -- Those that have ended at the moment t, and those of a return.
-abbrev pub over : ℕ → List Wait → List Wait
-over t waits = filter (λ w. not (goes_on t w)) waits
+abbrev pub ended_waits : ℕ → List Wait → List Wait
+ended_waits t waits = filter (λ w. not (goes_on t w)) waits
 
 abbrev pub of_return : Uid → List Wait → List Wait
 of_return u waits = filter (λ w. same_uid w.uid u) waits

@@ -5,8 +5,8 @@ ghost use Rattle.indexmap.specs.IndexSet.{spare as places};
 ghost use Rattle.object_ids.specs.declared.ids.ObjId.{ObjId};
 ghost use Rattle.object_ids.specs.declared.ids.Uid.{Uid};
 ghost use Rattle.object_ids.specs.Same.{same_id};
-ghost use Rattle.dgc_server.specs.Index.{one_if};
-ghost use Rattle.export_table.specs.Index.{count_at, has_reference, is_reference};
+ghost use Rattle.dgc_server.specs.HolderIndex.{one_if};
+ghost use Rattle.export_table.specs.WaitIndex.{count_at, has_reference, is_reference};
 
 use indexmap::{IndexMap, IndexSet};
 use object_ids::{ObjId, Uid};

@@ -1,13 +1,13 @@
 //! The export table.
 ghost use Rattle.std.specs.Prelude.{◌≡◌, ◌≢◌, ◌⊎◌, ◌<◌, ◌≤◌, ◌+◌, ◌^◌, ◌↔◌, ◌++◌, ◌∷◌, [], false, max, length, map, filter, not, IsTrue, OnOk, OnErr, IfOk, IfErr, vec_len, vec_capacity};
-ghost use Rattle.history.specs.declared.limits.TheConstants.{MAX_EXPORTS, MAX_AWAITING, END_OF_NUMBERS, END_OF_TIME, MAX_DURATION};
+ghost use Rattle.history.specs.declared.limits.TheConstants.{MAX_EXPORTS, MAX_AWAITING, END_OF_OBJECT_COUNT, END_OF_TIME, MAX_DURATION_MS};
 ghost use Rattle.history.specs.Places.{id_at};
 ghost use Rattle.object_ids.specs.declared.ids.FullKind.TheVariants.{Exports as FullExports, Awaiting as FullAwaiting};
 ghost use Rattle.dgc_server.specs.Counts.{without_all};
-ghost use Rattle.dgc_server.specs.Stands.{StandsFor, ForEachLog};
-ghost use Rattle.export_table.specs.Waits.{waiting, goes_on, over, of_return, objects, is_waiting, listed, acknowledged};
+ghost use Rattle.dgc_server.specs.StandsForCalls.{StandsFor, ForEachLog};
+ghost use Rattle.export_table.specs.Waits.{still_waiting, goes_on, ended_waits, of_return, objects, is_waiting, with_listed, without_acknowledged};
 ghost use Rattle.std.specs.List.{list_any};
-ghost use Rattle.export_table.specs.Rows.{is_exported, kind_of, running_of, pins_of, ids, new_row, changed, begun, ended, pinned_once, unpinned_once, is_row_kept, held_by, withdrawn, stays_among, row_at};
+ghost use Rattle.export_table.specs.ExportRows.{is_exported, kind_of, running_of, pins_of, ids, new_row, with_row_changed, with_call_begun, with_call_ended, pinned_once, unpinned_once, is_row_kept, held_by, withdrawn_ids, stays_among, row_at};
 ghost use Rattle.export_table.specs.Table.{IsSound, no_room};
 
 use crate::row_table::RowTable;
@@ -15,7 +15,7 @@ use crate::rows::{self, Export, RowList};
 use crate::wait_list::WaitList;
 use dgc_server::Leases;
 use history::limits::{MAX_AWAITING, MAX_EXPORTS};
-use history::plain::places::id_at;
+use history::places::id_at;
 use object_ids::{FullKind, ObjId, Uid};
 use std::alloc::{AllocError, Global};
 use std::fmt;
@@ -96,7 +96,7 @@ impl Exports {
     /// `ack_ms` milliseconds.
     pub fn fresh(alloc: Global, uid: Uid, ack_ms: u64) -> Exports
         requires some { 1 ≤ ack_ms }
-        requires short { ack_ms ≤ MAX_DURATION }
+        requires short { ack_ms ≤ MAX_DURATION_MS }
         ensures { result ≡ record { space = uid; ack = ack_ms; added = 0; rows = []; waits = []; room = no_room } }
     {
         Exports {
@@ -110,7 +110,7 @@ impl Exports {
     /// Adds an object of this kind. The k-th addition of a table, from 0, has the number 16 + k, also where earlier
     /// objects were withdrawn. Full(Exports) comes exactly where 65,536 objects are exported; after a refusal all is as it was.
     pub fn add(&mut self, kind: u32, pinned: bool) -> Result<ObjId, ExportFault>
-        requires { self.old.added < END_OF_NUMBERS }
+        requires { self.old.added < END_OF_OBJECT_COUNT }
         ensures id { IfOk result (λ id. id ≡ id_at self.old.space self.old.added) }
         ensures ok { OnOk result (let rows = self.old.rows ++ new_row (id_at self.old.space self.old.added) kind pinned ∷ [] in
             self.new ≡ record self.old { added = self.old.added + 1; rows = rows; room = self.new.room }) }
@@ -127,7 +127,7 @@ impl Exports {
             return Err(ExportFault::Full(FullKind::Exports));
         }
         self.rows.reserve(1)?;
-        let id = id_at(self.space, self.rows.added());
+        let id = id_at(self.space, self.rows.added_count());
         self.rows.put(Export::new(&id, kind, pinned));
         Ok(id)
     }
@@ -152,8 +152,8 @@ impl Exports {
     }
 
     /// How many references await their acknowledgement at this moment.
-    pub fn waiting(&self, now: u64) -> u32
-        ensures { result ≡ length (waiting now self.now.waits) }
+    pub fn waiting_count(&self, now: u64) -> u32
+        ensures { result ≡ length (still_waiting now self.now.waits) }
     {
         self.waits.count(now) as u32
     }
@@ -173,10 +173,10 @@ impl Exports {
     }
 
     /// The objects of the references whose waits have ended at this moment.
-    pub fn ended(&self, alloc: Global, now: u64) -> Result<Vec<ObjId>, AllocError>
-        ensures { IfOk result (λ os. os.items ≡ objects (over now self.now.waits)) }
+    pub fn ended_objects(&self, alloc: Global, now: u64) -> Result<Vec<ObjId>, AllocError>
+        ensures { IfOk result (λ os. os.items ≡ objects (ended_waits now self.now.waits)) }
     {
-        self.waits.ended(alloc, now)
+        self.waits.ended_objects(alloc, now)
     }
 
     /// The objects of the references in a return that await their acknowledgement.
@@ -206,7 +206,7 @@ impl Exports {
     pub fn begin(&mut self, id: ObjId) -> bool
         requires { running_of self.old.rows id < 2 ^ 31 }
         ensures value { result ≡ is_exported self.old.rows id }
-        ensures begun { self.new ≡ record self.old { rows = changed begun id self.old.rows } }
+        ensures begun { self.new ≡ record self.old { rows = with_row_changed with_call_begun id self.old.rows } }
         ensures absent { result ≡ false → self.new ≡ self.old }
     {
         self.rows.begin(&id)
@@ -215,7 +215,7 @@ impl Exports {
     /// Ends a call of an object.
     pub fn end(&mut self, id: ObjId)
         requires { 0 < running_of self.old.rows id }
-        ensures { self.new ≡ record self.old { rows = changed ended id self.old.rows } }
+        ensures { self.new ≡ record self.old { rows = with_row_changed with_call_ended id self.old.rows } }
     {
         self.rows.end(&id);
     }
@@ -226,10 +226,10 @@ impl Exports {
     pub fn wait_for(&mut self, id: ObjId, uid: Uid, now: u64) -> Result<(), ExportFault>
         requires exported { IsTrue (is_exported self.old.rows id) }
         requires early { now < END_OF_TIME }
-        ensures ok { OnOk result (let waits = listed self.old.ack now id uid self.old.waits in
+        ensures ok { OnOk result (let waits = with_listed self.old.ack now id uid self.old.waits in
             self.new ≡ record self.old { waits = waits; room = self.new.room }) }
         ensures full { (result ≡ Err (ExportFault.Full FullAwaiting))
-            ↔ ((MAX_AWAITING ≤ length (waiting now self.old.waits)) × (is_waiting now id uid self.old.waits ≡ false)) }
+            ↔ ((MAX_AWAITING ≤ length (still_waiting now self.old.waits)) × (is_waiting now id uid self.old.waits ≡ false)) }
         ensures memory { 0 < self.old.room.waits → result ≢ Err ExportFault.OutOfMemory }
         ensures faults { IfErr result (λ fault. (fault ≡ ExportFault.Full FullAwaiting) ⊎ (fault ≡ ExportFault.OutOfMemory)) }
         ensures err { OnErr result (self.new ≡ self.old) }
@@ -248,7 +248,7 @@ impl Exports {
 
     /// Notes the acknowledgement of a return: none of its references awaits any more.
     pub fn ack(&mut self, uid: Uid)
-        ensures value { let waits = acknowledged uid self.old.waits in
+        ensures value { let waits = without_acknowledged uid self.old.waits in
             self.new ≡ record self.old { waits = waits; room = self.new.room } }
         ensures exports_room { self.new.room.exports ≡ self.old.room.exports }
         ensures waits_room { self.old.room.waits ≤ self.new.room.waits }
@@ -260,7 +260,7 @@ impl Exports {
     pub fn pin(&mut self, id: ObjId)
         requires exported { IsTrue (is_exported self.old.rows id) }
         requires few { pins_of self.old.rows id < 2 ^ 31 }
-        ensures { self.new ≡ record self.old { rows = changed pinned_once id self.old.rows } }
+        ensures { self.new ≡ record self.old { rows = with_row_changed pinned_once id self.old.rows } }
     {
         self.rows.pin(&id);
     }
@@ -269,7 +269,7 @@ impl Exports {
     pub fn unpin(&mut self, id: ObjId)
         requires exported { IsTrue (is_exported self.old.rows id) }
         requires stands { 0 < pins_of self.old.rows id }
-        ensures { self.new ≡ record self.old { rows = changed unpinned_once id self.old.rows } }
+        ensures { self.new ≡ record self.old { rows = with_row_changed unpinned_once id self.old.rows } }
     {
         self.rows.unpin(&id);
     }
@@ -282,14 +282,14 @@ impl Exports {
         ensures kept { ForEachLog leases.old (λ lease moment calls.
             let held = held_by lease (max now moment) calls in
             let rows = filter (is_row_kept now held self.old.waits) self.old.rows in
-            let waits = waiting now self.old.waits in
+            let waits = still_waiting now self.old.waits in
             self.new ≡ record self.old { rows = rows; waits = waits; room = self.new.room }) }
         ensures gone { ForEachLog leases.old (λ lease moment calls.
             let held = held_by lease (max now moment) calls in
-            gone.new.items ≡ gone.old.items ++ withdrawn now held self.old.waits self.old.rows) }
+            gone.new.items ≡ gone.old.items ++ withdrawn_ids now held self.old.waits self.old.rows) }
         ensures dropped { ForEachLog leases.old (λ lease moment calls.
             let held = held_by lease (max now moment) calls in
-            let dropped = withdrawn now held self.old.waits self.old.rows in
+            let dropped = withdrawn_ids now held self.old.waits self.old.rows in
             StandsFor lease leases.new moment (map (without_all dropped) calls)) }
         ensures exports_room { self.old.room.exports ≤ self.new.room.exports }
         ensures waits_room { self.old.room.waits ≤ self.new.room.waits }
@@ -313,7 +313,7 @@ impl Exports {
         ensures kept { ForEachLog leases.old (λ lease moment calls.
             let held = held_by lease (max now moment) calls in
             let rows = filter (stays_among doubtful.now now held self.old.waits) self.old.rows in
-            let waits = waiting now self.old.waits in
+            let waits = still_waiting now self.old.waits in
             self.new ≡ record self.old { rows = rows; waits = waits; room = self.new.room }) }
         ensures gone { ForEachLog leases.old (λ lease moment calls.
             let held = held_by lease (max now moment) calls in

@@ -4,7 +4,7 @@ ghost use Rattle.indexmap.specs.IndexMap.{spare};
 ghost use Rattle.indexmap.specs.IndexSet.{spare as places};
 ghost use Rattle.export_table.specs.declared.waits.Wait.{Wait};
 ghost use Rattle.export_table.specs.Waits.{each_once};
-ghost use Rattle.export_table.specs.Index.{count_at, returned_at, stays, IsIndexOf};
+ghost use Rattle.export_table.specs.WaitIndex.{count_at, returned_at, stays, IsIndexOf};
 
 use crate::counts::{self, Counts, References};
 use crate::returns::{self, Returns};

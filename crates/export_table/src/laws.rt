@@ -1,6 +1,6 @@
 //! Laws of export tables: that what their calls do to waits and rows is what an event does to a history. Each function does nothing, and its
 //! contract is the law.
-ghost use Rattle.export_table.specs.Stands.{NoneAwaits, WaitingAwaits, WaitingStands, ReturnLists, AckEnds, OthersLeaveWaits, RowsCount, BeginCounts, EndCounts, OthersLeaveRows, BindPins, RebindPins, UnbindUnpins, ExportsAreAdded, ExportsAreCounted, RowsAreKept};
+ghost use Rattle.export_table.specs.StandsForHistory.{NoneAwaits, WaitingAwaits, WaitingStands, ReturnLists, AckEnds, OthersLeaveWaits, RowsCount, BeginCounts, EndCounts, OthersLeaveRows, BindPins, RebindPins, UnbindUnpins, ExportsAreAdded, ExportsAreCounted, RowsAreKept};
 
 /// The waits that calls of a table leave stand for the references of a history that await their acknowledgement: where nothing was returned
 /// none wait; a return lists its references (`wait_for`), an acknowledgement ends the waits of its return (`ack`), and as time passes those that

@@ -3,8 +3,8 @@ ghost use Rattle.std.specs.Prelude.{◌≡◌, ◌+◌, ◌<◌, ◌≤◌, ◌^
 ghost use Rattle.indexmap.specs.IndexMap.{spare};
 ghost use Rattle.object_ids.specs.declared.ids.Uid.{Uid};
 ghost use Rattle.object_ids.specs.Same.{same_uid};
-ghost use Rattle.dgc_server.specs.Index.{one_if};
-ghost use Rattle.export_table.specs.Index.{returned_at};
+ghost use Rattle.dgc_server.specs.HolderIndex.{one_if};
+ghost use Rattle.export_table.specs.WaitIndex.{returned_at};
 
 use indexmap::IndexMap;
 use object_ids::Uid;

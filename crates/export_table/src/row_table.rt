@@ -1,8 +1,8 @@
 //! The table of exported objects, by rising number.
 ghost use Rattle.std.specs.Prelude.{◌≡◌, ◌++◌, ◌∷◌, [], ◌+◌, ◌<◌, ◌≤◌, ◌^◌, pos, max, length, map, filter, not, IsOk, IfOk, OnOk, OnErr, vec_len, vec_capacity};
-ghost use Rattle.history.specs.declared.limits.TheConstants.{END_OF_NUMBERS, MAX_AWAITING};
-ghost use Rattle.dgc_server.specs.Stands.{ForEachLog};
-ghost use Rattle.export_table.specs.Rows.{is_exported, kind_of, running_of, pins_of, ids, changed, begun, ended, pinned_once, unpinned_once, is_row_kept, stays_among, held_by, row_at, IsPart};
+ghost use Rattle.history.specs.declared.limits.TheConstants.{END_OF_OBJECT_COUNT, MAX_AWAITING};
+ghost use Rattle.dgc_server.specs.StandsForCalls.{ForEachLog};
+ghost use Rattle.export_table.specs.ExportRows.{is_exported, kind_of, running_of, pins_of, ids, with_row_changed, with_call_begun, with_call_ended, pinned_once, unpinned_once, is_row_kept, stays_among, held_by, row_at, IsPart};
 
 use crate::rows::{Export, RowList};
 use crate::slots::{self, Slot};
@@ -65,7 +65,7 @@ impl RowTable {
     }
 
     /// How many objects were ever added.
-    pub fn added(&self) -> u64
+    pub fn added_count(&self) -> u64
         ensures { result ≡ self.now.added }
     {
         self.added
@@ -86,7 +86,7 @@ impl RowTable {
     pub fn put(&mut self, row: Export)
         requires room { 0 < self.old.room }
         requires number { row.id.number ≡ pos (16 + self.old.added) }
-        requires early { self.old.added < END_OF_NUMBERS }
+        requires early { self.old.added < END_OF_OBJECT_COUNT }
         ensures rows { let rows = self.old.rows ++ row ∷ [] in
             self.new ≡ record self.old { rows = rows; added = self.old.added + 1; room = self.new.room } }
         ensures room { self.new.room + 1 ≡ self.old.room }
@@ -109,7 +109,7 @@ impl RowTable {
     pub fn begin(&mut self, id: &ObjId) -> bool
         requires { running_of self.old.rows id.now < 2 ^ 31 }
         ensures value { result ≡ is_exported self.old.rows id.now }
-        ensures rows { self.new ≡ record self.old { rows = changed begun id.now self.old.rows } }
+        ensures rows { self.new ≡ record self.old { rows = with_row_changed with_call_begun id.now self.old.rows } }
     {
         slots::begin(&mut self.slots, id)
     }
@@ -117,7 +117,7 @@ impl RowTable {
     /// Ends a call of an object.
     pub fn end(&mut self, id: &ObjId)
         requires { 0 < running_of self.old.rows id.now }
-        ensures { self.new ≡ record self.old { rows = changed ended id.now self.old.rows } }
+        ensures { self.new ≡ record self.old { rows = with_row_changed with_call_ended id.now self.old.rows } }
     {
         slots::end(&mut self.slots, id);
     }
@@ -125,7 +125,7 @@ impl RowTable {
     /// Pins an object once more.
     pub fn pin(&mut self, id: &ObjId)
         requires { pins_of self.old.rows id.now < 2 ^ 31 }
-        ensures { self.new ≡ record self.old { rows = changed pinned_once id.now self.old.rows } }
+        ensures { self.new ≡ record self.old { rows = with_row_changed pinned_once id.now self.old.rows } }
     {
         slots::pin(&mut self.slots, id);
     }
@@ -133,7 +133,7 @@ impl RowTable {
     /// Takes a pin off an object.
     pub fn unpin(&mut self, id: &ObjId)
         requires { 0 < pins_of self.old.rows id.now }
-        ensures { self.new ≡ record self.old { rows = changed unpinned_once id.now self.old.rows } }
+        ensures { self.new ≡ record self.old { rows = with_row_changed unpinned_once id.now self.old.rows } }
     {
         slots::unpin(&mut self.slots, id);
     }

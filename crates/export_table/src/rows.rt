@@ -1,8 +1,8 @@
 //! Exported objects, by rising number.
 ghost use Rattle.std.specs.Prelude.{◌≡◌, ◌++◌, ◌+◌, ◌≤◌, max, length, filter, not, vec_len, vec_capacity, int_lt};
-ghost use Rattle.dgc_server.specs.Stands.{ForEachLog};
-ghost use Rattle.export_table.specs.Rows.{is_of, ids, IsPart, new_row, is_pinned, is_row_kept, stays_among, held_by, withdrawn};
-ghost use Rattle.export_table.specs.Waits.{waiting};
+ghost use Rattle.dgc_server.specs.StandsForCalls.{ForEachLog};
+ghost use Rattle.export_table.specs.ExportRows.{is_of, ids, IsPart, new_row, is_pinned, is_row_kept, stays_among, held_by, withdrawn_ids};
+ghost use Rattle.export_table.specs.Waits.{still_waiting};
 
 use crate::row_table::RowTable;
 use crate::wait_list::WaitList;
@@ -105,13 +105,13 @@ pub fn sift(
         rows.new.rows ≡ filter (is_row_kept now held waits.old.waits) rows.old.rows) }
     ensures gone { ForEachLog leases.now (λ lease moment calls.
         let held = held_by lease (max now moment) calls in
-        gone.new.items ≡ gone.old.items ++ withdrawn now held waits.old.waits rows.old.rows) }
+        gone.new.items ≡ gone.old.items ++ withdrawn_ids now held waits.old.waits rows.old.rows) }
     ensures part { IsPart rows.new.rows rows.old.rows }
     ensures rest { rows.new ≡ record rows.old { rows = rows.new.rows; room = rows.new.room } }
     ensures room { rows.old.room ≤ rows.new.room }
     ensures longer { vec_len gone.old ≤ vec_len gone.new }
     ensures more { vec_capacity gone.old ≤ vec_capacity gone.new }
-    ensures waits { waits.new.waits ≡ waiting now waits.old.waits }
+    ensures waits { waits.new.waits ≡ still_waiting now waits.old.waits }
     ensures waits_room { waits.new.room ≡ waits.old.room }
 {
     waits.forget(now);
@@ -141,7 +141,7 @@ pub fn sift_among(
     ensures room { rows.old.room ≤ rows.new.room }
     ensures longer { vec_len gone.old ≤ vec_len gone.new }
     ensures more { vec_capacity gone.old ≤ vec_capacity gone.new }
-    ensures waits { waits.new.waits ≡ waiting now waits.old.waits }
+    ensures waits { waits.new.waits ≡ still_waiting now waits.old.waits }
     ensures waits_room { waits.new.room ≡ waits.old.room }
 {
     waits.forget(now);

@@ -2,9 +2,9 @@
 ghost use Rattle.std.specs.Prelude.{◌≡◌, ◌++◌, ◌∷◌, [], ◌^◌, ℕ, ◌⊎◌, ◌+◌, ◌<◌, ◌≤◌, max, length, map, filter, not, true, false, IsTrue, IfOk, OnOk, MatchOption, int_lt, take, drop, vec_len, vec_capacity};
 ghost use Rattle.std.specs.List.{list_all};
 ghost use Rattle.history.specs.declared.limits.TheConstants.{MAX_AWAITING};
-ghost use Rattle.dgc_server.specs.Stands.{ForEachLog};
-ghost use Rattle.export_table.specs.Rows.{is_exported, running_of, pins_of, ids, is_rising, changed, begun, ended, pinned_once, unpinned_once, is_row_kept, stays_among, held_by, row_at};
-ghost use Rattle.export_table.specs.Slots.{is_here, is_leaving, all_rows, rows_here, rows_leaving, slot_of, going, marked, swept, none_leaving, AreMarked, AreSlots, IsSlotOf};
+ghost use Rattle.dgc_server.specs.StandsForCalls.{ForEachLog};
+ghost use Rattle.export_table.specs.ExportRows.{is_exported, running_of, pins_of, ids, is_rising, with_row_changed, with_call_begun, with_call_ended, pinned_once, unpinned_once, is_row_kept, stays_among, held_by, row_at};
+ghost use Rattle.export_table.specs.Slots.{is_here, is_leaving, all_rows, rows_here, rows_leaving, slot_of, as_leaving, as_marked, as_swept, none_leaving, AreMarked, AreSlots, IsSlotOf};
 
 use crate::rows::{Export, ExportRow, RowList};
 use crate::wait_list::WaitList;
@@ -78,8 +78,8 @@ impl Slot {
     fn mark(&mut self, waits: &WaitList, leases: &Leases, now: u64)
         ensures marks { ForEachLog leases.now (λ lease moment calls.
             let held = held_by lease (max now moment) calls in
-            self.new ≡ marked (is_row_kept now held waits.now.waits) self.old) }
-        ensures any { (self.new ≡ self.old) ⊎ ((is_here self.old ≡ true) × (self.new ≡ going self.old)) }
+            self.new ≡ as_marked (is_row_kept now held waits.now.waits) self.old) }
+        ensures any { (self.new ≡ self.old) ⊎ ((is_here self.old ≡ true) × (self.new ≡ as_leaving self.old)) }
     {
         if !self.is_here() {
             return;
@@ -150,7 +150,7 @@ pub fn begin(slots: &mut Vec<Slot>, id: &ObjId) -> bool
     requires rising { IsTrue (is_rising (ids (all_rows slots.old.items))) }
     requires few { running_of (rows_here slots.old.items) id.now < 2 ^ 31 }
     ensures value { result ≡ is_exported (rows_here slots.old.items) id.now }
-    ensures rows { rows_here slots.new.items ≡ changed begun id.now (rows_here slots.old.items) }
+    ensures rows { rows_here slots.new.items ≡ with_row_changed with_call_begun id.now (rows_here slots.old.items) }
     ensures slots { (added gaps : ℕ) → AreSlots slots.old.items added gaps → AreSlots slots.new.items added gaps }
     ensures len { vec_len slots.new ≡ vec_len slots.old }
     ensures capacity { vec_capacity slots.new ≡ vec_capacity slots.old }
@@ -168,7 +168,7 @@ pub fn begin(slots: &mut Vec<Slot>, id: &ObjId) -> bool
 pub fn end(slots: &mut Vec<Slot>, id: &ObjId)
     requires rising { IsTrue (is_rising (ids (all_rows slots.old.items))) }
     requires runs { 0 < running_of (rows_here slots.old.items) id.now }
-    ensures rows { rows_here slots.new.items ≡ changed ended id.now (rows_here slots.old.items) }
+    ensures rows { rows_here slots.new.items ≡ with_row_changed with_call_ended id.now (rows_here slots.old.items) }
     ensures slots { (added gaps : ℕ) → AreSlots slots.old.items added gaps → AreSlots slots.new.items added gaps }
     ensures len { vec_len slots.new ≡ vec_len slots.old }
     ensures capacity { vec_capacity slots.new ≡ vec_capacity slots.old }
@@ -183,7 +183,7 @@ pub fn end(slots: &mut Vec<Slot>, id: &ObjId)
 pub fn pin(slots: &mut Vec<Slot>, id: &ObjId)
     requires rising { IsTrue (is_rising (ids (all_rows slots.old.items))) }
     requires few { pins_of (rows_here slots.old.items) id.now < 2 ^ 31 }
-    ensures rows { rows_here slots.new.items ≡ changed pinned_once id.now (rows_here slots.old.items) }
+    ensures rows { rows_here slots.new.items ≡ with_row_changed pinned_once id.now (rows_here slots.old.items) }
     ensures slots { (added gaps : ℕ) → AreSlots slots.old.items added gaps → AreSlots slots.new.items added gaps }
     ensures len { vec_len slots.new ≡ vec_len slots.old }
     ensures capacity { vec_capacity slots.new ≡ vec_capacity slots.old }
@@ -198,7 +198,7 @@ pub fn pin(slots: &mut Vec<Slot>, id: &ObjId)
 pub fn unpin(slots: &mut Vec<Slot>, id: &ObjId)
     requires rising { IsTrue (is_rising (ids (all_rows slots.old.items))) }
     requires stands { 0 < pins_of (rows_here slots.old.items) id.now }
-    ensures rows { rows_here slots.new.items ≡ changed unpinned_once id.now (rows_here slots.old.items) }
+    ensures rows { rows_here slots.new.items ≡ with_row_changed unpinned_once id.now (rows_here slots.old.items) }
     ensures slots { (added gaps : ℕ) → AreSlots slots.old.items added gaps → AreSlots slots.new.items added gaps }
     ensures len { vec_len slots.new ≡ vec_len slots.old }
     ensures capacity { vec_capacity slots.new ≡ vec_capacity slots.old }
@@ -267,7 +267,7 @@ fn show(list: &mut RowList, slot: &Slot, waits: &WaitList, now: u64) -> Result<(
 pub fn mark_all(slots: &mut Vec<Slot>, waits: &WaitList, leases: &Leases, now: u64)
     ensures marks { ForEachLog leases.now (λ lease moment calls.
         let held = held_by lease (max now moment) calls in
-        slots.new.items ≡ map (marked (is_row_kept now held waits.now.waits)) slots.old.items) }
+        slots.new.items ≡ map (as_marked (is_row_kept now held waits.now.waits)) slots.old.items) }
     ensures any { AreMarked slots.old.items slots.new.items }
     ensures len { vec_len slots.new ≡ vec_len slots.old }
     ensures capacity { vec_capacity slots.new ≡ vec_capacity slots.old }
@@ -290,7 +290,7 @@ pub fn mark_among(
     requires settled { none_leaving slots.old.items }
     ensures marks { ForEachLog leases.now (λ lease moment calls.
         let held = held_by lease (max now moment) calls in
-        slots.new.items ≡ map (marked (stays_among objects.now now held waits.now.waits)) slots.old.items) }
+        slots.new.items ≡ map (as_marked (stays_among objects.now now held waits.now.waits)) slots.old.items) }
     ensures any { AreMarked slots.old.items slots.new.items }
     ensures front { none_leaving (take result.first slots.new.items) }
     ensures back { none_leaving (drop result.upto slots.new.items) }
@@ -322,7 +322,7 @@ fn mark_one(
     requires within { span.old.upto ≤ length slots.old.items }
     ensures marks { ForEachLog leases.now (λ lease moment calls.
         let held = held_by lease (max now moment) calls in
-        slots.new.items ≡ map (marked (stays_among (object.now ∷ []) now held waits.now.waits)) slots.old.items) }
+        slots.new.items ≡ map (as_marked (stays_among (object.now ∷ []) now held waits.now.waits)) slots.old.items) }
     ensures any { AreMarked slots.old.items slots.new.items }
     ensures front { none_leaving (take span.old.first slots.old.items) → none_leaving (take span.new.first slots.new.items) }
     ensures back { none_leaving (drop span.old.upto slots.old.items) → none_leaving (drop span.new.upto slots.new.items) }
@@ -348,7 +348,7 @@ pub fn sweep(slots: &mut Vec<Slot>, first: usize, upto: usize, gone: &mut Vec<Ob
     requires back { none_leaving (drop upto slots.old.items) }
     requires within { upto ≤ length slots.old.items }
     requires room { vec_len gone.old + length (filter is_leaving slots.old.items) ≤ vec_capacity gone.old }
-    ensures slots { slots.new.items ≡ map swept slots.old.items }
+    ensures slots { slots.new.items ≡ map as_swept slots.old.items }
     ensures gone { gone.new.items ≡ gone.old.items ++ ids (rows_leaving slots.old.items) }
     ensures len { vec_len gone.new ≡ vec_len gone.old + length (filter is_leaving slots.old.items) }
     ensures capacity { vec_capacity gone.old ≤ vec_capacity gone.new }

@@ -2,8 +2,8 @@
 ghost use Rattle.std.specs.Prelude.{◌≡◌, ◌++◌, ◌∷◌, [], ◌+◌, ◌<◌, ◌≤◌, ◌^◌, length, filter, take, drop, not, false, IsTrue, IsOk, IfOk, OnOk, OnErr, ◌↔◌};
 ghost use Rattle.std.specs.List.{list_any};
 ghost use Rattle.history.specs.declared.limits.TheConstants.{MAX_AWAITING};
-ghost use Rattle.export_table.specs.Waits.{is_wait_of, goes_on, waiting, over, of_return, objects, is_waiting, is_awaited, awaiting_of, end_of_wait, listed, acknowledged};
-ghost use Rattle.export_table.specs.Index.{stays};
+ghost use Rattle.export_table.specs.Waits.{is_wait_of, goes_on, still_waiting, ended_waits, of_return, objects, is_waiting, is_awaited, awaiting_of, end_of_wait, with_listed, without_acknowledged};
+ghost use Rattle.export_table.specs.WaitIndex.{stays};
 
 use crate::counts::{Counts, References, count_of, has};
 use crate::index;
@@ -89,7 +89,7 @@ impl WaitList {
 
     /// How many references await at a moment.
     pub fn count(&self, time: u64) -> usize
-        ensures value { result ≡ length (waiting time self.now.waits) }
+        ensures value { result ≡ length (still_waiting time self.now.waits) }
         ensures within { result ≤ length self.now.waits }
     {
         self.queue.waits().len() - waits::count_over(self.queue.due(time), time)
@@ -121,7 +121,7 @@ impl WaitList {
 
     /// Whether as many references await at a moment as can be, and this one isn't among them.
     pub fn is_full(&self, object: &ObjId, uid: &Uid, time: u64) -> bool
-        ensures { IsTrue result ↔ ((MAX_AWAITING ≤ length (waiting time self.now.waits)) × (is_waiting time object.now uid.now self.now.waits ≡ false)) }
+        ensures { IsTrue result ↔ ((MAX_AWAITING ≤ length (still_waiting time self.now.waits)) × (is_waiting time object.now uid.now self.now.waits ≡ false)) }
     {
         self.count(time) as u64 >= MAX_AWAITING && !self.is_waiting(object, uid, time)
     }
@@ -144,7 +144,7 @@ impl WaitList {
         requires room { 0 < self.old.room }
         requires early { now + ack < 2 ^ 64 }
         requires few { length self.old.waits ≤ MAX_AWAITING }
-        ensures waits { self.new.waits ≡ listed ack now object.now uid.now self.old.waits }
+        ensures waits { self.new.waits ≡ with_listed ack now object.now uid.now self.old.waits }
         ensures room { self.new.room + 1 ≡ self.old.room }
     {
         let until = (now + ack).max(self.end_of_wait(object, uid));
@@ -160,7 +160,7 @@ impl WaitList {
 
     /// Forgets the waits that ended. Where none has, it looks at no wait; where the ends rise, at those that ended and at one more.
     pub fn forget(&mut self, now: u64)
-        ensures waits { self.new.waits ≡ waiting now self.old.waits }
+        ensures waits { self.new.waits ≡ still_waiting now self.old.waits }
         ensures room { self.new.room ≡ self.old.room }
     {
         let upto = self.queue.due(now).len();
@@ -184,8 +184,8 @@ impl WaitList {
     }
 
     /// The objects of the waits that have ended at a moment. Where none has, it looks at no wait; where the ends rise, at those and at one more.
-    pub fn ended(&self, alloc: Global, time: u64) -> Result<Vec<ObjId>, AllocError>
-        ensures { IfOk result (λ os. os.items ≡ objects (over time self.now.waits)) }
+    pub fn ended_objects(&self, alloc: Global, time: u64) -> Result<Vec<ObjId>, AllocError>
+        ensures { IfOk result (λ os. os.items ≡ objects (ended_waits time self.now.waits)) }
     {
         waits::objects_that_go(alloc, self.queue.due(time), &Stays::After(time))
     }
@@ -229,7 +229,7 @@ impl WaitList {
 
     /// Forgets the waits of a return. It looks at those that were listed since the first of them, or at those that were listed before the last of them.
     pub fn acknowledge(&mut self, uid: &Uid)
-        ensures waits { self.new.waits ≡ acknowledged uid.now self.old.waits }
+        ensures waits { self.new.waits ≡ without_acknowledged uid.now self.old.waits }
         ensures room { self.new.room ≡ self.old.room }
     {
         let part = self.part_of(uid);

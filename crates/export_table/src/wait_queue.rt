@@ -1,7 +1,7 @@
 //! The waits of references in the order in which they were listed.
 ghost use Rattle.std.specs.Prelude.{◌≡◌, ◌++◌, ◌∷◌, [], ◌+◌, ◌<◌, ◌≤◌, length, filter, take, drop, OnOk, OnErr, IsOk, if◌then◌else◌};
-ghost use Rattle.export_table.specs.Waits.{waiting, over};
-ghost use Rattle.export_table.specs.Index.{stays};
+ghost use Rattle.export_table.specs.Waits.{still_waiting, ended_waits};
+ghost use Rattle.export_table.specs.WaitIndex.{stays};
 
 use crate::waits::{self, Stays, Wait};
 use std::alloc::{AllocError, Global};
@@ -77,8 +77,8 @@ impl WaitQueue {
     /// Waits at the front, among which are all that have ended at a moment: none where none has, and no others where the ends rise.
     pub fn due(&self, time: u64) -> &[Wait]
         ensures front { result.now ≡ take (length result.now) self.now.waits }
-        ensures rest { waiting time (drop (length result.now) self.now.waits) ≡ drop (length result.now) self.now.waits }
-        ensures over { over time result.now ≡ over time self.now.waits }
+        ensures rest { still_waiting time (drop (length result.now) self.now.waits) ≡ drop (length result.now) self.now.waits }
+        ensures over { ended_waits time result.now ≡ ended_waits time self.now.waits }
         ensures within { length result.now ≤ length self.now.waits }
     {
         let upto = self.due_upto(time);
@@ -88,7 +88,7 @@ impl WaitQueue {
     /// A place behind all waits that have ended at a moment.
     fn due_upto(&self, time: u64) -> usize
         ensures within { result ≤ length self.now.waits }
-        ensures rest { waiting time (drop result self.now.waits) ≡ drop result self.now.waits }
+        ensures rest { still_waiting time (drop result self.now.waits) ≡ drop result self.now.waits }
     {
         if time < self.next {
             0
@@ -150,7 +150,7 @@ impl WaitQueue {
 
     /// Forgets the waits that ended. Where none has, it looks at no wait.
     pub fn forget(&mut self, now: u64)
-        ensures waits { self.new.waits ≡ waiting now self.old.waits }
+        ensures waits { self.new.waits ≡ still_waiting now self.old.waits }
         ensures room { self.old.room ≤ self.new.room }
     {
         if now < self.next {
@@ -166,7 +166,7 @@ impl WaitQueue {
 
     /// Passes over the waits that ended, where the ends rise, and answers whether they do. It looks at these and at one more.
     fn pass(&mut self, now: u64) -> bool
-        ensures waits { self.new.waits ≡ (if result then waiting now self.old.waits else self.old.waits) }
+        ensures waits { self.new.waits ≡ (if result then still_waiting now self.old.waits else self.old.waits) }
         ensures room { self.new.room ≡ self.old.room }
     {
         if !self.rising {

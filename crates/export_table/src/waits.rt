@@ -2,9 +2,9 @@
 ghost use Rattle.std.specs.Prelude.{◌≡◌, ◌++◌, ◌∷◌, [], ◌+◌, ◌<◌, ◌≤◌, ◌&&◌, true, length, filter, take, drop, map, not, IfOk, vec_len, vec_capacity};
 ghost use Rattle.std.specs.List.{list_any};
 ghost use Rattle.object_ids.specs.Same.{same_id, same_uid};
-ghost use Rattle.export_table.specs.Waits.{is_wait_of, goes_on, waiting, over, end_of_wait, of_return};
-ghost use Rattle.export_table.specs.Index.{stays, EndsNoEarlier, EndsRise};
-ghost use Rattle.dgc_server.specs.Index.{one_if};
+ghost use Rattle.export_table.specs.Waits.{is_wait_of, goes_on, still_waiting, ended_waits, end_of_wait, of_return};
+ghost use Rattle.export_table.specs.WaitIndex.{stays, EndsNoEarlier, EndsRise};
+ghost use Rattle.dgc_server.specs.HolderIndex.{one_if};
 
 use object_ids::{ObjId, Uid};
 use sequence::Same;
@@ -54,7 +54,7 @@ impl Wait {
 
 /// How many waits have ended at a moment.
 pub fn count_over(waits: &[Wait], time: u64) -> usize
-    ensures { result ≡ length (over time waits.now) }
+    ensures { result ≡ length (ended_waits time waits.now) }
 {
     waits.iter().filter(|wait| !wait.goes_on(time)).count()
 }
@@ -261,7 +261,7 @@ pub fn drop_front(waits: &mut Vec<Wait>, count: usize)
 pub fn due_front(waits: &[Wait], time: u64) -> usize
     requires { EndsRise waits.now }
     ensures within { result ≤ length waits.now }
-    ensures rest { waiting time waits.now ≡ drop result waits.now }
+    ensures rest { still_waiting time waits.now ≡ drop result waits.now }
 {
     for i in 0..waits.len() {
         if waits[i].goes_on(time) {

@@ -22,9 +22,9 @@ use Rattle.ser_values.specs.Shape.{count_of}
 -- ---- words
 
 -- Texts joined by commas, or `-` where there are none.
-abbrev pub listed : {X : Type 0} → (X → List ℕ) → List X → List ℕ
-listed text [] = codes "-"
-listed text (x ∷ xs) = text x ++ flat_map (λ y. 44 ∷ text y) xs
+abbrev pub comma_list : {X : Type 0} → (X → List ℕ) → List X → List ℕ
+comma_list text [] = codes "-"
+comma_list text (x ∷ xs) = text x ++ flat_map (λ y. 44 ∷ text y) xs
 
 -- bytes as two hexadecimal digits each
 abbrev pub hex : List ℕ → List ℕ
@@ -59,26 +59,26 @@ abbrev pub double_text : ℕ → List ℕ
 double_text bits = codes "x:" ++ hex (to_be_bytes w64 bits)
 
 abbrev pub value_text : Value → List ℕ
-value_text (values.B v) = signed_byte v
-value_text (values.C v) = decimal v
-value_text (values.D v) = double_text v
-value_text (values.F v) = float_text v
-value_text (values.I v) = signed_decimal v
-value_text (values.J v) = signed_decimal v
-value_text (values.S v) = signed_decimal v
-value_text (values.Z v) = truth_text v
+value_text (values.Byte v) = signed_byte v
+value_text (values.Char v) = decimal v
+value_text (values.Double v) = double_text v
+value_text (values.Float v) = float_text v
+value_text (values.Int v) = signed_decimal v
+value_text (values.Long v) = signed_decimal v
+value_text (values.Short v) = signed_decimal v
+value_text (values.Boolean v) = truth_text v
 value_text (values.Ref s) = slot_text s
 
 abbrev pub values_text : Values → List ℕ
-values_text (kinds.Bytes v) = listed signed_byte v
-values_text (kinds.Chars v) = listed decimal v
-values_text (kinds.Doubles v) = listed double_text v
-values_text (kinds.Floats v) = listed float_text v
-values_text (kinds.Ints v) = listed signed_decimal v
-values_text (kinds.Longs v) = listed signed_decimal v
-values_text (kinds.Shorts v) = listed signed_decimal v
-values_text (kinds.Bools v) = listed truth_text v
-values_text (kinds.Refs v) = listed slot_text v
+values_text (kinds.Bytes v) = comma_list signed_byte v
+values_text (kinds.Chars v) = comma_list decimal v
+values_text (kinds.Doubles v) = comma_list double_text v
+values_text (kinds.Floats v) = comma_list float_text v
+values_text (kinds.Ints v) = comma_list signed_decimal v
+values_text (kinds.Longs v) = comma_list signed_decimal v
+values_text (kinds.Shorts v) = comma_list signed_decimal v
+values_text (kinds.Bools v) = comma_list truth_text v
+values_text (kinds.Refs v) = comma_list slot_text v
 
 -- The letter of a field's type, its name, and for a reference field the text that names its type.
 abbrev pub type_text : FieldDesc → List ℕ
@@ -89,11 +89,11 @@ field_text f = letter f.code ∷ 0x3A ∷ (name_text f.name ++ type_text f)
 
 -- What a class holds: its values and its note.
 abbrev pub part_text : Part → List ℕ
-part_text p = codes " (" ++ (listed value_text p.values ++ (32 ∷ (listed item_text p.note ++ codes ")")))
+part_text p = codes " (" ++ (comma_list value_text p.values ++ (32 ∷ (comma_list item_text p.note ++ codes ")")))
 
 -- The note and the superclass of a description.
 abbrev pub tail_text : List Item → Slot → List ℕ
-tail_text note parent = codes " note " ++ (listed item_text note ++ (codes " super " ++ slot_text parent))
+tail_text note parent = codes " note " ++ (comma_list item_text note ++ (codes " super " ++ slot_text parent))
 
 -- ---- lines
 
@@ -108,8 +108,8 @@ class_text d = name_text d.name ++ (32 ∷ (suid_text d.suid ++ (32 ∷ hex_byte
 -- What stands in a node's line after its name.
 abbrev pub node_text : Node → List ℕ
 node_text (Text t) = codes " text " ++ name_text t
-node_text (Desc d) = codes " desc " ++ (class_text d ++ (32 ∷ (listed field_text d.fields ++ tail_text d.note d.parent)))
-node_text (Proxy p) = codes " proxy " ++ (listed name_text p.names ++ tail_text p.note p.parent)
+node_text (Desc d) = codes " desc " ++ (class_text d ++ (32 ∷ (comma_list field_text d.fields ++ tail_text d.note d.parent)))
+node_text (Proxy p) = codes " proxy " ++ (comma_list name_text p.names ++ tail_text p.note p.parent)
 node_text (Object c ps) = codes " object " ++ (node_name c ++ flat_map part_text ps)
 node_text (Array c vs) = codes " array " ++ (node_name c ++ (32 ∷ (decimal (count_of vs) ++ (32 ∷ values_text vs))))
 node_text (Class c) = codes " class " ++ node_name c

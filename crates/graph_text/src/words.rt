@@ -2,7 +2,7 @@
 ghost use Rattle.std.specs.Prelude.{◌≡◌, ◌∷◌, ◌++◌, ℕ, List, codes, decimal, flat_map, OnOk};
 ghost use Rattle.std.specs.Fmt.{signed_decimal};
 ghost use Rattle.history.specs.Texts.{name_text};
-ghost use Rattle.graph_text.specs.GraphText.{listed, hex, node_name, slot_text, item_text, signed_byte, truth_text, float_text, double_text, value_text, values_text, type_text, field_text};
+ghost use Rattle.graph_text.specs.GraphText.{comma_list, hex, node_name, slot_text, item_text, signed_byte, truth_text, float_text, double_text, value_text, values_text, type_text, field_text};
 
 use class_desc::{FieldDesc, Item, Slot, is_primitive};
 use journal::put::{put_decimal, put_hex, put_signed, put_units};
@@ -22,7 +22,7 @@ pub(crate) trait Shown {
 
 /// Appends texts joined by commas, or `-` where there are none.
 pub(crate) fn put_listed<T: Shown>(out: &mut ByteList, items: &[T]) -> Result<(), AllocError>
-    ensures { OnOk result (out.new ≡ out.old ++ listed T.text items.now) }
+    ensures { OnOk result (out.new ≡ out.old ++ comma_list T.text items.now) }
 {
     match items {
         [] => out.push(b'-'),
@@ -195,14 +195,14 @@ impl Shown for Value {
 
     fn put(&self, out: &mut ByteList) -> Result<(), AllocError> {
         match self {
-            Value::B(value) => value.put(out),
-            Value::C(value) => value.put(out),
-            Value::D(value) => value.put(out),
-            Value::F(value) => value.put(out),
-            Value::I(value) => value.put(out),
-            Value::J(value) => value.put(out),
-            Value::S(value) => value.put(out),
-            Value::Z(value) => value.put(out),
+            Value::Byte(value) => value.put(out),
+            Value::Char(value) => value.put(out),
+            Value::Double(value) => value.put(out),
+            Value::Float(value) => value.put(out),
+            Value::Int(value) => value.put(out),
+            Value::Long(value) => value.put(out),
+            Value::Short(value) => value.put(out),
+            Value::Boolean(value) => value.put(out),
             Value::Ref(slot) => slot.put(out),
         }
     }

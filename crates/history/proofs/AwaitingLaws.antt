@@ -13,11 +13,11 @@ use Rattle.history.specs.declared.places.Place.{Place}
 use Rattle.history.specs.declared.places.Returned.{Returned}
 use Rattle.history.specs.declared.asks.SpaceConfig.{SpaceConfig}
 use Rattle.history.specs.declared.asks.Event.{Event}
-use Rattle.history.specs.Awaiting.{same_returned, returned, returns, is_ack_of, until_of, awaits, references, awaiting, is_awaited}
+use Rattle.history.specs.Awaiting.{same_returned, returned_references, returns, is_ack_of, until_of, awaits, references, awaiting_references, is_awaited}
 use Rattle.history.specs.Laws.{is_acknowledged, awaits_since_return, AwaitsSinceReturn}
 use Rattle.history.specs.Table.{places}
 use Rattle.history.specs.Places.{History}
-use Rattle.history.proofs.ListLemmas.{IsEquality, AllOnce-distinct, list_any-distinct, list_any-filter, list_any-members, and_true, and_false, same_test, test-Somewhere, Somewhere, Somewhere-test}
+use Rattle.history.proofs.ListLemmas.{IsEquality, AllOnce-distinct, list_any-distinct, list_any-filter, list_any-members, and_true, and_false, same_test, test-Somewhere, Somewhere, Somewhere-test, no_time}
 use Rattle.history.proofs.TableLaws.{IsNumbered, places-numbered}
 
 pub returned-equality : IsEquality same_returned
@@ -30,9 +30,6 @@ returned-equality = record {
     equal a b (o, u) = ap (λ x. record a { object = x }) (same_id-equal a.object b.object o) ∙ ap (λ x. record { object = b.object; uid = x }) (same_uid-equal a.uid b.uid u)
 
 -- ---- one more place
-
-no_time : (t : ℕ) → nat_lt t 0 ≡ false
-no_time t = le-ltb t 0 (omega arith)
 
 -- A place that returns the reference begins its wait anew.
 pub awaits-returned : (ack t : ℕ) (p : Place) (h : History) (r : Returned) → IsNumbered (p ∷ h) → returns r p ≡ true →
@@ -116,7 +113,7 @@ awaits-since-return config events ack t r = awaits-since ack t (places config ev
 was_returned : (ack t : ℕ) (h : History) (r : Returned) → awaits ack t h r ≡ true → list_any (same_returned r) (references h) ≡ true
 unfolding references
 was_returned ack t [] r a = absurd (let never = awaits-none ack t r in cc)
-was_returned ack t (p ∷ h) r a = list_any-append (same_returned r) (returned p) (references h) ∙ go (was_returned ack t h r) (returns r p) refl (is_ack_of r.uid p.event.ask) refl
+was_returned ack t (p ∷ h) r a = list_any-append (same_returned r) (returned_references p) (references h) ∙ go (was_returned ack t h r) (returns r p) refl (is_ack_of r.uid p.event.ask) refl
   where
     go : (awaits ack t h r ≡ true → list_any (same_returned r) (references h) ≡ true) → (b : Bool) → returns r p ≡ b → (c : Bool) → is_ack_of r.uid p.event.ask ≡ c → (returns r p || list_any (same_returned r) (references h)) ≡ true
     go ih true l c d = rw l refl
@@ -124,9 +121,9 @@ was_returned ack t (p ∷ h) r a = list_any-append (same_returned r) (returned p
     go ih false l false d = rw l (ih (sym (awaits-passed ack t p h r l d) ∙ a))
 
 -- WHAT AWAITS is what is among those that await.
-pub awaiting-member : (ack t : ℕ) (h : History) (r : Returned) → list_any (same_returned r) (awaiting ack t h) ≡ awaits ack t h r
-unfolding awaiting
-awaiting-member ack t h r =
+pub awaiting_references-member : (ack t : ℕ) (h : History) (r : Returned) → list_any (same_returned r) (awaiting_references ack t h) ≡ awaits ack t h r
+unfolding awaiting_references
+awaiting_references-member ack t h r =
     list_any-distinct same_returned (same_returned r) (λ x y e. ap (same_returned r) (returned-equality.equal x y e)) (filter (awaits ack t h) (references h))
     ∙ list_any-filter (same_returned r) (awaits ack t h) (references h)
     ∙ same_test (list_any (λ x. awaits ack t h x && same_returned r x) (references h)) (awaits ack t h r)
@@ -143,13 +140,13 @@ awaiting-member ack t h r =
       | inr there ↦ forth xs there
     ]
 
-pub awaiting-once : (ack t : ℕ) (h : History) → AllOnce same_returned (awaiting ack t h)
-unfolding awaiting
-awaiting-once ack t h = AllOnce-distinct same_returned returned-equality (filter (awaits ack t h) (references h))
+pub awaiting_references-once : (ack t : ℕ) (h : History) → AllOnce same_returned (awaiting_references ack t h)
+unfolding awaiting_references
+awaiting_references-once ack t h = AllOnce-distinct same_returned returned-equality (filter (awaits ack t h) (references h))
 
 -- An object is awaited where any list with the same references has one to it.
 pub is_awaited-members : (ack t : ℕ) (h : History) (o : ObjId) (rs : List Returned) → ((r : Returned) → list_any (same_returned r) rs ≡ awaits ack t h r) →
     is_awaited ack t h o ≡ list_any (λ r. same_id r.object o) rs
 unfolding is_awaited
 is_awaited-members ack t h o rs f =
-    list_any-members same_returned returned-equality (λ r. same_id r.object o) (awaiting ack t h) rs (λ r. awaiting-member ack t h r ∙ sym (f r))
+    list_any-members same_returned returned-equality (λ r. same_id r.object o) (awaiting_references ack t h) rs (λ r. awaiting_references-member ack t h r ∙ sym (f r))

@@ -18,22 +18,17 @@ use Rattle.history.specs.Places.{History, now}
 use Rattle.history.specs.Running.{is_running}
 use Rattle.history.specs.Leases.{lease_end, has_time_left, counting_calls, highest_is_dirty, calls_of, holds, is_held}
 use Rattle.history.specs.LeaseCalls.{lease_calls}
-use Rattle.history.specs.Awaiting.{same_returned, until_of, awaits, awaiting, is_awaited}
+use Rattle.history.specs.Awaiting.{same_returned, until_of, awaits, awaiting_references, is_awaited}
 use Rattle.history.specs.Names.{stands_for, names, is_name_of, is_named}
-use Rattle.history.specs.Table.{is_pinned, is_kept, places, withdrawn, with_event}
+use Rattle.history.specs.Table.{is_kept_locally, is_kept, places, withdrawn_objects, with_event}
 use Rattle.history.specs.Laws.{SomeConnectionRuns}
 use Rattle.history.specs.Collector.{SomeNameStands, SomeReferenceAwaits, SomeClientHolds, IsNeeded, table_and_exports, Collects}
-use Rattle.history.proofs.ListLemmas.{Somewhere, Somewhere-test, test-Somewhere}
-use Rattle.history.proofs.AwaitingLaws.{returned-equality, awaiting-member}
+use Rattle.history.proofs.ListLemmas.{Somewhere, Somewhere-test, test-Somewhere, witness}
+use Rattle.history.proofs.AwaitingLaws.{returned-equality, awaiting_references-member}
 use Rattle.history.proofs.LeaseLaws.{is_held-calls}
 use Rattle.history.proofs.NameLaws.{names-member, bytes-equality}
 use Rattle.history.proofs.RunningLaws.{running-some}
-use Rattle.history.proofs.TableLaws.{places-push, table-push, withdrawn-place}
-
--- An item that passes a test.
-witness : {X : Type 0} (test : X → Bool) (xs : List X) → Somewhere (λ x. test x ≡ true) xs → (x : X) × (test x ≡ true)
-witness test [] s = absurd s
-witness test (x ∷ xs) s = elim s [ inl here ↦ (x, here) | inr there ↦ witness test xs there ]
+use Rattle.history.proofs.TableLaws.{places-push, table-push, withdrawn_objects-place}
 
 -- ---- some name
 
@@ -58,7 +53,7 @@ named-some config events o = (
 
 awaited-some : (config : SpaceConfig) (h : History) (o : ObjId) → (is_awaited config.ack_ms (now h) h o ≡ true) ↔ SomeReferenceAwaits config h o
 unfolding is_awaited awaits
-awaited-some config h o = (λ a. found (awaiting config.ack_ms (now h) h) (λ r i. sym (awaiting-member config.ack_ms (now h) h r) ∙ i) (Somewhere-test (λ r. same_id r.object o) (awaiting config.ack_ms (now h) h) a), λ s. back s.0 s.1)
+awaited-some config h o = (λ a. found (awaiting_references config.ack_ms (now h) h) (λ r i. sym (awaiting_references-member config.ack_ms (now h) h r) ∙ i) (Somewhere-test (λ r. same_id r.object o) (awaiting_references config.ack_ms (now h) h) a), λ s. back s.0 s.1)
   where
     found : (rs : List Returned) → ((r : Returned) → list_any (same_returned r) rs ≡ true → awaits config.ack_ms (now h) h r ≡ true) →
         Somewhere (λ r. same_id r.object o ≡ true) rs → SomeReferenceAwaits config h o
@@ -73,13 +68,13 @@ awaited-some config h o = (λ a. found (awaiting config.ack_ms (now h) h) (λ r 
       | inr there ↦ found rs (λ k i. f k (or_right (same_returned k r) (list_any (same_returned k) rs) i)) there
     ]
 
-    back : (u : Uid) → now h < until_of config.ack_ms h (record { object = o; uid = u }) → list_any (λ r. same_id r.object o) (awaiting config.ack_ms (now h) h) ≡ true
+    back : (u : Uid) → now h < until_of config.ack_ms h (record { object = o; uid = u }) → list_any (λ r. same_id r.object o) (awaiting_references config.ack_ms (now h) h) ≡ true
     back u l =
         let r : Returned = record { object = o; uid = u } in
         test-Somewhere (λ k. same_returned r k ≡ true) (λ k. same_id k.object o)
         (λ k e. let P : Returned → Type 0 = λ q. same_id q.object o ≡ true in subst P (returned-equality.equal r k e) (same_id-self o))
-        (awaiting config.ack_ms (now h) h) (Somewhere-test (same_returned r) (awaiting config.ack_ms (now h) h)
-        (awaiting-member config.ack_ms (now h) h r ∙ lt-ltb (now h) (until_of config.ack_ms h r) l))
+        (awaiting_references config.ack_ms (now h) h) (Somewhere-test (same_returned r) (awaiting_references config.ack_ms (now h) h)
+        (awaiting_references-member config.ack_ms (now h) h r ∙ lt-ltb (now h) (until_of config.ack_ms h r) l))
 
 -- ---- some client
 
@@ -141,7 +136,7 @@ five a b c d f B C D F p q r s = (forth a b c d f p q r s, back a b c d f p q r 
     ]
 
 pub kept-needed : (config : SpaceConfig) (events : List Event) (x : Exported) → (is_kept config (places config events) x ≡ true) ↔ IsNeeded config (places config events) x
-unfolding is_kept is_pinned
+unfolding is_kept is_kept_locally
 kept-needed config events x =
     let h = places config events in
     five x.pinned (is_named h x.id) (is_running h x.id) (is_awaited config.ack_ms (now h) h x.id) (is_held config.lease_ms (now h) (lease_calls h) x.id)
@@ -151,8 +146,8 @@ kept-needed config events x =
 -- ---- one event
 
 goes-push : (config : SpaceConfig) (h : List Event) (e : Event) →
-    withdrawn config (places config (with_event h e)) ≡ filter (λ x. not (is_kept config (places config (with_event h e)) x)) (table_and_exports config h e)
-goes-push config h e = rw places-push (withdrawn-place config (places config h) e)
+    withdrawn_objects config (places config (with_event h e)) ≡ filter (λ x. not (is_kept config (places config (with_event h e)) x)) (table_and_exports config h e)
+goes-push config h e = rw places-push (withdrawn_objects-place config (places config h) e)
 
 -- THE COLLECTOR at one event.
 pub collects : (config : SpaceConfig) (h : List Event) (e : Event) → Collects config h e (with_event h e)

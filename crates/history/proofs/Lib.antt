@@ -1,6 +1,7 @@
 pub mod AlikeCalls
 pub mod AwaitingLaws
 pub mod CollectorLaws
+pub mod Equalities
 pub mod Examples
 pub mod LeaseRows
 pub mod GoneLaws
@@ -12,8 +13,8 @@ pub mod NameLaws
 pub mod NamedCalls
 pub mod NamedLaws
 pub mod NumberLaws
+pub mod PairLaws
 pub mod Partitions
-pub mod PlainLaws
 pub mod RefusalRows
 pub mod RunningLaws
 pub mod StepLaws

@@ -1,11 +1,11 @@
 -- Facts on lists, filters and tests.
-use Rattle.std.proofs.Common.{◌≡◌, suc, ◌+◌, ◌≤◌, ◌⊎◌, inl, inr, List, [], ◌∷◌, ◌++◌, length, refl, ap, sym, subst, ◌∙◌, arith, cond, Option, Some, Ordering}
+use Rattle.std.proofs.Common.{◌≡◌, ℕ, suc, ◌+◌, ◌≤◌, ◌⊎◌, inl, inr, List, [], ◌∷◌, ◌++◌, length, refl, ap, sym, subst, ◌∙◌, arith, cond, Option, Some, Ordering}
 use Rattle.std.specs.Prelude.{Bool, true, false, ◌&&◌, ◌||◌, nat_lt, not, filter, find, if◌then◌else◌, map, reverse}
 use Rattle.std.specs.List.{list_any, list_all, AllByRecursion}
 use Rattle.std.specs.Ordering.{is_lt, is_eq}
 use Rattle.std.specs.declared.cmp.Ordering.TheVariants.{Less, Equal, Greater}
 use Rattle.std.proofs.lemmas.List.{reverse-append}
-use Rattle.std.proofs.lemmas.Bool.{or_cases, or_left, or_right, or_parts, and_parts, lt-ltb}
+use Rattle.std.proofs.lemmas.Bool.{or_cases, or_left, or_right, or_parts, and_parts, lt-ltb, le-ltb}
 use Rattle.history.specs.Lists.{with_item, in_order, distinct, AllOnce}
 
 -- ---- truth values
@@ -82,6 +82,11 @@ Somewhere P (x ∷ xs) = P x ⊎ Somewhere P xs
 pub Somewhere-test : {X : Type 0} (test : X → Bool) (xs : List X) → list_any test xs ≡ true → Somewhere (λ x. test x ≡ true) xs
 Somewhere-test test [] h = absurd (cc)
 Somewhere-test test (x ∷ xs) h = elim (or_cases (test x) (list_any test xs) h) [ inl here ↦ inl here | inr there ↦ inr (Somewhere-test test xs there) ]
+
+-- An item that passes a test.
+pub witness : {X : Type 0} (test : X → Bool) (xs : List X) → Somewhere (λ x. test x ≡ true) xs → (x : X) × (test x ≡ true)
+witness test [] s = absurd s
+witness test (x ∷ xs) s = elim s [ inl here ↦ (x, here) | inr there ↦ witness test xs there ]
 
 pub test-Somewhere : {X : Type 0} (P : X → Type 0) (test : X → Bool) → ((x : X) → P x → test x ≡ true) → (xs : List X) → Somewhere P xs → list_any test xs ≡ true
 test-Somewhere P test f [] h = absurd h
@@ -210,12 +215,46 @@ list_any-distinct same p r (x ∷ xs) = go (list_any (same x) xs) refl (list_any
     go true h ih = ih ∙ sym (told xs h)
     go false h ih = ap (λ v. p x || v) ih
 
+-- No number is below 0.
+pub no_time : (t : ℕ) → nat_lt t 0 ≡ false
+no_time t = le-ltb t 0 (omega arith)
+
 -- ---- lists with the same items
 
--- A test that tells whether two items are equal.
+-- The test tells whether two items are equal.
 pub record IsEquality {K : Type 0} (same : K → K → Bool) : Type 0 where
   pub self : (k : K) → same k k ≡ true
   pub equal : (j k : K) → same j k ≡ true → j ≡ k
+
+pub same-turned : {X : Type 0} {same : X → X → Bool} → IsEquality same → (x y : X) → same x y ≡ same y x
+same-turned {X} {same} d x y = same_test (same x y) (same y x) (λ e. flip x y e) (λ e. flip y x e)
+  where
+    flip : (a b : X) → same a b ≡ true → same b a ≡ true
+    flip a b e = let P : X → Type 0 = λ z. same z a ≡ true in subst P (d.equal a b e) (d.self a)
+
+-- An item of a filter is an item that passes.
+pub any-filtered : {X : Type 0} {same : X → X → Bool} → IsEquality same → (q : X → Bool) (x : X) (xs : List X) → list_any (same x) (filter q xs) ≡ (list_any (same x) xs && q x)
+any-filtered {X} {same} d q x xs =
+    list_any-filter (same x) q xs ∙ list_any-same (λ y. q y && same x y) (λ y. same x y && q x) (λ y. one y (same x y) refl) xs ∙ out xs
+  where
+    one : (y : X) (b : Bool) → same x y ≡ b → (q y && b) ≡ (b && q x)
+    one y true e = and_true (q y) ∙ ap q (sym (d.equal x y e))
+    one y false e = and_false (q y)
+
+    out : (ys : List X) → list_any (λ y. same x y && q x) ys ≡ (list_any (same x) ys && q x)
+    out [] = refl
+    out (y ∷ ys) = ap (λ v. (same x y && q x) || v) (out ys) ∙ go (same x y) (list_any (same x) ys) (q x)
+      where
+        go : (a b c : Bool) → ((a && c) || (b && c)) ≡ ((a || b) && c)
+        go true true true = refl
+        go true true false = refl
+        go true false true = refl
+        go true false false = refl
+        go false b c = refl
+
+-- Leaving out repeated items leaves the same items.
+pub any-distinct : {X : Type 0} {same : X → X → Bool} → IsEquality same → (x : X) (xs : List X) → list_any (same x) (distinct same xs) ≡ list_any (same x) xs
+any-distinct {X} {same} d x xs = list_any-distinct same (same x) (λ a b e. ap (same x) (d.equal a b e)) xs
 
 pub AllOnce-distinct : {X : Type 0} (same : X → X → Bool) → IsEquality same → (xs : List X) → AllOnce same (distinct same xs)
 AllOnce-distinct same e [] = tt

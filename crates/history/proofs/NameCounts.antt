@@ -3,6 +3,7 @@ use Rattle.std.proofs.Common.{◌≡◌, ℕ, ◌+◌, List, [], ◌∷◌, ◌+
 use Rattle.std.specs.Prelude.{Bool, true, false, ◌&&◌, ◌||◌, not, filter, is_none, is_some, option_and_then, if◌then◌else◌}
 use Rattle.std.specs.List.{list_any}
 use Rattle.std.proofs.lemmas.List.Elements.{filter-append}
+use Rattle.sequence.proofs.Lists.{all_stay}
 use Rattle.object_ids.specs.declared.ids.ObjId.{ObjId}
 use Rattle.object_ids.specs.Same.{same_id, same_bytes}
 use Rattle.history.specs.Lists.{AllOnce, option_any}
@@ -56,10 +57,6 @@ count-but {X} same e m p q f (x ∷ xs) once = go (same m x) refl (list_any (sam
         let a = counted q (q x) in let b = counted p (p x) in let c : one_if (q x) ≡ one_if (p x) = ap one_if (f x s) in omega (arith, a, b, c, ih)
     go false s false t ih =
         let a = counted q (q x) in let b = counted p (p x) in let c : one_if (q x) ≡ one_if (p x) = ap one_if (f x s) in omega (arith, a, b, c, ih)
-
-all_stay : (ns : List (List ℕ)) → filter (λ n. not false) ns ≡ ns
-all_stay [] = refl
-all_stay (n ∷ ns) = ap (λ l. n ∷ l) (all_stay ns)
 
 -- ---- one more event
 

@@ -1,13 +1,14 @@
 -- Laws of the names: what one more event does to them.
 use Rattle.std.proofs.Common.{◌≡◌, ℕ, ◌+◌, ◌<◌, ◌≤◌, List, [], ◌∷◌, ◌++◌, length, refl, ap, sym, subst, ◌∙◌, arith, cond, Option, Some, None, append-nil}
-use Rattle.std.specs.Prelude.{Bool, true, false, ◌&&◌, ◌||◌, ◌==◌, not, filter, find, filter_map, reverse, is_none, is_some, option_and_then, option_to_list, if◌then◌else◌}
+use Rattle.std.specs.Prelude.{Bool, true, false, ◌&&◌, ◌||◌, not, filter, find, filter_map, reverse, is_none, is_some, option_and_then, option_to_list, if◌then◌else◌}
 use Rattle.std.specs.List.{list_any, cons_option, AllByRecursion}
-use Rattle.std.proofs.lemmas.Bool.{lt-ltb, le-ltb, and_parts, and_from}
-use Rattle.std.proofs.lemmas.Bool.Decides.{Decides-eqb}
+use Rattle.std.proofs.lemmas.Bool.{lt-ltb, le-ltb}
 use Rattle.std.proofs.lemmas.List.Folds.{list_any-append}
 use Rattle.std.proofs.lemmas.List.Elements.{filter-append, filter_map-append}
+use Rattle.sequence.proofs.Lists.{all_stay}
 use Rattle.object_ids.specs.declared.ids.ObjId.{ObjId}
 use Rattle.object_ids.specs.Same.{same_bytes}
+use Rattle.object_ids.proofs.Exact.{same_bytes-equal, same_bytes-self}
 use Rattle.history.specs.Lists.{option_any, AllOnce}
 use Rattle.history.specs.declared.asks.SpaceConfig.{SpaceConfig}
 use Rattle.history.specs.declared.asks.Event.{Event}
@@ -17,7 +18,7 @@ use Rattle.history.specs.declared.places.Place.{Place}
 pub use Rattle.history.specs.Names.{unbinds, name_begun}
 use Rattle.history.specs.Names.{name_in, name_bound, object_bound, is_bind_of, is_unbind_of, changes_name, stands_for, names}
 use Rattle.history.specs.Laws.{is_unbound_after, begins_name, StandsForLast, NamesInOrder}
-use Rattle.history.proofs.ListLemmas.{every-weaker, every-reverse, reverse-cons, filter-same, filter-filter, list_any-filter, IsEquality, AllOnce-filter, AllOnce-push, same_test, and_false}
+use Rattle.history.proofs.ListLemmas.{every-weaker, every-reverse, reverse-cons, filter-same, filter-filter, list_any-filter, IsEquality, AllOnce-filter, AllOnce-push, and_false, same-turned}
 use Rattle.history.specs.Table.{place_of, places_back, places}
 use Rattle.history.specs.Places.{History}
 use Rattle.history.proofs.TableLaws.{IsNumbered, index-place_of, places_back-numbered, places-numbered}
@@ -137,26 +138,11 @@ names-in-order config events = names-begun (places config events) (places-number
 
 -- ---- the names that stand for something
 
-same_bytes-equal : (a b : List ℕ) → same_bytes a b ≡ true → a ≡ b
-same_bytes-equal [] [] h = refl
-same_bytes-equal [] (y ∷ ys) h = absurd (cc)
-same_bytes-equal (x ∷ xs) [] h = absurd (cc)
-same_bytes-equal (x ∷ xs) (y ∷ ys) h =
-    let two = and_parts (x == y) (same_bytes xs ys) h in
-    ap (λ n. n ∷ xs) ((Decides-eqb x y).0 two.0) ∙ ap (λ l. y ∷ l) (same_bytes-equal xs ys two.1)
-
-same_bytes-self : (a : List ℕ) → same_bytes a a ≡ true
-same_bytes-self [] = refl
-same_bytes-self (x ∷ xs) = and_from (x == x) (same_bytes xs xs) ((Decides-eqb x x).1 refl) (same_bytes-self xs)
-
 pub bytes-equality : IsEquality same_bytes
 bytes-equality = record { self = same_bytes-self; equal = same_bytes-equal }
 
-same_bytes-turned : (a b : List ℕ) → same_bytes a b ≡ same_bytes b a
-same_bytes-turned a b = same_test (same_bytes a b) (same_bytes b a) (λ h. turn a b h) (λ h. turn b a h)
-  where
-    turn : (x y : List ℕ) → same_bytes x y ≡ true → same_bytes y x ≡ true
-    turn x y h = let P : List ℕ → Type 0 = λ z. same_bytes z x ≡ true in subst P (same_bytes-equal x y h) (same_bytes-self x)
+pub same_bytes-turned : (a b : List ℕ) → same_bytes a b ≡ same_bytes b a
+same_bytes-turned a b = same-turned bytes-equality a b
 
 -- The names of a history and the name that its next event, which is effective or not, begins or unbinds.
 unfoldable pub after_ask : Bool → Option ObjId → Ask → List (List ℕ) → List (List ℕ)
@@ -166,10 +152,6 @@ after_ask effective stood a ns =
 -- What a name stands for after it.
 unfoldable pub stands_after : Bool → Ask → List ℕ → Option ObjId → Option ObjId
 stands_after effective a n before = if effective && (is_bind_of n a || is_unbind_of n a) then object_bound a else before
-
-all_stay : (ns : List (List ℕ)) → filter (λ n. not false) ns ≡ ns
-all_stay [] = refl
-all_stay (n ∷ ns) = ap (λ l. n ∷ l) (all_stay ns)
 
 -- Membership goes with what the name stands for.
 member-after : (effective : Bool) (a : Ask) (ns : List (List ℕ)) (n : List ℕ) (stands : List ℕ → Option ObjId) →

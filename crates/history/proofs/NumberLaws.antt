@@ -13,11 +13,12 @@ use Rattle.history.specs.declared.asks.Event.{Event}
 use Rattle.history.specs.declared.asks.Ask.{Ask}
 use Rattle.history.specs.declared.asks.Ask.TheVariants.{Open, Finish}
 use Rattle.history.specs.declared.places.Exported.{Exported}
-use Rattle.history.specs.Places.{History, has, kind_of, added, next, id_at, exported_from}
+use Rattle.history.specs.Places.{History, has, kind_of, ever_exported, exported_count, id_at, exported_from}
 use Rattle.history.specs.Table.{is_kept, table, exports, place_of, places_back, places}
 use Rattle.history.specs.Laws.{NextIsCounted, IdsAreInOrder}
 use Rattle.std.proofs.lemmas.List.Folds.{list_any-append}
 use Rattle.history.proofs.ListLemmas.{every-weaker, or_true}
+use Rattle.history.specs.declared.places.Place.{Place}
 
 -- The objects of a list are a space's k-th and those that follow.
 abbrev pub NumberedFrom : Uid → ℕ → List Exported → Type 0
@@ -39,43 +40,47 @@ pub length-exported_from : (space : Uid) (k : ℕ) (pinned : Bool) (kinds : List
 length-exported_from space k pinned [] = refl
 length-exported_from space k pinned (kind ∷ kinds) = ap suc (length-exported_from space (k + 1) pinned kinds)
 
--- THE NEXT OBJECT has the number of those that were exported before it.
-pub next-added : (h : History) → NextIsCounted h
-unfolding next added
-next-added [] = refl
-next-added (p ∷ h) = ap (λ n. n + length p.exported_here) (next-added h) ∙ sym (length-append (added h) p.exported_here)
+pub next-push : (p : Place) (h : History) → exported_count (p ∷ h) ≡ exported_count h + length p.exported_here
+unfolding exported_count
+next-push p h = refl
 
-exports-numbered : (config : SpaceConfig) (h : History) (a : Ask) → NumberedFrom config.uid (next h) (exports config h a)
+-- THE NEXT OBJECT has the number of those that were exported before it.
+pub exported_count-length : (h : History) → NextIsCounted h
+unfolding exported_count ever_exported
+exported_count-length [] = refl
+exported_count-length (p ∷ h) = ap (λ n. n + length p.exported_here) (exported_count-length h) ∙ sym (length-append (ever_exported h) p.exported_here)
+
+exports-numbered : (config : SpaceConfig) (h : History) (a : Ask) → NumberedFrom config.uid (exported_count h) (exports config h a)
 unfolding exports
-exports-numbered config h (Open kind pinned) = exported_from-numbered config.uid (next h) pinned (kind ∷ [])
-exports-numbered config h (Finish object made listed uid) = exported_from-numbered config.uid (next h) false made
+exports-numbered config h (Open kind pinned) = exported_from-numbered config.uid (exported_count h) pinned (kind ∷ [])
+exports-numbered config h (Finish object made listed uid) = exported_from-numbered config.uid (exported_count h) false made
 exports-numbered config h _ = tt
 
 -- What an event exports goes on where the history ended.
-pub adds-next : (config : SpaceConfig) (h : History) (e : Event) → NumberedFrom config.uid (next h) (place_of config h e).exported_here
+pub adds-next : (config : SpaceConfig) (h : History) (e : Event) → NumberedFrom config.uid (exported_count h) (place_of config h e).exported_here
 unfolding place_of
 adds-next config h e = go (place_of config h e).effective (exports-numbered config h e.ask)
   where
-    go : (b : Bool) → NumberedFrom config.uid (next h) (exports config h e.ask) → NumberedFrom config.uid (next h) (if b then exports config h e.ask else [])
+    go : (b : Bool) → NumberedFrom config.uid (exported_count h) (exports config h e.ask) → NumberedFrom config.uid (exported_count h) (if b then exports config h e.ask else [])
     go true n = n
     go false n = tt
 
-pub adds-numbered : (config : SpaceConfig) (h : History) (e : Event) → NumberedFrom config.uid (length (added h)) (place_of config h e).exported_here
-adds-numbered config h e = let P : ℕ → Type 0 = λ n. NumberedFrom config.uid n (place_of config h e).exported_here in subst P (next-added h) (adds-next config h e)
+pub adds-numbered : (config : SpaceConfig) (h : History) (e : Event) → NumberedFrom config.uid (length (ever_exported h)) (place_of config h e).exported_here
+adds-numbered config h e = let P : ℕ → Type 0 = λ n. NumberedFrom config.uid n (place_of config h e).exported_here in subst P (exported_count-length h) (adds-next config h e)
 
 -- ALL OBJECTS that a history exported have the numbers from 16 on, in order.
-pub added_back-numbered : (config : SpaceConfig) (es : List Event) → NumberedFrom config.uid 0 (added (places_back config es))
-unfolding added places_back
-added_back-numbered config [] = tt
-added_back-numbered config (e ∷ es) =
-    NumberedFrom-append config.uid 0 (added (places_back config es)) (place_of config (places_back config es) e).exported_here (added_back-numbered config es)
+pub ever_exported_back-numbered : (config : SpaceConfig) (es : List Event) → NumberedFrom config.uid 0 (ever_exported (places_back config es))
+unfolding ever_exported places_back
+ever_exported_back-numbered config [] = tt
+ever_exported_back-numbered config (e ∷ es) =
+    NumberedFrom-append config.uid 0 (ever_exported (places_back config es)) (place_of config (places_back config es) e).exported_here (ever_exported_back-numbered config es)
     (let P : ℕ → Type 0 = λ n. NumberedFrom config.uid n (place_of config (places_back config es) e).exported_here in
-    let none : length (added (places_back config es)) ≡ 0 + length (added (places_back config es)) = omega arith in
+    let none : length (ever_exported (places_back config es)) ≡ 0 + length (ever_exported (places_back config es)) = omega arith in
     subst P none (adds-numbered config (places_back config es) e))
 
-pub added-numbered : (config : SpaceConfig) (h : List Event) → NumberedFrom config.uid 0 (added (places config h))
+pub ever_exported-numbered : (config : SpaceConfig) (h : List Event) → NumberedFrom config.uid 0 (ever_exported (places config h))
 unfolding places
-added-numbered config h = added_back-numbered config (reverse h)
+ever_exported-numbered config h = ever_exported_back-numbered config (reverse h)
 
 numbered-get : (space : Uid) (k : ℕ) (xs : List Exported) → NumberedFrom space k xs → (i : ℕ) (x : Exported) → slice_get xs i ≡ Some x → x.id ≡ id_at space (k + i)
 numbered-get space k [] n i x is = let never : None ≡ Some x = is in absurd cc
@@ -86,7 +91,7 @@ numbered-get space k (y ∷ ys) n (suc i) x is = let moved : k + 1 + i ≡ k + s
 pub ids-in-order : (config : SpaceConfig) (events : List Event) → IdsAreInOrder config events
 ids-in-order config events k x is =
     let none : 0 + k ≡ k = omega arith in
-    numbered-get config.uid 0 (added (places config events)) (added-numbered config events) k x is ∙ ap (id_at config.uid) none
+    numbered-get config.uid 0 (ever_exported (places config events)) (ever_exported-numbered config events) k x is ∙ ap (id_at config.uid) none
 
 -- ---- no number twice
 
@@ -152,19 +157,19 @@ AllApart-filter test (x ∷ xs) a = go (test x) (AllApart-filter test xs a.1)
     go false r = r
 
 -- WHAT IS IN THE TABLE was exported.
-pub table-exported : (config : SpaceConfig) (h : History) (o : ObjId) → has (table config h) o ≡ true → has (added h) o ≡ true
-unfolding table added
+pub table-exported : (config : SpaceConfig) (h : History) (o : ObjId) → has (table config h) o ≡ true → has (ever_exported h) o ≡ true
+unfolding table ever_exported
 table-exported config [] o t = t
 table-exported config (p ∷ h) o t =
-    list_any-append (λ (x : Exported). same_id x.id o) (added h) p.exported_here ∙ go (table-exported config h o) (has (table config h ++ p.exported_here) o) refl
+    list_any-append (λ (x : Exported). same_id x.id o) (ever_exported h) p.exported_here ∙ go (table-exported config h o) (has (table config h ++ p.exported_here) o) refl
   where
     wider : (a b c : Bool) → (a || c) ≡ true → (a ≡ true → b ≡ true) → (b || c) ≡ true
     wider true b c e f = ap (λ v. v || c) (f refl)
     wider false true c e f = refl
     wider false false c e f = e
 
-    go : (has (table config h) o ≡ true → has (added h) o ≡ true) → (b : Bool) → has (table config h ++ p.exported_here) o ≡ b → (has (added h) o || has p.exported_here o) ≡ true
-    go ih true e = wider (has (table config h) o) (has (added h) o) (has p.exported_here o) (sym (list_any-append (λ (x : Exported). same_id x.id o) (table config h) p.exported_here) ∙ e) ih
+    go : (has (table config h) o ≡ true → has (ever_exported h) o ≡ true) → (b : Bool) → has (table config h ++ p.exported_here) o ≡ b → (has (ever_exported h) o || has p.exported_here o) ≡ true
+    go ih true e = wider (has (table config h) o) (has (ever_exported h) o) (has p.exported_here o) (sym (list_any-append (λ (x : Exported). same_id x.id o) (table config h) p.exported_here) ∙ e) ih
     go ih false e = absurd (let never = has-filter (is_kept config (p ∷ h)) (table config h ++ p.exported_here) o e in cc)
 
 -- Each object of a list is among its objects, and has its kind there.

@@ -14,9 +14,9 @@ use Rattle.history.specs.declared.asks.Ask.{Ask}
 use Rattle.history.specs.declared.asks.Ask.TheVariants.{Begin, Finish, Abandon}
 use Rattle.history.specs.declared.places.Place.{Place}
 pub use Rattle.history.specs.Running.{begins_any, ends_any}
-use Rattle.history.specs.Running.{is_begin_of, is_end_of, begins_call, ends_call, running, is_running, running_calls}
+use Rattle.history.specs.Running.{is_begin_of, is_end_of, begins_call, ends_call, running_calls_by, is_running, running_calls}
 use Rattle.history.specs.Laws.{connections, RunningIsCounted, RunningIsSummed, SomeConnectionRuns, RunningIsSome}
-use Rattle.history.specs.Limits.{is_begin, is_end, starts, ends, reserved}
+use Rattle.history.specs.Limits.{is_begin, is_end, starts, ends, reserved_units}
 use Rattle.history.specs.Table.{is_effective, place_of, places_back, places}
 use Rattle.history.specs.Places.{History}
 use Rattle.history.proofs.ListLemmas.{every-always, IsEquality, filter-same, list_any-distinct}
@@ -24,26 +24,26 @@ use Rattle.history.proofs.Partitions.{one_if, length-filter-cons, sum_by-plus, s
 
 -- ---- a call ends only where it runs
 
-end_runs : (config : SpaceConfig) (h : History) (e : Event) (by : ℕ) (o : ObjId) → ends_call by o (place_of config h e) ≡ true → 0 < running h by o
+end_runs : (config : SpaceConfig) (h : History) (e : Event) (by : ℕ) (o : ObjId) → ends_call by o (place_of config h e) ≡ true → 0 < running_calls_by h by o
 unfolding place_of is_effective
 end_runs config h e by o t = go e.ask t
   where
-    here : (x : ObjId) → (nat_lt 0 (running h e.by x) && e.by == by && same_id x o) ≡ true → 0 < running h by o
+    here : (x : ObjId) → (nat_lt 0 (running_calls_by h e.by x) && e.by == by && same_id x o) ≡ true → 0 < running_calls_by h by o
     here x t =
-        let two = and_parts (nat_lt 0 (running h e.by x) && e.by == by) (same_id x o) t in
-        let one = and_parts (nat_lt 0 (running h e.by x)) (e.by == by) two.0 in
-        let runs : 0 < running h e.by x = ltb-true 0 (running h e.by x) one.0 in
+        let two = and_parts (nat_lt 0 (running_calls_by h e.by x) && e.by == by) (same_id x o) t in
+        let one = and_parts (nat_lt 0 (running_calls_by h e.by x)) (e.by == by) two.0 in
+        let runs : 0 < running_calls_by h e.by x = ltb-true 0 (running_calls_by h e.by x) one.0 in
         let who : e.by ≡ by = (Decides-eqb e.by by).0 one.1 in
         let what : x ≡ o = same_id-equal x o two.1 in
-        let P : ℕ → Type 0 = λ n. 0 < running h n x in
-        let Q : ObjId → Type 0 = λ y. 0 < running h by y in
+        let P : ℕ → Type 0 = λ n. 0 < running_calls_by h n x in
+        let Q : ObjId → Type 0 = λ y. 0 < running_calls_by h by y in
         subst Q what (subst P who runs)
 
-    never : (b : Bool) → (b && false) ≡ true → 0 < running h by o
+    never : (b : Bool) → (b && false) ≡ true → 0 < running_calls_by h by o
     never true t = absurd (cc)
     never false t = absurd (cc)
 
-    go : (a : Ask) → ends_call by o (place_of config h (record e { ask = a })) ≡ true → 0 < running h by o
+    go : (a : Ask) → ends_call by o (place_of config h (record e { ask = a })) ≡ true → 0 < running_calls_by h by o
     go (Finish x made listed uid) t = here x t
     go (Abandon x) t = here x t
     go _ t = never _ t
@@ -70,26 +70,26 @@ count-step n false false f g = omega arith
 
 -- ONE MORE EVENT: a call that begins adds one, a call that ends takes one away.
 running_place : (config : SpaceConfig) (h : History) (e : Event) (by : ℕ) (o : ObjId) →
-    running (place_of config h e ∷ h) by o + one_if (ends_call by o (place_of config h e)) ≡ running h by o + one_if (begins_call by o (place_of config h e))
-unfolding running
+    running_calls_by (place_of config h e ∷ h) by o + one_if (ends_call by o (place_of config h e)) ≡ running_calls_by h by o + one_if (begins_call by o (place_of config h e))
+unfolding running_calls_by
 running_place config h e by o =
     let p = place_of config h e in
-    count-step (running h by o) (begins_call by o p) (ends_call by o p)
+    count-step (running_calls_by h by o) (begins_call by o p) (ends_call by o p)
     (λ b c. not_both o p.event.ask (and_parts (p.effective && p.event.by == by) (is_begin_of o p.event.ask) b).1 (and_parts (p.effective && p.event.by == by) (is_end_of o p.event.ask) c).1)
     (end_runs config h e by o)
 
-pub running-push : (config : SpaceConfig) (h : List Event) (e : Event) (by : ℕ) (o : ObjId) →
-    running (place_of config (places config h) e ∷ places config h) by o + one_if (ends_call by o (place_of config (places config h) e))
-    ≡ running (places config h) by o + one_if (begins_call by o (place_of config (places config h) e))
-running-push config h e by o = running_place config (places config h) e by o
+pub running_calls_by-push : (config : SpaceConfig) (h : List Event) (e : Event) (by : ℕ) (o : ObjId) →
+    running_calls_by (place_of config (places config h) e ∷ places config h) by o + one_if (ends_call by o (place_of config (places config h) e))
+    ≡ running_calls_by (places config h) by o + one_if (begins_call by o (place_of config (places config h) e))
+running_calls_by-push config h e by o = running_place config (places config h) e by o
 
-running_none : (by : ℕ) (o : ObjId) → running [] by o ≡ 0
-unfolding running
+running_none : (by : ℕ) (o : ObjId) → running_calls_by [] by o ≡ 0
+unfolding running_calls_by
 running_none by o = refl
 
 -- A connection's calls are its begins less its ends.
 running_back : (config : SpaceConfig) (es : List Event) (by : ℕ) (o : ObjId) →
-    running (places_back config es) by o + length (filter (ends_call by o) (places_back config es)) ≡ length (filter (begins_call by o) (places_back config es))
+    running_calls_by (places_back config es) by o + length (filter (ends_call by o) (places_back config es)) ≡ length (filter (begins_call by o) (places_back config es))
 unfolding places_back
 running_back config [] by o = let none = running_none by o in omega arith
 running_back config (e ∷ es) by o =
@@ -99,9 +99,9 @@ running_back config (e ∷ es) by o =
     let a = length-filter-cons (ends_call by o) (place_of config h e) h in
     let b = length-filter-cons (begins_call by o) (place_of config h e) h in omega arith
 
-pub running-counted : (config : SpaceConfig) (events : List Event) → RunningIsCounted config events
+pub running_calls_by-counted : (config : SpaceConfig) (events : List Event) → RunningIsCounted config events
 unfolding places
-running-counted config events by o = running_back config (reverse events) by o
+running_calls_by-counted config events by o = running_back config (reverse events) by o
 
 -- Never more ends than begins.
 pub balanced : (config : SpaceConfig) (es : List Event) (by : ℕ) (o : ObjId) →
@@ -133,12 +133,12 @@ ended_by h o =
 
 -- The calls of each are the begins of all less the ends of all.
 each_running : (config : SpaceConfig) (es : List Event) (o : ObjId) →
-    sum_by (λ by. running (places_back config es) by o) (connections (places_back config es)) + length (filter (ends_any o) (places_back config es))
+    sum_by (λ by. running_calls_by (places_back config es) by o) (connections (places_back config es)) + length (filter (ends_any o) (places_back config es))
     ≡ length (filter (begins_any o) (places_back config es))
 each_running config es o =
     let h = places_back config es in
-    let differ = sum_by-plus (λ by. running h by o) (λ by. length (filter (ends_call by o) h)) (connections h) in
-    let begins = sum_by-same (λ by. running h by o + length (filter (ends_call by o) h)) (λ by. length (filter (begins_call by o) h)) (λ by. running_back config es by o) (connections h) in
+    let differ = sum_by-plus (λ by. running_calls_by h by o) (λ by. length (filter (ends_call by o) h)) (connections h) in
+    let begins = sum_by-same (λ by. running_calls_by h by o + length (filter (ends_call by o) h)) (λ by. length (filter (begins_call by o) h)) (λ by. running_back config es by o) (connections h) in
     let one = begun_by h o in let other = ended_by h o in omega arith
 
 -- A call ends only where one runs.
@@ -208,8 +208,8 @@ unfolding is_running
 is_running-calls h o = refl
 
 -- A connection that never asked runs none.
-never_asked : (h : History) (by : ℕ) (o : ObjId) → list_any (λ c. by == c) (map (λ (p : Place). p.event.by) h) ≡ false → running h by o ≡ 0
-unfolding running
+never_asked : (h : History) (by : ℕ) (o : ObjId) → list_any (λ c. by == c) (map (λ (p : Place). p.event.by) h) ≡ false → running_calls_by h by o ≡ 0
+unfolding running_calls_by
 never_asked [] by o a = refl
 never_asked (p ∷ h) by o a =
     let two = or_parts (by == p.event.by) (list_any (λ c. by == c) (map (λ (q : Place). q.event.by) h)) a in
@@ -223,8 +223,8 @@ never_asked (p ∷ h) by o a =
     none true y = refl
     none false y = refl
 
-    go : (b : Bool) → b ≡ false → running h by o ≡ 0 →
-        counted (p.effective && b && is_begin_of o p.event.ask) (p.effective && b && is_end_of o p.event.ask) (running h by o) ≡ 0
+    go : (b : Bool) → b ≡ false → running_calls_by h by o ≡ 0 →
+        counted (p.effective && b && is_begin_of o p.event.ask) (p.effective && b && is_end_of o p.event.ask) (running_calls_by h by o) ≡ 0
     go true q r = absurd (true≢false q)
     go false q r = rw (none p.effective (is_begin_of o p.event.ask), none p.effective (is_end_of o p.event.ask)) r
 
@@ -244,24 +244,24 @@ runs_some (c ∷ xs) f by h r = elim (or_cases (by == c) (list_any (λ x. by == 
 
 -- The calls of all connections are the sum of the calls of each.
 calls-sum : (config : SpaceConfig) (es : List Event) (o : ObjId) →
-    running_calls (places_back config es) o ≡ sum_by (λ by. running (places_back config es) by o) (connections (places_back config es))
+    running_calls (places_back config es) o ≡ sum_by (λ by. running_calls_by (places_back config es) by o) (connections (places_back config es))
 calls-sum config es o = let one = running_calls_back config es o in let other = each_running config es o in omega arith
 
-connections-any : (h : History) (o : ObjId) → list_any (λ by. nat_lt 0 (running h by o)) (connections h) ≡ list_any (λ by. nat_lt 0 (running h by o)) (map (λ (p : Place). p.event.by) h)
+connections-any : (h : History) (o : ObjId) → list_any (λ by. nat_lt 0 (running_calls_by h by o)) (connections h) ≡ list_any (λ by. nat_lt 0 (running_calls_by h by o)) (map (λ (p : Place). p.event.by) h)
 connections-any h o =
-    list_any-distinct (λ a b. a == b) (λ by. nat_lt 0 (running h by o)) (λ x y e. ap (λ n. nat_lt 0 (running h n o)) ((Decides-eqb x y).0 e)) (map (λ (p : Place). p.event.by) h)
+    list_any-distinct (λ a b. a == b) (λ by. nat_lt 0 (running_calls_by h by o)) (λ x y e. ap (λ n. nat_lt 0 (running_calls_by h n o)) ((Decides-eqb x y).0 e)) (map (λ (p : Place). p.event.by) h)
 
 -- SOME CONNECTION runs a call exactly where the count is not 0.
 running_some : (config : SpaceConfig) (es : List Event) (o : ObjId) → (is_running (places_back config es) o ≡ true) ↔ SomeConnectionRuns (places_back config es) o
-running_some config es o = (λ r. some_runs (map (λ (p : Place). p.event.by) h) (λ c. running h c o) (sym any ∙ r), λ s. any ∙ runs_some (map (λ (p : Place). p.event.by) h) (λ c. running h c o) s.0 (asked s.0 s.1 (list_any (λ c. s.0 == c) (map (λ (p : Place). p.event.by) h)) refl) s.1)
+running_some config es o = (λ r. some_runs (map (λ (p : Place). p.event.by) h) (λ c. running_calls_by h c o) (sym any ∙ r), λ s. any ∙ runs_some (map (λ (p : Place). p.event.by) h) (λ c. running_calls_by h c o) s.0 (asked s.0 s.1 (list_any (λ c. s.0 == c) (map (λ (p : Place). p.event.by) h)) refl) s.1)
   where
     h : History
     h = places_back config es
 
-    any : is_running h o ≡ list_any (λ by. nat_lt 0 (running h by o)) (map (λ (p : Place). p.event.by) h)
-    any = is_running-calls h o ∙ ap (nat_lt 0) (calls-sum config es o) ∙ sym (list_any-sum_by (λ by. running h by o) (connections h)) ∙ connections-any h o
+    any : is_running h o ≡ list_any (λ by. nat_lt 0 (running_calls_by h by o)) (map (λ (p : Place). p.event.by) h)
+    any = is_running-calls h o ∙ ap (nat_lt 0) (calls-sum config es o) ∙ sym (list_any-sum_by (λ by. running_calls_by h by o) (connections h)) ∙ connections-any h o
 
-    asked : (by : ℕ) → 0 < running h by o → (b : Bool) → list_any (λ c. by == c) (map (λ (p : Place). p.event.by) h) ≡ b → b ≡ true
+    asked : (by : ℕ) → 0 < running_calls_by h by o → (b : Bool) → list_any (λ c. by == c) (map (λ (p : Place). p.event.by) h) ≡ b → b ≡ true
     asked by r true a = refl
     asked by r false a = absurd (let none = never_asked h by o a in omega arith)
 
@@ -377,11 +377,11 @@ starts_and_ends config es =
     omega arith
 
 -- The reserved units after one more event.
-pub reserved-push : (config : SpaceConfig) (h : List Event) (e : Event) →
-    reserved (place_of config (places config h) e ∷ places config h) + one_if (ends (place_of config (places config h) e))
-    ≡ reserved (places config h) + one_if (starts (place_of config (places config h) e))
-unfolding reserved places places_back
-reserved-push config h e =
+pub reserved_units-push : (config : SpaceConfig) (h : List Event) (e : Event) →
+    reserved_units (place_of config (places config h) e ∷ places config h) + one_if (ends (place_of config (places config h) e))
+    ≡ reserved_units (places config h) + one_if (starts (place_of config (places config h) e))
+unfolding reserved_units places places_back
+reserved_units-push config h e =
     let before = starts_and_ends config (reverse h) in let after = starts_and_ends config (e ∷ reverse h) in
     let a = length-filter-cons ends (place_of config (places_back config (reverse h)) e) (places_back config (reverse h)) in
     let b = length-filter-cons starts (place_of config (places_back config (reverse h)) e) (places_back config (reverse h)) in omega arith

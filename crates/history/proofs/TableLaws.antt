@@ -6,9 +6,9 @@ use Rattle.std.proofs.lemmas.List.Sums.{sum_by-cons}
 use Rattle.history.specs.declared.asks.SpaceConfig.{SpaceConfig}
 use Rattle.history.specs.declared.asks.Event.{Event}
 use Rattle.history.specs.declared.places.Place.{Place}
-use Rattle.history.specs.Places.{History, now, added}
+use Rattle.history.specs.Places.{History, now, ever_exported}
 use Rattle.history.specs.Limits.{units_of, units}
-use Rattle.history.specs.Table.{is_kept, table, place_of, places_back, places, withdrawn}
+use Rattle.history.specs.Table.{is_kept, table, place_of, places_back, places, withdrawn_objects}
 
 -- ---- places
 
@@ -64,9 +64,9 @@ moment-place_of config h e = refl
 
 -- ---- the table
 
-pub added-push : (p : Place) (h : History) → added (p ∷ h) ≡ added h ++ p.exported_here
-unfolding added
-added-push p h = refl
+pub ever_exported-push : (p : Place) (h : History) → ever_exported (p ∷ h) ≡ ever_exported h ++ p.exported_here
+unfolding ever_exported
+ever_exported-push p h = refl
 
 -- THE STEP: the table after one more event has those objects of the table before it, and of those that the event exports, that are
 -- kept now.
@@ -86,10 +86,10 @@ unfolding table
 table-none config = refl
 
 -- What the event withdraws is the rest of them.
-pub withdrawn-place : (config : SpaceConfig) (h : History) (e : Event) →
-    withdrawn config (place_of config h e ∷ h) ≡ filter (λ x. not (is_kept config (place_of config h e ∷ h) x)) (table config h ++ (place_of config h e).exported_here)
-unfolding withdrawn place_of
-withdrawn-place config h e = refl
+pub withdrawn_objects-place : (config : SpaceConfig) (h : History) (e : Event) →
+    withdrawn_objects config (place_of config h e ∷ h) ≡ filter (λ x. not (is_kept config (place_of config h e ∷ h) x)) (table config h ++ (place_of config h e).exported_here)
+unfolding withdrawn_objects place_of
+withdrawn_objects-place config h e = refl
 
 -- ---- units
 

@@ -21,12 +21,12 @@ return_uid (Lookup name uid) = Some uid
 return_uid _ = None
 
 -- The references that a place returns.
-abbrev pub returned : Place → List Returned
-returned p = flat_map (λ u. map (λ o. record { object = o; uid = u }) p.returned_here) (option_to_list (return_uid p.event.ask))
+abbrev pub returned_references : Place → List Returned
+returned_references p = flat_map (λ u. map (λ o. record { object = o; uid = u }) p.returned_here) (option_to_list (return_uid p.event.ask))
 
 -- The place returns the reference.
 abbrev pub returns : Returned → Place → Bool
-returns r p = list_any (same_returned r) (returned p)
+returns r p = list_any (same_returned r) (returned_references p)
 
 -- An acknowledgement of the return.
 abbrev pub is_ack_of : Uid → Ask → Bool
@@ -48,16 +48,16 @@ awaits ack t h r = nat_lt t (until_of ack h r)
 -- The references that were ever returned, those of the newest place first.
 unfoldable pub references : History → List Returned
 references [] = []
-references (p ∷ before) = returned p ++ references before
+references (p ∷ before) = returned_references p ++ references before
 
 -- The references that await at the moment t, each once.
-unfoldable pub awaiting : ℕ → ℕ → History → List Returned
-awaiting ack t h = distinct same_returned (filter (awaits ack t h) (references h))
+unfoldable pub awaiting_references : ℕ → ℕ → History → List Returned
+awaiting_references ack t h = distinct same_returned (filter (awaits ack t h) (references h))
 
 -- Those of them that are references to an object.
-unfoldable pub awaiting_of : ℕ → ℕ → History → ObjId → List Returned
-awaiting_of ack t h o = filter (λ r. same_id r.object o) (awaiting ack t h)
+unfoldable pub awaiting_references_to : ℕ → ℕ → History → ObjId → List Returned
+awaiting_references_to ack t h o = filter (λ r. same_id r.object o) (awaiting_references ack t h)
 
 -- Some reference to the object awaits at the moment t.
 unfoldable pub is_awaited : ℕ → ℕ → History → ObjId → Bool
-is_awaited ack t h o = list_any (λ r. same_id r.object o) (awaiting ack t h)
+is_awaited ack t h o = list_any (λ r. same_id r.object o) (awaiting_references ack t h)

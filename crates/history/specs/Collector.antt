@@ -12,7 +12,7 @@ use Rattle.history.specs.Leases.{calls_of, holds}
 use Rattle.history.specs.LeaseCalls.{lease_calls}
 use Rattle.history.specs.Awaiting.{until_of}
 use Rattle.history.specs.Names.{stands_for}
-use Rattle.history.specs.Table.{is_kept, table, place_of, places, withdrawn, with_event}
+use Rattle.history.specs.Table.{is_kept, table, place_of, places, withdrawn_objects, with_event}
 use Rattle.history.specs.Laws.{SomeConnectionRuns}
 
 -- ---- why an object is kept
@@ -53,5 +53,5 @@ table_and_exports config h e = table config (places config h) ++ (place_of confi
 pub record Collects (config : SpaceConfig) (h : List Event) (e : Event) (h2 : List Event) : Type 0 where
   pub after : h2 ≡ with_event h e
   pub stays : table config (places config h2) ≡ filter (is_kept config (places config h2)) (table_and_exports config h e)
-  pub goes : withdrawn config (places config h2) ≡ filter (λ x. not (is_kept config (places config h2) x)) (table_and_exports config h e)
+  pub goes : withdrawn_objects config (places config h2) ≡ filter (λ x. not (is_kept config (places config h2) x)) (table_and_exports config h e)
   pub kept : (x : Exported) → (is_kept config (places config h2) x ≡ true) ↔ IsNeeded config (places config h2) x

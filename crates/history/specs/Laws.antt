@@ -9,12 +9,12 @@ use Rattle.history.specs.declared.places.Place.{Place}
 use Rattle.history.specs.declared.places.Exported.{Exported}
 use Rattle.history.specs.declared.places.Returned.{Returned}
 use Rattle.history.specs.Lists.{distinct, option_any}
-use Rattle.history.specs.Places.{History, has, added, id_at, next}
-use Rattle.history.specs.Running.{begins_call, ends_call, begins_any, ends_any, running, running_calls, is_running}
+use Rattle.history.specs.Places.{History, has, ever_exported, id_at, exported_count}
+use Rattle.history.specs.Running.{begins_call, ends_call, begins_any, ends_any, running_calls_by, running_calls, is_running}
 use Rattle.history.specs.Awaiting.{returns, is_ack_of, awaits}
 use Rattle.history.specs.Names.{name_bound, object_bound, is_unbind_of, changes_name, stands_for, names}
 use Rattle.history.specs.Table.{is_kept, table, place_of, places, withdrawals}
-use Rattle.history.specs.Replies.{is_abandon, gone}
+use Rattle.history.specs.Replies.{is_abandon, gone_objects}
 
 -- ---- the table: what was kept ever since its export
 
@@ -25,20 +25,20 @@ prefixes (p ∷ before) = (p ∷ before) ∷ prefixes before
 
 -- An object is kept at every prefix of a history that has exported it.
 abbrev pub is_kept_since_export : (History → Exported → Bool) → History → Exported → Bool
-is_kept_since_export kept h x = list_all (λ g. not (has (added g) x.id) || kept g x) (prefixes h)
+is_kept_since_export kept h x = list_all (λ g. not (has (ever_exported g) x.id) || kept g x) (prefixes h)
 
 -- The table has those of all objects ever exported that are kept at every prefix from their export on.
 abbrev pub TableIsKept : SpaceConfig → List Event → Type 0
 TableIsKept config events =
-    table config (places config events) ≡ filter (is_kept_since_export (is_kept config) (places config events)) (added (places config events))
+    table config (places config events) ≡ filter (is_kept_since_export (is_kept config) (places config events)) (ever_exported (places config events))
 
 -- The next object is the k-th, from 0, where k objects were exported before it.
 abbrev pub NextIsCounted : History → Type 0
-NextIsCounted h = next h ≡ length (added h)
+NextIsCounted h = exported_count h ≡ length (ever_exported h)
 
 -- The k-th object, from 0, has the identifier of this number: none is given twice.
 abbrev pub IdsAreInOrder : SpaceConfig → List Event → Type 0
-IdsAreInOrder config events = (k : ℕ) (x : Exported) → slice_get (added (places config events)) k ≡ Some x → x.id ≡ id_at config.uid k
+IdsAreInOrder config events = (k : ℕ) (x : Exported) → slice_get (ever_exported (places config events)) k ≡ Some x → x.id ≡ id_at config.uid k
 
 -- ---- what awaits: since the last return
 
@@ -89,7 +89,7 @@ NamedIsExported config events =
 abbrev pub RunningIsCounted : SpaceConfig → List Event → Type 0
 RunningIsCounted config events =
     (by : ℕ) (o : ObjId) →
-    running (places config events) by o + length (filter (ends_call by o) (places config events)) ≡ length (filter (begins_call by o) (places config events))
+    running_calls_by (places config events) by o + length (filter (ends_call by o) (places config events)) ≡ length (filter (begins_call by o) (places config events))
 
 -- The connections that asked, each once.
 abbrev pub connections : History → List ℕ
@@ -98,7 +98,7 @@ connections h = distinct (λ a b. a == b) (map (λ p. p.event.by) h)
 -- What all connections run is the sum of what each runs.
 abbrev pub RunningIsSummed : SpaceConfig → List Event → Type 0
 RunningIsSummed config events =
-    (o : ObjId) → running_calls (places config events) o ≡ sum_by (λ by. running (places config events) by o) (connections (places config events))
+    (o : ObjId) → running_calls (places config events) o ≡ sum_by (λ by. running_calls_by (places config events) by o) (connections (places config events))
 
 abbrev pub AllRunningIsCounted : SpaceConfig → List Event → Type 0
 AllRunningIsCounted config events =
@@ -107,7 +107,7 @@ AllRunningIsCounted config events =
 
 -- A connection runs a call of the object.
 abbrev pub SomeConnectionRuns : History → ObjId → Type 0
-SomeConnectionRuns h o = (c : ℕ) × 0 < running h c o
+SomeConnectionRuns h o = (c : ℕ) × 0 < running_calls_by h c o
 
 abbrev pub RunningIsSome : SpaceConfig → List Event → Type 0
 RunningIsSome config events = (o : ObjId) → (is_running (places config events) o ≡ true) ↔ SomeConnectionRuns (places config events) o
@@ -115,8 +115,8 @@ RunningIsSome config events = (o : ObjId) → (is_running (places config events)
 -- ---- what a turn tells as gone: what was withdrawn after the last event that is no Abandon
 
 -- The place after the last event that is no Abandon.
-abbrev pub first_untold : History → ℕ
-first_untold h = unwrap_or (option_map (λ p. p.index + 1) (find (λ p. not (is_abandon p.event.ask)) h)) 0
+abbrev pub first_unreported : History → ℕ
+first_unreported h = unwrap_or (option_map (λ p. p.index + 1) (find (λ p. not (is_abandon p.event.ask)) h)) 0
 
 -- The objects that a history withdrew from this place on, in order.
 abbrev pub withdrawn_from : ℕ → SpaceConfig → History → List ObjId
@@ -124,4 +124,4 @@ withdrawn_from place config h = map (λ w. w.object) (filter (λ w. nat_le place
 
 abbrev pub GoneSinceLast : SpaceConfig → List Event → Event → Type 0
 GoneSinceLast config events e =
-    gone config (places config events) e ≡ withdrawn_from (first_untold (places config events)) config (place_of config (places config events) e ∷ places config events)
+    gone_objects config (places config events) e ≡ withdrawn_from (first_unreported (places config events)) config (place_of config (places config events) e ∷ places config events)

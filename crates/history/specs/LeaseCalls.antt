@@ -5,7 +5,7 @@ use Rattle.history.specs.declared.calls.Call.{Call}
 use Rattle.history.specs.declared.calls.CallKind.TheVariants.{Dirty as DirtyCall, Weak, Strong}
 use Rattle.history.specs.declared.asks.Ask.{Ask}
 use Rattle.history.specs.declared.asks.Ask.TheVariants.{Dirty, Clean}
-use Rattle.history.specs.Places.{History, has, added}
+use Rattle.history.specs.Places.{History, has, ever_exported}
 
 -- The lease call of an ask, with those of its objects that pass a test; none where it is no Dirty or Clean.
 abbrev pub call_with : (ObjId → Bool) → ℕ → Ask → List Call
@@ -18,4 +18,4 @@ call_with names moment _ = []
 -- The lease calls of a history, the newest first. A call names those of its objects that were exported before it.
 unfoldable pub lease_calls : History → List Call
 lease_calls [] = []
-lease_calls (p ∷ before) = call_with (has (added before)) p.moment p.event.ask ++ lease_calls before
+lease_calls (p ∷ before) = call_with (has (ever_exported before)) p.moment p.event.ask ++ lease_calls before

@@ -78,12 +78,12 @@ abbrev pub is_highest : List Call → Call → Bool
 is_highest calls x = not (list_any (λ y. is_higher y x) calls)
 
 -- The highest of some calls.
-abbrev pub highest : List Call → List Call
-highest calls = filter (is_highest calls) calls
+abbrev pub highest_calls : List Call → List Call
+highest_calls calls = filter (is_highest calls) calls
 
 -- The highest call is a dirty.
 unfoldable pub highest_is_dirty : List Call → Bool
-highest_is_dirty calls = list_any is_dirty (highest calls)
+highest_is_dirty calls = list_any is_dirty (highest_calls calls)
 
 -- The client holds an object at the moment t: it has time left, and the highest of the calls that count is a dirty.
 unfoldable pub holds : ℕ → ℕ → List Call → ObjId → Bool

@@ -11,12 +11,12 @@ use Rattle.history.specs.declared.replies.Refused.{Refused}
 use Rattle.history.specs.declared.replies.Refused.TheVariants.{HistoryFull, Full}
 use Rattle.history.specs.declared.places.Place.{Place}
 use Rattle.history.specs.declared.limits.Limits.{Limits}
-use Rattle.history.specs.declared.limits.TheConstants.{MAX_EXPORTS, MAX_AWAITING, MAX_CLIENTS, MAX_PAIRS, MAX_NAMES, MAX_UNITS}
+use Rattle.history.specs.declared.limits.TheConstants.{MAX_EXPORTS, MAX_AWAITING, MAX_CLIENTS, MAX_PAIRS, MAX_NAMES, MAX_HISTORY_UNITS}
 use Rattle.history.specs.Lists.{distinct}
 use Rattle.history.specs.Places.{History, has, now}
 use Rattle.history.specs.LeaseCalls.{call_with, lease_calls}
 use Rattle.history.specs.Leases.{is_dirty, clients_with_time_left, same_pair, pairs_with, new_pairs}
-use Rattle.history.specs.Awaiting.{same_returned, returned, awaiting}
+use Rattle.history.specs.Awaiting.{same_returned, returned_references, awaiting_references}
 use Rattle.history.specs.Names.{names, name_bound}
 use Rattle.history.specs.Replies.{ids}
 use Rattle.history.specs.Table.{table, place_of}
@@ -51,8 +51,8 @@ abbrev pub ends : Place → Bool
 ends p = p.effective && is_end p.event.ask
 
 -- Each running call has a unit reserved, for the event that ends it.
-unfoldable pub reserved : History → ℕ
-reserved h = length (filter starts h) - length (filter ends h)
+unfoldable pub reserved_units : History → ℕ
+reserved_units h = length (filter starts h) - length (filter ends h)
 
 -- ---- limits
 
@@ -64,7 +64,7 @@ limits = record {
   clients = MAX_CLIENTS;
   pairs = MAX_PAIRS;
   names = MAX_NAMES;
-  units = MAX_UNITS;
+  units = MAX_HISTORY_UNITS;
 }
 
 -- ---- how many entries each table has with an event: those of the history at the event's moment, and those that the event adds. An
@@ -78,7 +78,7 @@ exports_with_event config h e = length (table config h) + length (place_of confi
 unfoldable pub awaiting_with_event : SpaceConfig → History → Event → ℕ
 awaiting_with_event config h e =
     let p = place_of config h e in
-    length (distinct same_returned (awaiting config.ack_ms p.moment h ++ returned p))
+    length (distinct same_returned (awaiting_references config.ack_ms p.moment h ++ returned_references p))
 
 -- The lease call of an event, with those of its objects that are in the table.
 abbrev pub lease_call : SpaceConfig → History → Event → List Call
@@ -111,7 +111,7 @@ names_with_event config h e =
 unfoldable pub is_full : ℕ → SpaceConfig → History → Event → Bool
 is_full limit config h e =
     let p = place_of config h e in
-    nat_lt (limit + (if ends p then 1 else 0)) (units h + reserved h + units_of e.ask + (if starts p then 1 else 0))
+    nat_lt (limit + (if ends p then 1 else 0)) (units h + reserved_units h + units_of e.ask + (if starts p then 1 else 0))
 
 -- The first cause for which an event is refused after a history.
 unfoldable pub refusal : Limits → SpaceConfig → History → Event → Option Refused

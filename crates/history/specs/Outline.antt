@@ -10,7 +10,7 @@ use Rattle.history.specs.Places.{History, now}
 use Rattle.history.specs.Running.{running_calls}
 use Rattle.history.specs.LeaseCalls.{lease_calls}
 use Rattle.history.specs.Leases.{clients_with_time_left, lease_rows, holders, pairs_with}
-use Rattle.history.specs.Awaiting.{awaiting, awaiting_of}
+use Rattle.history.specs.Awaiting.{awaiting_references, awaiting_references_to}
 use Rattle.history.specs.Names.{names, names_of, stands_for}
 use Rattle.history.specs.Replies.{ids}
 use Rattle.history.specs.Limits.{units}
@@ -36,7 +36,7 @@ object_row config h x = record {
   kind = x.kind;
   pinned = x.pinned;
   running = running_calls h x.id;
-  awaiting = length (awaiting_of config.ack_ms (now h) h x.id);
+  awaiting = length (awaiting_references_to config.ack_ms (now h) h x.id);
   held = length (holders config.lease_ms (now h) (lease_calls h) x.id);
   names = length (names_of h x.id);
 }
@@ -87,6 +87,6 @@ summary config events =
     codes "objects" ∷ decimal (length (table config h))
     ∷ codes "clients" ∷ decimal (length (clients_with_time_left config.lease_ms (now h) (lease_calls h)))
     ∷ codes "pairs" ∷ decimal (length (pairs_with config.lease_ms (now h) (lease_calls h) (ids (table config h))))
-    ∷ codes "awaiting" ∷ decimal (length (awaiting config.ack_ms (now h) h))
+    ∷ codes "awaiting" ∷ decimal (length (awaiting_references config.ack_ms (now h) h))
     ∷ codes "names" ∷ decimal (length (names h))
     ∷ codes "withdrawn" ∷ decimal (length (withdrawals config h)) ∷ [])

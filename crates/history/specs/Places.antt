@@ -27,14 +27,14 @@ now [] = 0
 now (p ∷ before) = max p.event.moment (now before)
 
 -- All objects that were ever exported, in order.
-unfoldable pub added : History → List Exported
-added [] = []
-added (p ∷ before) = added before ++ p.exported_here
+unfoldable pub ever_exported : History → List Exported
+ever_exported [] = []
+ever_exported (p ∷ before) = ever_exported before ++ p.exported_here
 
 -- How many objects were ever exported. The next one gets this number, counted from 0.
-unfoldable pub next : History → ℕ
-next [] = 0
-next (p ∷ before) = next before + length p.exported_here
+unfoldable pub exported_count : History → ℕ
+exported_count [] = 0
+exported_count (p ∷ before) = exported_count before + length p.exported_here
 
 -- The identifier of the k-th object, from 0, that a space exports. The numbers from 0 to 15 are known to all.
 abbrev pub id_at : Uid → ℕ → ObjId

@@ -9,9 +9,9 @@ use Rattle.history.specs.declared.replies.Reply.{Reply}
 use Rattle.history.specs.declared.replies.Reply.TheVariants.{Opened, Started, NoObject, Finished, NotRunning, Granted, Done, Bound, AlreadyBound, Unbound, NotBound, Found, Names}
 use Rattle.history.specs.declared.places.Place.{Place}
 use Rattle.history.specs.declared.places.Exported.{Exported}
-use Rattle.history.specs.Places.{History, has, kind_of, next, id_at}
+use Rattle.history.specs.Places.{History, has, kind_of, exported_count, id_at}
 use Rattle.history.specs.Names.{names, stands_for}
-use Rattle.history.specs.Table.{table, place_of, withdrawn}
+use Rattle.history.specs.Table.{table, place_of, withdrawn_objects}
 
 -- The identifiers of some objects.
 abbrev pub ids : List Exported → List ObjId
@@ -24,7 +24,7 @@ reply_found objects (Some object) = Found object (kind_of objects object)
 
 -- The reply to an event after a history. An effective one is answered by what it did.
 abbrev pub reply_to : SpaceConfig → History → Place → Ask → Reply
-reply_to config h p (Open kind pinned) = Opened (id_at config.uid (next h))
+reply_to config h p (Open kind pinned) = Opened (id_at config.uid (exported_count h))
 reply_to config h p (Begin object) = if p.effective then Started (kind_of (table config h) object) else NoObject
 reply_to config h p (Finish object made listed uid) = if p.effective then Finished (ids p.exported_here) else NotRunning
 reply_to config h p (Abandon object) = if p.effective then Done else NotRunning
@@ -45,11 +45,11 @@ abbrev pub is_abandon : Ask → Bool
 is_abandon (Abandon object) = true
 is_abandon _ = false
 
--- The objects that a history has still to tell as gone: those withdrawn since its last event that is no Abandon, in order.
-unfoldable pub pending : SpaceConfig → History → List ObjId
-pending config [] = []
-pending config (p ∷ before) = if is_abandon p.event.ask then pending config before ++ ids (withdrawn config (p ∷ before)) else []
+-- The objects that a history has still to report as gone: those withdrawn since its last event that is no Abandon, in order.
+unfoldable pub unreported_objects : SpaceConfig → History → List ObjId
+unreported_objects config [] = []
+unreported_objects config (p ∷ before) = if is_abandon p.event.ask then unreported_objects config before ++ ids (withdrawn_objects config (p ∷ before)) else []
 
--- The objects that the next event tells as gone: those still to be told, and those that it withdraws.
-unfoldable pub gone : SpaceConfig → History → Event → List ObjId
-gone config h e = pending config h ++ ids (withdrawn config (place_of config h e ∷ h))
+-- The objects that the next event reports as gone: those still to be reported, and those that it withdraws.
+unfoldable pub gone_objects : SpaceConfig → History → Event → List ObjId
+gone_objects config h e = unreported_objects config h ++ ids (withdrawn_objects config (place_of config h e ∷ h))

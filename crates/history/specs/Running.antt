@@ -27,12 +27,12 @@ abbrev pub ends_call : ℕ → ObjId → Place → Bool
 ends_call by o p = p.effective && p.event.by == by && is_end_of o p.event.ask
 
 -- How many calls of the object the connection runs: an effective Begin adds one, an effective Finish or Abandon ends one.
-unfoldable pub running : History → ℕ → ObjId → ℕ
-running [] by o = 0
-running (p ∷ before) by o =
-    if begins_call by o p then running before by o + 1
-    else if ends_call by o p then running before by o - 1
-    else running before by o
+unfoldable pub running_calls_by : History → ℕ → ObjId → ℕ
+running_calls_by [] by o = 0
+running_calls_by (p ∷ before) by o =
+    if begins_call by o p then running_calls_by before by o + 1
+    else if ends_call by o p then running_calls_by before by o - 1
+    else running_calls_by before by o
 
 -- The place begins a call of the object for some connection.
 abbrev pub begins_any : ObjId → Place → Bool

@@ -7,12 +7,12 @@ use Rattle.history.specs.declared.replies.Refused.{Refused}
 use Rattle.history.specs.declared.replies.Refused.TheVariants.{OutOfMemory}
 use Rattle.history.specs.declared.limits.Limits.{Limits}
 use Rattle.history.specs.Limits.{limits, refusal}
-use Rattle.history.specs.Replies.{reply, gone}
+use Rattle.history.specs.Replies.{reply, gone_objects}
 use Rattle.history.specs.Table.{places, with_event}
 
 -- The turn of an event that is taken after a history.
 abbrev pub turn_of : SpaceConfig → List Event → Event → Turn
-turn_of config h e = record { place = length h; reply = reply config (places config h) e; gone = gone config (places config h) e }
+turn_of config h e = record { place = length h; reply = reply config (places config h) e; gone = gone_objects config (places config h) e }
 
 -- The answer to an event, where memory is never wanting: a turn, or the cause for which it is refused.
 abbrev pub answer_with : SpaceConfig → List Event → Event → Option Refused → Result Turn Refused

@@ -1,6 +1,8 @@
 //! What a space is asked.
-ghost use Rattle.std.specs.Prelude.{◌≡◌, ◌↔◌, false, IfOk, IsTrue};
+ghost use Rattle.std.specs.Prelude.{◌≡◌, ◌≤◌, ◌^◌, ◌↔◌, false, IfOk, IsTrue};
 ghost use Rattle.history.specs.Asks.{has_lists};
+ghost use Rattle.history.specs.Limits as limit_words;
+ghost use Rattle.history.specs.Replies as reply_words;
 
 use crate::names::Name;
 use object_ids::{ObjId, ObjIds, Uid, Vmid};
@@ -98,6 +100,72 @@ pub struct Event {
 
 /// A list of events.
 pub type EventList = Sequence<Event>;
+
+// ---- units, beginnings and ends
+
+/// How many units an event has.
+pub fn units_of(ask: &Ask) -> u64
+    ensures value { result ≡ limit_words.units_of ask.now }
+    ensures bound { result ≤ 2 ^ 63 }
+{
+    match ask {
+        Ask::Finish {
+            object: _,
+            made,
+            listed,
+            uid: _,
+        } => 1 + made.as_slice().len() as u64 + listed.as_slice().len() as u64,
+        Ask::Dirty {
+            client: _,
+            number: _,
+            asked: _,
+            objects,
+        } => 1 + objects.as_slice().len() as u64,
+        Ask::Clean {
+            client: _,
+            number: _,
+            objects,
+            strong: _,
+        } => 1 + objects.as_slice().len() as u64,
+        _ => 1,
+    }
+}
+
+/// Whether an ask begins a call.
+pub fn is_begin(ask: &Ask) -> bool
+    ensures { result ≡ limit_words.is_begin ask.now }
+{
+    match ask {
+        Ask::Begin { object: _ } => true,
+        _ => false,
+    }
+}
+
+/// Whether an ask ends a call, by a return or without one.
+pub fn is_end(ask: &Ask) -> bool
+    ensures { result ≡ limit_words.is_end ask.now }
+{
+    match ask {
+        Ask::Finish {
+            object: _,
+            made: _,
+            listed: _,
+            uid: _,
+        } => true,
+        Ask::Abandon { object: _ } => true,
+        _ => false,
+    }
+}
+
+/// Whether an ask ends a call without a return.
+pub fn is_abandon(ask: &Ask) -> bool
+    ensures { result ≡ reply_words.is_abandon ask.now }
+{
+    match ask {
+        Ask::Abandon { object: _ } => true,
+        _ => false,
+    }
+}
 
 // ---- copies of the asks with lists
 

@@ -4,11 +4,11 @@
 
 pub mod asks;
 pub mod calls;
+pub mod equality;
 pub mod laws;
 pub mod limits;
 pub mod names;
 pub mod places;
-pub mod plain;
 pub mod replies;
 
 pub use asks::{Ask, Event, EventList, SpaceConfig};

@@ -1,5 +1,5 @@
 //! The limits of a space and of its configuration.
-ghost use Rattle.std.specs.Prelude.{◌≡◌};
+ghost use Rattle.std.specs.Prelude.{◌≡◌, ◌+◌, ◌^◌, ◌<◌, ◌≤◌, nat_lt, if◌then◌else◌};
 
 /// The most units of a name.
 pub const MAX_NAME_UNITS: usize = 255;
@@ -14,13 +14,13 @@ pub const MAX_PAIRS: u64 = 262_144;
 /// The most bound names.
 pub const MAX_NAMES: u64 = 4_096;
 /// The most units of a history, those reserved for running calls included.
-pub const MAX_UNITS: u64 = 4_194_304;
+pub const MAX_HISTORY_UNITS: u64 = 4_194_304;
 /// The longest lease and the longest time to acknowledge, in milliseconds. The shortest is 1.
-pub const MAX_DURATION: u64 = 1 << 40;
+pub const MAX_DURATION_MS: u64 = 1 << 40;
 /// Each event's moment is below this one, in milliseconds.
 pub const END_OF_TIME: u64 = 1 << 62;
 /// The exported objects of a whole history are fewer.
-pub const END_OF_NUMBERS: u64 = 1 << 62;
+pub const END_OF_OBJECT_COUNT: u64 = 1 << 62;
 
 /// The most entries of each table, and the most units of a history.
 #[derive(Clone, Copy, Debug, PartialEq, Eq)]
@@ -46,7 +46,22 @@ impl Limits {
             clients: MAX_CLIENTS,
             pairs: MAX_PAIRS,
             names: MAX_NAMES,
-            units: MAX_UNITS,
+            units: MAX_HISTORY_UNITS,
         }
     }
+}
+
+fn one_if(test: bool) -> u128
+    ensures value { result ≡ (if test then 1 else 0) }
+    ensures bound { result ≤ 1 }
+{
+    if test { 1 } else { 0 }
+}
+
+/// Whether so many units, and one more if a call starts, pass a limit, and one more if a call ends.
+pub fn is_past(limit: u64, used: u128, starts: bool, ends: bool) -> bool
+    requires { used < 2 ^ 127 }
+    ensures { result ≡ nat_lt (limit + (if ends then 1 else 0)) (used + (if starts then 1 else 0)) }
+{
+    u128::from(limit) + one_if(ends) < used + one_if(starts)
 }

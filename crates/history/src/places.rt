@@ -1,4 +1,7 @@
 //! What is said of the places of a history.
+ghost use Rattle.std.specs.Prelude.{◌≡◌, ◌<◌};
+ghost use Rattle.history.specs.Places as words;
+ghost use Rattle.history.specs.declared.limits.TheConstants.{END_OF_OBJECT_COUNT};
 
 use crate::asks::Event;
 use object_ids::{ObjId, ObjIds, Uid};
@@ -32,6 +35,17 @@ impl TryCopy for Exported {
 impl Same for Exported {
     fn is_same(&self, other: &Exported) -> bool {
         self.id.is_same(&other.id) && self.kind == other.kind && self.pinned == other.pinned
+    }
+}
+
+/// The identifier of the k-th object, from 0, that a space exports.
+pub fn id_at(space: Uid, k: u64) -> ObjId
+    requires { k < END_OF_OBJECT_COUNT }
+    ensures { result ≡ words.id_at space k }
+{
+    ObjId {
+        number: (16 + k) as i64,
+        space,
     }
 }
 

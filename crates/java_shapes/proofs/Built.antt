@@ -8,7 +8,7 @@ use Rattle.class_desc.specs.declared.field.TypeCode.TheVariants as types
 use Rattle.class_desc.specs.declared.known_class.PartField.{PartField}
 use Rattle.class_desc.specs.declared.known_class.KnownClass.{KnownClass}
 use Rattle.class_desc.specs.declared.known_class.KnownClass.TheVariants as known
-use Rattle.class_desc.specs.KnownClass.{parts_of, plain, typed}
+use Rattle.class_desc.specs.KnownClass.{parts_of, plain_field, typed_field}
 use Rattle.object_ids.specs.declared.ids.Uid.{Uid}
 use Rattle.object_ids.specs.Client.{Client}
 use Rattle.object_ids.specs.declared.limits.TheConstants.{MAX_ADDRESS_BYTES}
@@ -93,7 +93,7 @@ uid_told s t u uid = refl
 
 pub uid_seen : (nodes : List Node) (uid : Uid) (s : Slot) → UidAt nodes uid s → uid_at nodes s ≡ Some uid
 uid_seen nodes uid s h =
-    let t = three_types nodes (plain types.S (codes "count")) (plain types.J (codes "time")) (plain types.I (codes "unique")) h.own.texts h.own.typed in
+    let t = three_types nodes (plain_field types.Short (codes "count")) (plain_field types.Long (codes "time")) (plain_field types.Int (codes "unique")) h.own.texts h.own.typed in
     let own = own_seen nodes (codes "java.rmi.server.UID") known.Uid h.class s (record { values = uid_values uid; note = [] }) h.own h.is same_uid_name in
     rw (own, t.3) (uid_told t.0 t.1 t.2 uid)
 
@@ -117,13 +117,13 @@ parts_told nodes held place slot addr uid a b c d = rw (a, b, c, d) refl
 
 pub vmid_seen : (nodes : List Node) (vmid : Client) (s : Slot) → VmidAt nodes vmid s → nat_le (length vmid.addr) MAX_ADDRESS_BYTES ≡ true → vmid_at nodes s ≡ Some vmid
 vmid_seen nodes vmid s h short =
-    let t = two_types nodes (typed types.Array (codes "addr") (codes "[B")) (typed types.Object (codes "uid") (codes "Ljava/rmi/server/UID;")) h.own.texts h.own.typed in
+    let t = two_types nodes (typed_field types.Array (codes "addr") (codes "[B")) (typed_field types.Object (codes "uid") (codes "Ljava/rmi/server/UID;")) h.own.texts h.own.typed in
     let own = own_seen nodes (codes "java.rmi.dgc.VMID") known.Vmid h.class s (record { values = values.Ref h.addr ∷ values.Ref h.uid ∷ []; note = [] }) h.own h.is same_vmid_name in
     let parts : vmid_parts_at nodes s ≡ Some (vmid.addr, vmid.uid) = rw (own, t.2)
     (parts_told nodes _ h.addr h.uid vmid.addr vmid.uid (addr_told t.0 t.1 h.addr h.uid) (id_told t.0 t.1 h.addr h.uid) (bytes_seen nodes vmid.addr h.addr h.addr_is) (uid_seen nodes vmid.uid h.uid h.uid_is)) in
     rw (parts, short) refl
 
-lease_told : (s t client : Slot) (value : ℤ) → lease_parts (held_of known.Lease (s ∷ t ∷ []) (values.J value ∷ values.Ref client ∷ [])) ≡ Some (value, client)
+lease_told : (s t client : Slot) (value : ℤ) → lease_parts (held_of known.Lease (s ∷ t ∷ []) (values.Long value ∷ values.Ref client ∷ [])) ≡ Some (value, client)
 unfolding lease_parts value_of same_text
 lease_told s t client value = refl
 
@@ -133,8 +133,8 @@ not_null nodes vmid (slots.Node k) h = rw h refl
 
 pub lease_seen : (nodes : List Node) (value : ℤ) (vmid : Client) (s : Slot) → LeaseAt nodes value vmid s → nat_le (length vmid.addr) MAX_ADDRESS_BYTES ≡ true → lease_at nodes s ≡ Some (record { value = value; vmid = Some vmid })
 lease_seen nodes value vmid s h short =
-    let t = two_types nodes (plain types.J (codes "value")) (typed types.Object (codes "vmid") (codes "Ljava/rmi/dgc/VMID;")) h.own.texts h.own.typed in
-    let own = own_seen nodes (codes "java.rmi.dgc.Lease") known.Lease h.class s (record { values = values.J value ∷ values.Ref h.client ∷ []; note = [] }) h.own h.is same_lease_name in
+    let t = two_types nodes (plain_field types.Long (codes "value")) (typed_field types.Object (codes "vmid") (codes "Ljava/rmi/dgc/VMID;")) h.own.texts h.own.typed in
+    let own = own_seen nodes (codes "java.rmi.dgc.Lease") known.Lease h.class s (record { values = values.Long value ∷ values.Ref h.client ∷ []; note = [] }) h.own h.is same_lease_name in
     let parts : lease_parts_at nodes s ≡ Some (value, h.client) = rw (own, t.2) (lease_told t.0 t.1 h.client value) in
     rw (parts, not_null nodes vmid h.client (vmid_seen nodes vmid h.client h.client_is short)) refl
 

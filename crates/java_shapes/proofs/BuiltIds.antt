@@ -6,7 +6,7 @@ use Rattle.class_desc.specs.declared.slot.Slot.{Slot}
 use Rattle.class_desc.specs.declared.slot.Slot.TheVariants as slots
 use Rattle.class_desc.specs.declared.field.TypeCode.TheVariants as types
 use Rattle.class_desc.specs.declared.known_class.KnownClass.TheVariants as known
-use Rattle.class_desc.specs.KnownClass.{parts_of, plain, typed}
+use Rattle.class_desc.specs.KnownClass.{parts_of, plain_field, typed_field}
 use Rattle.object_ids.specs.declared.ids.Uid.{Uid}
 use Rattle.object_ids.specs.declared.ids.ObjId.{ObjId}
 use Rattle.ser_values.specs.declared.fault.BuildFault.{BuildFault}
@@ -28,7 +28,7 @@ id_grown : {n : ℕ} {a b : List Node} (g : Grows n a b) (ic uc : Slot) (id : Ob
 id_grown g ic uc id s h = record {
   space = h.space;
   space_is = node_grown g h.space (Object (number_of uc) (one_part (uid_values id.space))) h.space_is;
-  is = node_grown g s (Object (number_of ic) (one_part (values.J id.number ∷ values.Ref h.space ∷ []))) h.is;
+  is = node_grown g s (Object (number_of ic) (one_part (values.Long id.number ∷ values.Ref h.space ∷ []))) h.is;
 }
 
 pub ids_grown : {n : ℕ} {a b : List Node} (g : Grows n a b) (ic uc : Slot) (ids : List ObjId) (ss : List Slot) → AreIds a ic uc ids ss → AreIds b ic uc ids ss
@@ -56,25 +56,25 @@ same_ids_name : same_text (codes "[Ljava.rmi.server.ObjID;") (codes "[Ljava.rmi.
 unfolding same_text
 same_ids_name = refl
 
-number_told : (s t space : Slot) (number : ℤ) → as_long (value_of (held_of known.ObjId (s ∷ t ∷ []) (values.J number ∷ values.Ref space ∷ [])) types.J (codes "objNum")) ≡ Some number
+number_told : (s t space : Slot) (number : ℤ) → as_long (value_of (held_of known.ObjId (s ∷ t ∷ []) (values.Long number ∷ values.Ref space ∷ [])) types.Long (codes "objNum")) ≡ Some number
 unfolding value_of same_text
 number_told s t space number = refl
 
-space_told : (s t space : Slot) (number : ℤ) → as_slot (value_of (held_of known.ObjId (s ∷ t ∷ []) (values.J number ∷ values.Ref space ∷ [])) types.Object (codes "space")) ≡ Some space
+space_told : (s t space : Slot) (number : ℤ) → as_slot (value_of (held_of known.ObjId (s ∷ t ∷ []) (values.Long number ∷ values.Ref space ∷ [])) types.Object (codes "space")) ≡ Some space
 unfolding value_of same_text
 space_told s t space number = refl
 
-objid_is : (nodes : List Node) (held : Held) (number : ℤ) (slot : Slot) (space : Uid) → as_long (value_of held types.J (codes "objNum")) ≡ Some number → as_slot (value_of held types.Object (codes "space")) ≡ Some slot
+objid_is : (nodes : List Node) (held : Held) (number : ℤ) (slot : Slot) (space : Uid) → as_long (value_of held types.Long (codes "objNum")) ≡ Some number → as_slot (value_of held types.Object (codes "space")) ≡ Some slot
     → uid_at nodes slot ≡ Some space → objid_of nodes held ≡ Some (record { number = number; space = space })
 unfolding objid_of
 objid_is nodes held number slot space a b c = rw (a, b, c) refl
 
 id_seen : (nodes : List Node) (ic uc : Slot) (id : ObjId) (s : Slot) → IsClassAt nodes known.ObjId slots.Null ic → IsClassAt nodes known.Uid slots.Null uc → ObjIdAt nodes ic uc id s → objid_at nodes s ≡ Some id
 id_seen nodes ic uc id s i u h =
-    let t = two_types nodes (plain types.J (codes "objNum")) (typed types.Object (codes "space") (codes "Ljava/rmi/server/UID;")) i.texts i.typed in
-    let own = own_seen nodes (codes "java.rmi.server.ObjID") known.ObjId ic s (record { values = values.J id.number ∷ values.Ref h.space ∷ []; note = [] }) i h.is same_id_name in
+    let t = two_types nodes (plain_field types.Long (codes "objNum")) (typed_field types.Object (codes "space") (codes "Ljava/rmi/server/UID;")) i.texts i.typed in
+    let own = own_seen nodes (codes "java.rmi.server.ObjID") known.ObjId ic s (record { values = values.Long id.number ∷ values.Ref h.space ∷ []; note = [] }) i h.is same_id_name in
     let space : uid_at nodes h.space ≡ Some id.space = uid_seen nodes id.space h.space (record { class = uc; own = u; is = h.space_is }) in
-    rw (own, t.2) (objid_is nodes (held_of known.ObjId (t.0 ∷ t.1 ∷ []) (values.J id.number ∷ values.Ref h.space ∷ [])) id.number h.space id.space (number_told t.0 t.1 h.space id.number) (space_told t.0 t.1 h.space id.number) space)
+    rw (own, t.2) (objid_is nodes (held_of known.ObjId (t.0 ∷ t.1 ∷ []) (values.Long id.number ∷ values.Ref h.space ∷ [])) id.number h.space id.space (number_told t.0 t.1 h.space id.number) (space_told t.0 t.1 h.space id.number) space)
 
 ids_told : (nodes : List Node) (ic uc : Slot) (ids : List ObjId) (ss : List Slot) → IsClassAt nodes known.ObjId slots.Null ic → IsClassAt nodes known.Uid slots.Null uc → AreIds nodes ic uc ids ss → each (objid_at nodes) ss ≡ Some ids
 ids_told nodes ic uc [] ss i u h = rw h refl

@@ -6,7 +6,7 @@ use Rattle.class_desc.specs.declared.field.TypeCode.TheVariants as types
 use Rattle.class_desc.specs.declared.known_class.PartField.{PartField}
 use Rattle.class_desc.specs.declared.known_class.KnownClass.{KnownClass}
 use Rattle.class_desc.specs.declared.known_class.KnownClass.TheVariants as known
-use Rattle.class_desc.specs.KnownClass.{parts_of, typed}
+use Rattle.class_desc.specs.KnownClass.{parts_of, typed_field}
 use Rattle.ser_values.specs.declared.value.Part.{Part}
 use Rattle.ser_values.specs.declared.node.Node.{Node}
 use Rattle.ser_values.specs.Builder.{number_of}
@@ -62,7 +62,7 @@ pub fault_viewed : (nodes : List Node) (message : List ℕ) (s : Slot) → Fault
 fault_viewed nodes message s f =
     let ps = fault_parts f.text in
     let own = by_number nodes known.RemoteException f.io_exception f.remote_exception f.own in
-    let t = one_type nodes (typed types.Object (codes "detailMessage") (codes "Ljava/lang/String;")) f.highest.texts f.highest.typed in
+    let t = one_type nodes (typed_field types.Object (codes "detailMessage") (codes "Ljava/lang/String;")) f.highest.texts f.highest.typed in
     let name : class_name_at nodes s ≡ Some (codes "java.rmi.RemoteException") = rw (f.is, own.is) refl in
     let held : held_at nodes (codes "java.lang.Throwable") s ≡ Some (desc_with (parts_of known.Throwable) (t.0 ∷ []) slots.Null, reference f.text) =
     rw f.is (held_past nodes (codes "java.lang.Throwable") ps 3 known.RemoteException f.io_exception (slots.Node (number_of f.remote_exception)) _ own not_remote refl

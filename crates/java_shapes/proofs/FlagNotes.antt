@@ -5,7 +5,7 @@ use Rattle.std.proofs.lemmas.Bool.{eqb-true}
 use Rattle.std.proofs.lemmas.Bool.Decides.{nat_tests}
 use Rattle.std.proofs.lemmas.List.{take-append-drop, length-take-le, take-set-le, drop-set-add, get_or-set_same, length-set, set-append_right}
 use Rattle.std.proofs.Math.Seq.{take-append_seam, drop-append_seam}
-use Rattle.mod_utf.specs.Decoding.{decoded}
+use Rattle.mod_utf.specs.Decoding.{decoded_units}
 use Rattle.object_ids.specs.declared.ids.ObjId.{ObjId}
 use Rattle.object_ids.specs.Bytes.{signed_from_bytes, objid_from_bytes}
 use Rattle.java_shapes.specs.declared.ref_views.LiveRef.{LiveRef}
@@ -154,7 +154,7 @@ front_set front tail len =
     let back : (length front + 26) - length front ≡ 26 = omega arith in
     ap (λ (n : ℕ). slice_set (front ++ tail) n 1) at ∙ (set-append_right front tail (length front) (length front + 26) 1 refl (omega arith) ∙ ap (λ (n : ℕ). front ++ slice_set tail n 1) back)
 
-by_text : (bytes host tail : List ℕ) (r : LiveRef) (o : Option (List ℕ)) → host_and_tail bytes ≡ Some (host, tail) → units_of (decoded host) ≡ o → (o >>= λ units. ref_with units tail) ≡ Some r → ref_of (last_one bytes) ≡ Some (for_result r)
+by_text : (bytes host tail : List ℕ) (r : LiveRef) (o : Option (List ℕ)) → host_and_tail bytes ≡ Some (host, tail) → units_of (decoded_units host) ≡ o → (o >>= λ units. ref_with units tail) ≡ Some r → ref_of (last_one bytes) ≡ Some (for_result r)
 by_text bytes host tail r None e f h = absurd cc
 by_text bytes host tail r (Some units) e f h =
     let front = host_front bytes host tail e in
@@ -165,7 +165,7 @@ by_text bytes host tail r (Some units) e f h =
 
 by_host : (bytes : List ℕ) (r : LiveRef) (o : Option (List ℕ × List ℕ)) → host_and_tail bytes ≡ o → ref_of_parts o ≡ Some r → ref_of (last_one bytes) ≡ Some (for_result r)
 by_host bytes r None e h = absurd cc
-by_host bytes r (Some p) e h = by_text bytes p.0 p.1 r (units_of (decoded p.0)) e refl h
+by_host bytes r (Some p) e h = by_text bytes p.0 p.1 r (units_of (decoded_units p.0)) e refl h
 
 pub ref_set : (bytes : List ℕ) (r : LiveRef) → ref_of bytes ≡ Some r → ref_of (last_one bytes) ≡ Some (for_result r)
 ref_set bytes r h = by_host bytes r (host_and_tail bytes) refl h

@@ -1,15 +1,15 @@
 -- The nodes of a lease are a graph.
-use Rattle.std.proofs.Common.{◌≡◌, ◌<◌, ◌^◌, ℕ, ℤ, zero, suc, true, false, nat_lt, List, [], ◌∷◌, ◌++◌, length, slice_get, get_or, codes, Some, Result, Ok, Err, OnOk, refl, ap, ◌∙◌, arith, append_assoc}
+use Rattle.std.proofs.Common.{◌≡◌, ◌<◌, ◌^◌, ℕ, ℤ, zero, suc, true, false, nat_lt, List, [], ◌∷◌, ◌++◌, length, slice_get, codes, Some, Result, Ok, Err, OnOk, refl, ap, ◌∙◌, arith, append_assoc}
 use Rattle.std.specs.Prelude.{All, FitsSigned}
-use Rattle.std.specs.Int.{w16, w32, w64}
-use Rattle.std.proofs.lemmas.List.Elements.{All-nil, All-cons}
+use Rattle.std.specs.Int.{w64}
+use Rattle.std.proofs.lemmas.List.Elements.{All-nil}
 use borrow.Author.Gap.{read_sfits}
 use Rattle.class_desc.specs.declared.slot.Slot.TheVariants as slots
 use Rattle.class_desc.specs.declared.known_class.KnownClass.TheVariants as known
 use Rattle.class_desc.specs.KnownClass.{parts_of}
 use Rattle.class_desc.specs.TypeText.{element_of, is_array_text, is_component_text, ends_class}
 use Rattle.class_desc.specs.ClassDesc.{is_good_desc, fit_flags, are_ordered}
-use Rattle.object_ids.specs.declared.ids.Uid.{Uid}
+use Rattle.object_ids.specs.Bytes.{FitsUid}
 use Rattle.object_ids.specs.Client.{Client}
 use Rattle.ser_values.specs.declared.value.Value.{Value}
 use Rattle.ser_values.specs.declared.value.Value.TheVariants as values
@@ -65,7 +65,7 @@ shaped_uid_text : (v : ℤ) (c : Client) → is_shaped (lease_nodes v c) (Text (
 unfolding is_shaped
 shaped_uid_text v c = refl
 
-shaped_own : (v : ℤ) (c : Client) → is_shaped (lease_nodes v c) (Object 0 (one_part (values.J v ∷ values.Ref (slots.Node 6) ∷ []))) ≡ true
+shaped_own : (v : ℤ) (c : Client) → is_shaped (lease_nodes v c) (Object 0 (one_part (values.Long v ∷ values.Ref (slots.Node 6) ∷ []))) ≡ true
 unfolding is_shaped lease_nodes fits_chain fit_values joined_from element_of is_array_text
 shaped_own v c = refl
 
@@ -141,16 +141,10 @@ num_client v c d u short = fresh 6 (Object 3 (one_part (values.Ref (slots.Node 8
 
 num_own : (v : ℤ) (c : Client) (d : ℕ) (u : List ℕ) → nat_lt (length c.addr) (2 ^ 31) ≡ true → Numbered (N v c) (suc (suc (suc (suc (suc d))))) u (places.Reference, slots.Node 2) 0 11
 unfolding Numbered admits is_desc lease_nodes before after part_wants value_wants item_wants
-num_own v c d u short = fresh 2 (Object 0 (one_part (values.J v ∷ values.Ref (slots.Node 6) ∷ []))) refl refl (omega arith) (omega arith) refl (shaped_own v c)
+num_own v c d u short = fresh 2 (Object 0 (one_part (values.Long v ∷ values.Ref (slots.Node 6) ∷ []))) refl refl (omega arith) (omega arith) refl (shaped_own v c)
     (2, num_lease_class v c (suc (suc d)) _, refl) (11, num_client v c d _ short, refl)
 
 -- ---- its numbers
-
--- The numbers of an identifier are in range.
-pub record FitsUid (uid : Uid) : Type 0 where
-  pub unique : FitsSigned w32 uid.unique
-  pub time : FitsSigned w64 uid.time
-  pub count : FitsSigned w16 uid.count
 
 part_fits : (vs : List Value) → All ValueFits vs → All PartFits (one_part vs)
 part_fits vs h = all_of PartFits (one_part vs) ((h, All-nil ItemFits), tt)
@@ -158,7 +152,7 @@ part_fits vs h = all_of PartFits (one_part vs) ((h, All-nil ItemFits), tt)
 numbers_fit : (v : ℤ) (c : Client) → FitsSigned w64 v → FitsUid c.uid → All (λ x. x < 2 ^ 8) c.addr → All NodeFits (lease_nodes v c)
 unfolding lease_nodes
 numbers_fit v c fits uid addr =
-    let own : All PartFits (one_part (values.J v ∷ values.Ref (slots.Node 6) ∷ [])) = part_fits _ (all_of ValueFits (values.J v ∷ values.Ref (slots.Node 6) ∷ []) (fits, (tt, tt))) in
+    let own : All PartFits (one_part (values.Long v ∷ values.Ref (slots.Node 6) ∷ [])) = part_fits _ (all_of ValueFits (values.Long v ∷ values.Ref (slots.Node 6) ∷ []) (fits, (tt, tt))) in
     let client : All PartFits (one_part (values.Ref (slots.Node 8) ∷ values.Ref (slots.Node 10) ∷ [])) = part_fits _ (all_of ValueFits (values.Ref (slots.Node 8) ∷ values.Ref (slots.Node 10) ∷ []) (tt, (tt, tt))) in
     let identifier : All PartFits (one_part (uid_values c.uid)) = part_fits _ (all_of ValueFits (uid_values c.uid) (uid.count, (uid.time, (uid.unique, tt)))) in
     all_of NodeFits (lease_nodes v c) (
@@ -206,10 +200,6 @@ units_fit v c =
         ),
       ),
     )
-
-pub looked : (bs : List ℕ) → ((i : ℕ) → get_or bs i 0 < 256) → All (λ x. x < 2 ^ 8) bs
-looked [] h = All-nil (λ x. x < 2 ^ 8)
-looked (b ∷ bs) h = All-cons (λ x. x < 2 ^ 8) b bs (h 0) (looked bs (λ i. h (suc i)))
 
 pub is_graph : (v : ℤ) (c : Client) → nat_lt (length c.addr) (2 ^ 31) ≡ true → FitsSigned w64 v → FitsUid c.uid → All (λ x. x < 2 ^ 8) c.addr → IsGraph (lease_nodes v c) lease_items
 unfolding lease_nodes item_wants joined_from parts_in

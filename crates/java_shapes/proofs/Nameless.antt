@@ -33,14 +33,14 @@ null_in vs (Some k) e = null_there vs k e
 
 null_slot : (o : Option Value) → as_slot o ≡ Some slots.Null → o ≡ Some (values.Ref slots.Null)
 null_slot None e = absurd (cc)
-null_slot (Some (values.B x)) e = absurd (cc)
-null_slot (Some (values.C x)) e = absurd (cc)
-null_slot (Some (values.D x)) e = absurd (cc)
-null_slot (Some (values.F x)) e = absurd (cc)
-null_slot (Some (values.I x)) e = absurd (cc)
-null_slot (Some (values.J x)) e = absurd (cc)
-null_slot (Some (values.S x)) e = absurd (cc)
-null_slot (Some (values.Z x)) e = absurd (cc)
+null_slot (Some (values.Byte x)) e = absurd (cc)
+null_slot (Some (values.Char x)) e = absurd (cc)
+null_slot (Some (values.Double x)) e = absurd (cc)
+null_slot (Some (values.Float x)) e = absurd (cc)
+null_slot (Some (values.Int x)) e = absurd (cc)
+null_slot (Some (values.Long x)) e = absurd (cc)
+null_slot (Some (values.Short x)) e = absurd (cc)
+null_slot (Some (values.Boolean x)) e = absurd (cc)
 null_slot (Some (values.Ref slots.Null)) e = refl
 null_slot (Some (values.Ref (slots.Node k))) e = absurd (cc)
 
@@ -61,7 +61,7 @@ null_part nodes None part e = never e
 null_part nodes (Some desc) None e = never e
 null_part nodes (Some desc) (Some part) e =
     null_in part.values (position (is_field types.Object (codes "vmid")) desc.fields)
-    (null_slot (value_of (desc, part) types.Object (codes "vmid")) (null_by nodes (as_long (value_of (desc, part) types.J (codes "value"))) (as_slot (value_of (desc, part) types.Object (codes "vmid"))) e))
+    (null_slot (value_of (desc, part) types.Object (codes "vmid")) (null_by nodes (as_long (value_of (desc, part) types.Long (codes "value"))) (as_slot (value_of (desc, part) types.Object (codes "vmid"))) e))
 
 null_node : (nodes : List Node) (node : Option Node) → is_nameless (lease_of nodes (own_in nodes (codes "java.rmi.dgc.Lease") node >>= lease_parts)) ≡ true → has_null node ≡ true
 null_node nodes None e = never e

@@ -10,7 +10,7 @@ use Rattle.java_shapes.specs.declared.ref_views.LiveRef.{LiveRef}
 use Rattle.java_shapes.specs.Objects.{same_text}
 use Rattle.java_shapes.specs.LiveRefs.{cut_text, after_kind, host_and_tail, ref_with, ref_of}
 use Rattle.java_shapes.specs.RefNotes.{text_bytes, plain_kind, second_kind, tail_bytes, truth_byte, ref_note, IsRefNote}
-use Rattle.java_shapes.specs.Laws.{RefFits}
+use Rattle.java_shapes.specs.ShapeLaws.{RefFits}
 use Rattle.java_shapes.proofs.RefNotes.{cut_back, port_back, tail_back, truth_back, ref_back}
 
 after_second : (rest : List ℕ) → after_kind (codes "UnicastRef2", 0 ∷ rest) ≡ Some rest

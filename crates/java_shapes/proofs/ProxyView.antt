@@ -5,7 +5,7 @@ use Rattle.class_desc.specs.declared.slot.Slot.TheVariants as slots
 use Rattle.class_desc.specs.declared.desc.ProxyDesc.{ProxyDesc}
 use Rattle.class_desc.specs.declared.field.TypeCode.TheVariants as types
 use Rattle.class_desc.specs.declared.known_class.KnownClass.TheVariants as known
-use Rattle.class_desc.specs.KnownClass.{parts_of, typed}
+use Rattle.class_desc.specs.KnownClass.{parts_of, typed_field}
 use Rattle.ser_values.specs.declared.fault.BuildFault.{BuildFault}
 use Rattle.ser_values.specs.declared.value.Part.{Part}
 use Rattle.ser_values.specs.declared.node.Node.{Node}
@@ -67,7 +67,7 @@ unfolding proxy_handler
 handler_seen nodes interface bytes s h =
     let ps : List Part = reference h.handler ∷ empty_part ∷ [] in
     let class : node_at nodes (slots.Node (number_of h.class)) ≡ Some (Proxy (proxy_with interface h.own.proxy)) = numbered nodes h.class _ h.own.is in
-    let t = one_type nodes (typed types.Object (codes "h") (codes "Ljava/lang/reflect/InvocationHandler;")) h.own.above.texts h.own.above.typed in
+    let t = one_type nodes (typed_field types.Object (codes "h") (codes "Ljava/lang/reflect/InvocationHandler;")) h.own.above.texts h.own.above.typed in
     let held : held_at nodes (codes "java.lang.reflect.Proxy") s ≡ Some (desc_with (parts_of known.Proxy) (t.0 ∷ []) slots.Null, reference h.handler) =
     rw h.is (past_proxy nodes (codes "java.lang.reflect.Proxy") ps 1 (slots.Node (number_of h.class)) (proxy_with interface h.own.proxy) _ class refl
     ∙ (held_hit nodes (codes "java.lang.reflect.Proxy") ps 0 known.Proxy slots.Null h.own.proxy _ h.own.above same_proxy refl

@@ -6,7 +6,7 @@ use Rattle.std.proofs.lemmas.Int.{ints, to_z-of_z}
 use Rattle.std.proofs.lemmas.Nat.{from_be_bytes-to_be_bytes_4}
 use Rattle.std.proofs.Math.Seq.{take-append_seam, drop-append_seam}
 use Rattle.mod_utf.specs.Utf.{Utf}
-use Rattle.mod_utf.specs.Decoding.{decoded}
+use Rattle.mod_utf.specs.Decoding.{decoded_units}
 use Rattle.mod_utf.proofs.Decoded.{gives_text}
 use Rattle.object_ids.specs.declared.ids.ObjId.{ObjId}
 use Rattle.object_ids.specs.Bytes.{signed_bytes, signed_from_bytes, bytes_of_objid, objid_from_bytes}
@@ -53,5 +53,5 @@ truth_back false = refl
 
 pub ref_back : (r : LiveRef) (host tail : List ℕ) → Utf r.host host → length host ≤ 65535 → ref_with r.host tail ≡ Some r → ref_of (plain_kind ++ (text_bytes host ++ tail)) ≡ Some r
 ref_back r host tail spelled few read =
-    let text : decoded host ≡ Ok r.host = gives_text host r.host spelled in
+    let text : decoded_units host ≡ Ok r.host = gives_text host r.host spelled in
     rw (plain_split host tail few, text) read

@@ -2,6 +2,7 @@
 use Rattle.std.proofs.Common.{◌≡◌, ◌∙◌, ◌+◌, ◌-◌, ℕ, zero, suc, Bool, true, false, not, cond, nat_lt, List, [], ◌∷◌, ◌++◌, map, length, Option, Some, None, option_map, codes, slice_get, refl, ap, sym, subst}
 use Rattle.std.specs.Prelude.{position}
 use Rattle.std.specs.List.{position_or_len, prefix_len}
+use Rattle.std.proofs.lemmas.Option.{slice_get-map}
 use Rattle.class_desc.specs.declared.slot.Slot.{Slot}
 use Rattle.class_desc.specs.declared.slot.Slot.TheVariants as slots
 use Rattle.class_desc.specs.declared.slot.Item.{Item}
@@ -16,13 +17,13 @@ use Rattle.ser_values.specs.declared.value.Part.{Part}
 use Rattle.ser_values.specs.declared.node.Node.{Node}
 use Rattle.ser_values.specs.declared.node.Node.TheVariants.{Text, Desc, Proxy, Object, Array, Class, Enum}
 use Rattle.ser_values.specs.declared.node.SlotPlace.TheVariants as places
-use Rattle.ser_values.specs.Node.{has, Want, item_wants, value_wants, part_wants, field_wants, before, after}
+use Rattle.ser_values.specs.Node.{has, item_wants, value_wants, part_wants, field_wants, before, after}
 use Rattle.ser_values.specs.Finished.{IsGraphOf}
 use Rattle.ser_values.specs.Visits.{Visits}
 use Rattle.ser_values.specs.Renumber.{place_in, slot_by, item_by, field_by, value_by, part_by, desc_by, node_by, reordered}
 use Rattle.ser_values.specs.Seen.{Once}
 use Rattle.ser_values.proofs.Added.{Names, NamesAll, Wants, look, all_adds, visits_add}
-use Rattle.ser_values.proofs.Renumbered.{map_len, split_named}
+use Rattle.ser_values.proofs.Renumbered.{map_len, split_named, last_named}
 use Rattle.ser_values.proofs.Reached.{once_in_order}
 use Rattle.java_shapes.specs.Objects.{same_text, Held, node_at, text_in, text_at, name_in, named_in, parent_in, held_here, held_within, held_in, held_at, own_of, own_in, own_at, is_field, value_in, value_of, as_slot, ◌>>=◌}
 use Rattle.java_shapes.specs.LiveRefs.{is_proxy, is_proxied, proxy_handler, holder_at, one_run, run_of, ref_in, stub_ref_at, live_ref_at}
@@ -89,9 +90,6 @@ parent_by f (Some (Array c vs)) = refl
 parent_by f (Some (Class c)) = refl
 parent_by f (Some (Enum c t)) = refl
 
-last_named : (F : List ℕ) (ws : List Want) (w : Want) → NamesAll F (ws ++ w ∷ []) → Names F w.1
-last_named F ws w n = (split_named F ws (w ∷ []) n).1.0
-
 some_slot : (u v : Slot) → Some u ≡ Some v → u ≡ v
 some_slot u v e = ap (λ (o : Option Slot). or_slot o) e
   where
@@ -126,11 +124,6 @@ RHeld F None None = Unit {0}
 RHeld F (Some h) (Some g) = (g ≡ held_by (place_in F) h) × NamesAll F (value_wants (h.1).values)
 RHeld F _ _ = ⊥
 
-pub get_map : {A B : Type 0} (f : A → B) (xs : List A) (k : ℕ) → slice_get (map f xs) k ≡ option_map f (slice_get xs k)
-get_map f [] k = refl
-get_map f (x ∷ xs) zero = refl
-get_map f (x ∷ xs) (suc k) = get_map f xs k
-
 some_part : (p q : Part) → Some p ≡ Some q → p ≡ q
 some_part p q e = ap (λ (o : Option Part). or_part o) e
   where
@@ -160,7 +153,7 @@ within_r {loose = loose} {nodes = nodes} {F = F} d name ps w (suc n) s named =
     let node = node_same d s named in
     let class : named_in name (node_at nodes (slot_by f s)) ≡ option_map (desc_by f) (named_in name (node_at loose s)) = ap (λ (o : Option Node). named_in name o) node ∙ named_by f name (node_at loose s) in
     let up : parent_in (node_at nodes (slot_by f s)) ≡ option_map (slot_by f) (parent_in (node_at loose s)) = ap (λ (o : Option Node). parent_in o) node ∙ parent_by f (node_at loose s) in
-    let part : slice_get (map (part_by f) ps) n ≡ option_map (part_by f) (slice_get ps n) = get_map (part_by f) ps n in
+    let part : slice_get (map (part_by f) ps) n ≡ option_map (part_by f) (slice_get ps n) = slice_get-map (part_by f) ps n in
     rw (class, up, part) (here_r F (held_within loose name ps n) (held_within nodes name (map (part_by f) ps) n) (λ u k. within_r d name ps w n u k) (slice_get ps n) (λ p e. values_named F ps n p w e)
     (named_in name (node_at loose s)) (parent_in (node_at loose s)) (λ u e. parent_named d s u named e))
 
@@ -210,7 +203,7 @@ position_same f code name fs =
 
 value_by_place : (f : ℕ → ℕ) (vs : List Value) (o : Option ℕ) → value_in (map (value_by f) vs) o ≡ option_map (value_by f) (value_in vs o)
 value_by_place f vs None = refl
-value_by_place f vs (Some k) = get_map (value_by f) vs k
+value_by_place f vs (Some k) = slice_get-map (value_by f) vs k
 
 pub value_same : (f : ℕ → ℕ) (h : Held) (code : TypeCode) (name : List ℕ) → value_of (held_by f h) code name ≡ option_map (value_by f) (value_of h code name)
 unfolding value_of
@@ -218,14 +211,14 @@ value_same f h code name = ap (λ (o : Option ℕ). value_in (map (value_by f) (
 
 slot_same : (f : ℕ → ℕ) (o : Option Value) → as_slot (option_map (value_by f) o) ≡ option_map (slot_by f) (as_slot o)
 slot_same f None = refl
-slot_same f (Some (values.B v)) = refl
-slot_same f (Some (values.C v)) = refl
-slot_same f (Some (values.D v)) = refl
-slot_same f (Some (values.F v)) = refl
-slot_same f (Some (values.I v)) = refl
-slot_same f (Some (values.J v)) = refl
-slot_same f (Some (values.S v)) = refl
-slot_same f (Some (values.Z v)) = refl
+slot_same f (Some (values.Byte v)) = refl
+slot_same f (Some (values.Char v)) = refl
+slot_same f (Some (values.Double v)) = refl
+slot_same f (Some (values.Float v)) = refl
+slot_same f (Some (values.Int v)) = refl
+slot_same f (Some (values.Long v)) = refl
+slot_same f (Some (values.Short v)) = refl
+slot_same f (Some (values.Boolean v)) = refl
 slot_same f (Some (values.Ref s)) = refl
 
 abbrev pub SlotNamed : List ℕ → Option Slot → Type 0
@@ -237,22 +230,22 @@ unfolding value_wants
 get_named F [] k n = tt
 get_named F (values.Ref s ∷ vs) zero n = n.0
 get_named F (values.Ref s ∷ vs) (suc k) n = get_named F vs k n.1
-get_named F (values.B v ∷ vs) zero n = tt
-get_named F (values.C v ∷ vs) zero n = tt
-get_named F (values.D v ∷ vs) zero n = tt
-get_named F (values.F v ∷ vs) zero n = tt
-get_named F (values.I v ∷ vs) zero n = tt
-get_named F (values.J v ∷ vs) zero n = tt
-get_named F (values.S v ∷ vs) zero n = tt
-get_named F (values.Z v ∷ vs) zero n = tt
-get_named F (values.B v ∷ vs) (suc k) n = get_named F vs k n
-get_named F (values.C v ∷ vs) (suc k) n = get_named F vs k n
-get_named F (values.D v ∷ vs) (suc k) n = get_named F vs k n
-get_named F (values.F v ∷ vs) (suc k) n = get_named F vs k n
-get_named F (values.I v ∷ vs) (suc k) n = get_named F vs k n
-get_named F (values.J v ∷ vs) (suc k) n = get_named F vs k n
-get_named F (values.S v ∷ vs) (suc k) n = get_named F vs k n
-get_named F (values.Z v ∷ vs) (suc k) n = get_named F vs k n
+get_named F (values.Byte v ∷ vs) zero n = tt
+get_named F (values.Char v ∷ vs) zero n = tt
+get_named F (values.Double v ∷ vs) zero n = tt
+get_named F (values.Float v ∷ vs) zero n = tt
+get_named F (values.Int v ∷ vs) zero n = tt
+get_named F (values.Long v ∷ vs) zero n = tt
+get_named F (values.Short v ∷ vs) zero n = tt
+get_named F (values.Boolean v ∷ vs) zero n = tt
+get_named F (values.Byte v ∷ vs) (suc k) n = get_named F vs k n
+get_named F (values.Char v ∷ vs) (suc k) n = get_named F vs k n
+get_named F (values.Double v ∷ vs) (suc k) n = get_named F vs k n
+get_named F (values.Float v ∷ vs) (suc k) n = get_named F vs k n
+get_named F (values.Int v ∷ vs) (suc k) n = get_named F vs k n
+get_named F (values.Long v ∷ vs) (suc k) n = get_named F vs k n
+get_named F (values.Short v ∷ vs) (suc k) n = get_named F vs k n
+get_named F (values.Boolean v ∷ vs) (suc k) n = get_named F vs k n
 
 in_named : (F : List ℕ) (vs : List Value) (o : Option ℕ) → NamesAll F (value_wants vs) → SlotNamed F (as_slot (value_in vs o))
 in_named F vs None n = tt
@@ -373,7 +366,7 @@ own_r d t (Some (Proxy p)) n = refl
 own_r {loose = loose} {nodes = nodes} {F = F} d t (Some (Object c ps)) n =
     let f = place_in F in
     let class : named_in handler_name (slice_get nodes (f c)) ≡ option_map (desc_by f) (named_in handler_name (slice_get loose c)) = ap (λ (o : Option Node). named_in handler_name o) (node_same d (slots.Node c) n.0) ∙ named_by f handler_name (slice_get loose c) in
-    let part : slice_get (map (part_by f) ps) (length (map (part_by f) ps) - 1) ≡ option_map (part_by f) (slice_get ps (length ps - 1)) = ap (λ (m : ℕ). slice_get (map (part_by f) ps) (m - 1)) (map_len (part_by f) ps) ∙ get_map (part_by f) ps (length ps - 1) in
+    let part : slice_get (map (part_by f) ps) (length (map (part_by f) ps) - 1) ≡ option_map (part_by f) (slice_get ps (length ps - 1)) = ap (λ (m : ℕ). slice_get (map (part_by f) ps) (m - 1)) (map_len (part_by f) ps) ∙ slice_get-map (part_by f) ps (length ps - 1) in
     ap (λ (x : Option ClassDesc). own_of x (slice_get (map (part_by f) ps) (length (map (part_by f) ps) - 1)) >>= λ held. Some t) class
     ∙ (ap (λ (y : Option Part). own_of (option_map (desc_by f) (named_in handler_name (slice_get loose c))) y >>= λ held. Some t) part ∙ own_kept f (named_in handler_name (slice_get loose c)) (slice_get ps (length ps - 1)) t t)
 own_r d t (Some (Array c vs)) n = refl

@@ -1,5 +1,6 @@
 -- What views tell of identifiers, clients, leases and lists, they tell of the finished graph.
 use Rattle.std.proofs.Common.{◌≡◌, ◌∙◌, ◌-◌, ℕ, ℤ, true, List, [], ◌∷◌, map, length, Option, Some, None, option_map, codes, slice_get, refl, ap, sym, subst}
+use Rattle.std.proofs.lemmas.Option.{slice_get-map}
 use Rattle.class_desc.specs.declared.slot.Slot.{Slot}
 use Rattle.class_desc.specs.declared.slot.Slot.TheVariants as slots
 use Rattle.class_desc.specs.declared.slot.Item.{Item}
@@ -22,8 +23,8 @@ use Rattle.ser_values.proofs.Renumbered.{map_len}
 use Rattle.java_shapes.specs.declared.lease_views.LeaseView.{LeaseView}
 use Rattle.java_shapes.specs.Objects.{Held, node_at, text_at, named_in, own_of, own_in, own_at, value_of, as_slot, as_short, as_int, as_long, elements_of, array_in, array_at, as_bytes, as_refs, ◌>>=◌, each}
 use Rattle.java_shapes.specs.Ids.{uid_of, uid_at, objid_of, objid_at, objids_at, vmid_parts, vmid_of, vmid_at, vmid_or_null, lease_parts, lease_with, lease_of, lease_at, texts_at}
-use Rattle.java_shapes.specs.Laws.{ViewsStayIn}
-use Rattle.java_shapes.proofs.Stays.{Finished, node_same, named_by, get_map, values_named, held_by, RHeld, ObjectNamed, object_named, value_same, SlotNamed, field_r, text_stays, fault_stays, ref_stays, finished, items_named}
+use Rattle.java_shapes.specs.ShapeLaws.{ViewsStayIn}
+use Rattle.java_shapes.proofs.Stays.{Finished, node_same, named_by, values_named, held_by, RHeld, ObjectNamed, object_named, value_same, SlotNamed, field_r, text_stays, fault_stays, ref_stays, finished, items_named}
 
 -- ---- steps
 
@@ -45,24 +46,24 @@ bind_slot F (Some s) q k m e n f = rw e (f s n)
 
 number_same : (f : ℕ → ℕ) (read : Option Value → Option ℤ) → ((s t : Slot) → read (Some (values.Ref s)) ≡ read (Some (values.Ref t))) → (o : Option Value) → read (option_map (value_by f) o) ≡ read o
 number_same f read e None = refl
-number_same f read e (Some (values.B v)) = refl
-number_same f read e (Some (values.C v)) = refl
-number_same f read e (Some (values.D v)) = refl
-number_same f read e (Some (values.F v)) = refl
-number_same f read e (Some (values.I v)) = refl
-number_same f read e (Some (values.J v)) = refl
-number_same f read e (Some (values.S v)) = refl
-number_same f read e (Some (values.Z v)) = refl
+number_same f read e (Some (values.Byte v)) = refl
+number_same f read e (Some (values.Char v)) = refl
+number_same f read e (Some (values.Double v)) = refl
+number_same f read e (Some (values.Float v)) = refl
+number_same f read e (Some (values.Int v)) = refl
+number_same f read e (Some (values.Long v)) = refl
+number_same f read e (Some (values.Short v)) = refl
+number_same f read e (Some (values.Boolean v)) = refl
 number_same f read e (Some (values.Ref s)) = e (slot_by f s) s
 
-long_same : (f : ℕ → ℕ) (h : Held) (name : List ℕ) → as_long (value_of (held_by f h) types.J name) ≡ as_long (value_of h types.J name)
-long_same f h name = ap as_long (value_same f h types.J name) ∙ number_same f (λ o. as_long o) (λ s t. refl) (value_of h types.J name)
+long_same : (f : ℕ → ℕ) (h : Held) (name : List ℕ) → as_long (value_of (held_by f h) types.Long name) ≡ as_long (value_of h types.Long name)
+long_same f h name = ap as_long (value_same f h types.Long name) ∙ number_same f (λ o. as_long o) (λ s t. refl) (value_of h types.Long name)
 
-int_same : (f : ℕ → ℕ) (h : Held) (name : List ℕ) → as_int (value_of (held_by f h) types.I name) ≡ as_int (value_of h types.I name)
-int_same f h name = ap as_int (value_same f h types.I name) ∙ number_same f (λ o. as_int o) (λ s t. refl) (value_of h types.I name)
+int_same : (f : ℕ → ℕ) (h : Held) (name : List ℕ) → as_int (value_of (held_by f h) types.Int name) ≡ as_int (value_of h types.Int name)
+int_same f h name = ap as_int (value_same f h types.Int name) ∙ number_same f (λ o. as_int o) (λ s t. refl) (value_of h types.Int name)
 
-short_same : (f : ℕ → ℕ) (h : Held) (name : List ℕ) → as_short (value_of (held_by f h) types.S name) ≡ as_short (value_of h types.S name)
-short_same f h name = ap as_short (value_same f h types.S name) ∙ number_same f (λ o. as_short o) (λ s t. refl) (value_of h types.S name)
+short_same : (f : ℕ → ℕ) (h : Held) (name : List ℕ) → as_short (value_of (held_by f h) types.Short name) ≡ as_short (value_of h types.Short name)
+short_same f h name = ap as_short (value_same f h types.Short name) ∙ number_same f (λ o. as_short o) (λ s t. refl) (value_of h types.Short name)
 
 -- ---- an object's own class
 
@@ -81,7 +82,7 @@ own_in_r d name (Some (Proxy p)) n = tt
 own_in_r {loose = loose} {nodes = nodes} {F = F} d name (Some (Object c ps)) n =
     let f = place_in F in
     let class : named_in name (slice_get nodes (f c)) ≡ option_map (desc_by f) (named_in name (slice_get loose c)) = ap (λ (o : Option Node). named_in name o) (node_same d (slots.Node c) n.0) ∙ named_by f name (slice_get loose c) in
-    let part : slice_get (map (part_by f) ps) (length (map (part_by f) ps) - 1) ≡ option_map (part_by f) (slice_get ps (length ps - 1)) = ap (λ (m : ℕ). slice_get (map (part_by f) ps) (m - 1)) (map_len (part_by f) ps) ∙ get_map (part_by f) ps (length ps - 1) in
+    let part : slice_get (map (part_by f) ps) (length (map (part_by f) ps) - 1) ≡ option_map (part_by f) (slice_get ps (length ps - 1)) = ap (λ (m : ℕ). slice_get (map (part_by f) ps) (m - 1)) (map_len (part_by f) ps) ∙ slice_get-map (part_by f) ps (length ps - 1) in
     rw (class, part) (own_of_r F (named_in name (slice_get loose c)) (slice_get ps (length ps - 1)) (λ p e. values_named F ps (length ps - 1) p n.1 e))
 own_in_r d name (Some (Array c vs)) n = tt
 own_in_r d name (Some (Class c)) n = tt
@@ -107,7 +108,7 @@ objid_of_same : {loose nodes : List Node} {F : List ℕ} → Finished loose node
 unfolding objid_of
 objid_of_same {loose = loose} {nodes = nodes} {F = F} d h w =
     let space = slot_field F h types.Object (codes "space") w in
-    rw (long_same (place_in F) h (codes "objNum")) (bind_ext (as_long (value_of h types.J (codes "objNum"))) _ _ (λ number.
+    rw (long_same (place_in F) h (codes "objNum")) (bind_ext (as_long (value_of h types.Long (codes "objNum"))) _ _ (λ number.
     bind_slot F (as_slot (value_of h types.Object (codes "space"))) (as_slot (value_of (held_by (place_in F) h) types.Object (codes "space"))) _ _ space.0 space.1 (λ s k. rw (uid_stays d s k) refl)))
 
 objid_stays : {loose nodes : List Node} {F : List ℕ} → Finished loose nodes F → (s : Slot) → Names F s → objid_at nodes (slot_by (place_in F) s) ≡ objid_at loose s
@@ -247,7 +248,7 @@ lease_in_r d (Some h) None r = absurd r
 lease_in_r {loose = loose} {nodes = nodes} {F = F} d (Some h) (Some g) r =
     let slot = slot_field F h types.Object (codes "vmid") r.1 in
     ap (λ (x : Held). lease_in nodes (Some x)) r.0
-    ∙ rw (long_same (place_in F) h (codes "value")) (lease_by d (as_long (value_of h types.J (codes "value"))) (as_slot (value_of h types.Object (codes "vmid"))) (as_slot (value_of (held_by (place_in F) h) types.Object (codes "vmid"))) slot.0 slot.1)
+    ∙ rw (long_same (place_in F) h (codes "value")) (lease_by d (as_long (value_of h types.Long (codes "value"))) (as_slot (value_of h types.Object (codes "vmid"))) (as_slot (value_of (held_by (place_in F) h) types.Object (codes "vmid"))) slot.0 slot.1)
 
 pub lease_stays : {loose nodes : List Node} {F : List ℕ} → Finished loose nodes F → (s : Slot) → Names F s → lease_at nodes (slot_by (place_in F) s) ≡ lease_at loose s
 lease_stays {loose = loose} {nodes = nodes} {F = F} d s n = lease_in_r d (own_at loose (codes "java.rmi.dgc.Lease") s) (own_at nodes (codes "java.rmi.dgc.Lease") (slot_by (place_in F) s)) (own_held d (codes "java.rmi.dgc.Lease") s n)

@@ -20,9 +20,9 @@ use Rattle.java_shapes.specs.Objects.{Held, own_at, value_of, as_slot, as_short,
 
 unfoldable pub uid_of : Held → Option Uid
 uid_of held = do
-  count ← as_short (value_of held types.S (codes "count"))
-  time ← as_long (value_of held types.J (codes "time"))
-  unique ← as_int (value_of held types.I (codes "unique"))
+  count ← as_short (value_of held types.Short (codes "count"))
+  time ← as_long (value_of held types.Long (codes "time"))
+  unique ← as_int (value_of held types.Int (codes "unique"))
   Some (record { unique = unique; time = time; count = count })
 
 -- The identifier of an object of java.rmi.server.UID.
@@ -31,7 +31,7 @@ uid_at nodes s = own_at nodes (codes "java.rmi.server.UID") s >>= uid_of
 
 unfoldable pub objid_of : List Node → Held → Option ObjId
 objid_of nodes held = do
-  number ← as_long (value_of held types.J (codes "objNum"))
+  number ← as_long (value_of held types.Long (codes "objNum"))
   slot ← as_slot (value_of held types.Object (codes "space"))
   space ← uid_at nodes slot
   Some (record { number = number; space = space })
@@ -77,7 +77,7 @@ vmid_or_null nodes (slots.Node k) = option_map (λ v. Some v) (vmid_at nodes (sl
 -- the duration and the client's slot in a Lease's fields
 unfoldable pub lease_parts : Held → Option (ℤ × Slot)
 lease_parts held = do
-  value ← as_long (value_of held types.J (codes "value"))
+  value ← as_long (value_of held types.Long (codes "value"))
   slot ← as_slot (value_of held types.Object (codes "vmid"))
   Some (value, slot)
 

@@ -19,7 +19,7 @@ abbrev pub lease_first : ℤ → List Node
 lease_first value =
     class_node known.Lease (slots.Null ∷ slots.Node 1 ∷ []) slots.Null
     ∷ Text (codes "Ljava/rmi/dgc/VMID;")
-    ∷ Object 0 (one_part (values.J value ∷ values.Ref (slots.Node 6) ∷ []))
+    ∷ Object 0 (one_part (values.Long value ∷ values.Ref (slots.Node 6) ∷ []))
     ∷ []
 
 -- The client's class with its type texts, and the client; its address is node 8, and its identifier node 10.

@@ -1,4 +1,4 @@
-pub mod Views
+pub mod ViewAnswers
 pub mod Objects
 pub mod Throwable
 pub mod Put
@@ -10,7 +10,7 @@ pub mod Shapes
 pub mod Proxies
 pub mod LocalRefs
 pub mod Flags
-pub mod Laws
+pub mod ShapeLaws
 pub mod LeaseGraph
 pub mod RefGraph
 pub mod TextsGraph

@@ -1,7 +1,7 @@
 -- The shape of a reference to a remote object: a proxy with its handler, or a stub, and the bytes of its note.
 use Rattle.std.specs.Prelude.{ℕ, zero, ◌+◌, ◌*◌, Bool, true, false, not, nat_eq, nat_le, List, [], ◌∷◌, length, take, drop, get_or, Option, Some, None, Result, Ok, Err, codes, slice_get, unwrap_or, if◌then◌else◌}
 use Rattle.std.specs.Int.{w32}
-use Rattle.mod_utf.specs.Decoding.{decoded}
+use Rattle.mod_utf.specs.Decoding.{decoded_units}
 use Rattle.object_ids.specs.Bytes.{signed_from_bytes, objid_from_bytes}
 use Rattle.class_desc.specs.declared.slot.Slot.{Slot}
 use Rattle.class_desc.specs.declared.slot.Item.{Item}
@@ -52,7 +52,7 @@ ref_with host tail = if nat_eq (length tail) 27 then Some (record {
 
 abbrev pub ref_of_parts : Option (List ℕ × List ℕ) → Option LiveRef
 ref_of_parts None = None
-ref_of_parts (Some parts) = units_of (decoded parts.0) >>= λ units. ref_with units parts.1
+ref_of_parts (Some parts) = units_of (decoded_units parts.0) >>= λ units. ref_with units parts.1
 
 -- The reference that the bytes of a note are.
 abbrev pub ref_of : List ℕ → Option LiveRef

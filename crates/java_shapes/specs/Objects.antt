@@ -111,15 +111,15 @@ as_slot (Some (values.Ref s)) = Some s
 as_slot _ = None
 
 abbrev pub as_short : Option Value → Option ℤ
-as_short (Some (values.S x)) = Some x
+as_short (Some (values.Short x)) = Some x
 as_short _ = None
 
 abbrev pub as_int : Option Value → Option ℤ
-as_int (Some (values.I x)) = Some x
+as_int (Some (values.Int x)) = Some x
 as_int _ = None
 
 abbrev pub as_long : Option Value → Option ℤ
-as_long (Some (values.J x)) = Some x
+as_long (Some (values.Long x)) = Some x
 as_long _ = None
 
 -- ---- arrays

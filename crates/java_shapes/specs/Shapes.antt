@@ -21,7 +21,7 @@ abbrev pub one_part : List Value → List Part
 one_part vs = record { values = vs; note = [] } ∷ []
 
 abbrev pub uid_values : Uid → List Value
-uid_values uid = values.S uid.count ∷ values.J uid.time ∷ values.I uid.unique ∷ []
+uid_values uid = values.Short uid.count ∷ values.Long uid.time ∷ values.Int uid.unique ∷ []
 
 -- The slot names a byte array of these bytes.
 pub record BytesAt (nodes : List Node) (bytes : List ℕ) (s : Slot) : Type 0 where
@@ -51,7 +51,7 @@ pub record LeaseAt (nodes : List Node) (value : ℤ) (vmid : Client) (s : Slot) 
   pub client : Slot
   pub own : IsClassAt nodes known.Lease slots.Null class
   pub client_is : VmidAt nodes vmid client
-  pub is : node_at nodes s ≡ Some (Object (number_of class) (one_part (values.J value ∷ values.Ref client ∷ [])))
+  pub is : node_at nodes s ≡ Some (Object (number_of class) (one_part (values.Long value ∷ values.Ref client ∷ [])))
 
 -- ---- lists of texts
 
@@ -75,7 +75,7 @@ pub record TextsAt (nodes : List Node) (names : List (List ℕ)) (s : Slot) : Ty
 pub record ObjIdAt (nodes : List Node) (id_class uid_class : Slot) (id : ObjId) (s : Slot) : Type 0 where
   pub space : Slot
   pub space_is : node_at nodes space ≡ Some (Object (number_of uid_class) (one_part (uid_values id.space)))
-  pub is : node_at nodes s ≡ Some (Object (number_of id_class) (one_part (values.J id.number ∷ values.Ref space ∷ [])))
+  pub is : node_at nodes s ≡ Some (Object (number_of id_class) (one_part (values.Long id.number ∷ values.Ref space ∷ [])))
 
 -- Each slot names the identifier of its place.
 abbrev pub AreIds : List Node → Slot → Slot → List ObjId → List Slot → Type 0

@@ -11,7 +11,9 @@ use std::alloc::{AllocError, Global};
 /// What an object holds of one of its classes: the class's description, and the object's part of it.
 #[derive(Clone, Copy)]
 pub(crate) struct ClassPart<'a> {
+    /// The class's description.
     pub desc: &'a ClassDesc,
+    /// What the object holds of the class.
     pub part: &'a Part,
 }
 
@@ -68,7 +70,7 @@ pub(crate) fn text_in<'a>(node: Option<&'a Node>) -> Option<&'a Units>
 }
 
 /// The description of a class, where it has this name.
-pub(crate) fn named<'a>(node: Option<&'a Node>, name: &str) -> Option<&'a ClassDesc>
+pub(crate) fn class_by_name<'a>(node: Option<&'a Node>, name: &str) -> Option<&'a ClassDesc>
     ensures { option_map (λ desc. desc.now) result ≡ named_in name.now (option_map (λ node. node.now) node.entry) }
 {
     match node {
@@ -108,7 +110,7 @@ fn held_by<'a>(
     while left > 0 {
         left -= 1;
         let node = node_at(nodes, slot);
-        match named(node, name) {
+        match class_by_name(node, name) {
             Some(desc) => {
                 return Some(ClassPart {
                     desc,
@@ -147,7 +149,7 @@ pub(crate) fn own_in<'a>(
 {
     match node {
         Some(Node::Object { class, parts }) => {
-            let desc = named(nodes.get(*class as usize), name)?;
+            let desc = class_by_name(nodes.get(*class as usize), name)?;
             let part = parts.last()?;
             Some(ClassPart { desc, part })
         }
@@ -184,30 +186,30 @@ impl<'a> ClassPart<'a> {
 
     /// The number in the class's field of type `short` and this name.
     pub(crate) fn short(&self, name: &str) -> Option<i16>
-        ensures { result ≡ as_short (value_of (self.now.desc.now, self.now.part.now) types.S name.now) }
+        ensures { result ≡ as_short (value_of (self.now.desc.now, self.now.part.now) types.Short name.now) }
     {
-        match self.value(TypeCode::S, name) {
-            Some(Value::S(number)) => Some(number),
+        match self.value(TypeCode::Short, name) {
+            Some(Value::Short(number)) => Some(number),
             _ => None,
         }
     }
 
     /// The number in the class's field of type `int` and this name.
     pub(crate) fn int(&self, name: &str) -> Option<i32>
-        ensures { result ≡ as_int (value_of (self.now.desc.now, self.now.part.now) types.I name.now) }
+        ensures { result ≡ as_int (value_of (self.now.desc.now, self.now.part.now) types.Int name.now) }
     {
-        match self.value(TypeCode::I, name) {
-            Some(Value::I(number)) => Some(number),
+        match self.value(TypeCode::Int, name) {
+            Some(Value::Int(number)) => Some(number),
             _ => None,
         }
     }
 
     /// The number in the class's field of type `long` and this name.
     pub(crate) fn long(&self, name: &str) -> Option<i64>
-        ensures { result ≡ as_long (value_of (self.now.desc.now, self.now.part.now) types.J name.now) }
+        ensures { result ≡ as_long (value_of (self.now.desc.now, self.now.part.now) types.Long name.now) }
     {
-        match self.value(TypeCode::J, name) {
-            Some(Value::J(number)) => Some(number),
+        match self.value(TypeCode::Long, name) {
+            Some(Value::Long(number)) => Some(number),
             _ => None,
         }
     }
@@ -225,7 +227,10 @@ fn array_in<'a>(nodes: &'a [Node], node: Option<&'a Node>, name: &str) -> Option
     ensures { option_map (λ values. values.now) result ≡ array_in nodes.now name.now (option_map (λ node. node.now) node.entry) }
 {
     match node {
-        Some(Node::Array { class, values }) => match named(nodes.get(*class as usize), name) {
+        Some(Node::Array { class, values }) => match class_by_name(
+            nodes.get(*class as usize),
+            name,
+        ) {
             Some(_desc) => Some(values),
             None => None,
         },

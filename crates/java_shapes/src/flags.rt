@@ -4,7 +4,7 @@ ghost use Rattle.class_desc.specs.declared.slot.Slot.{Slot};
 ghost use Rattle.java_shapes.specs.LiveRefs.{live_ref_at};
 ghost use Rattle.java_shapes.specs.Flags.{as_places, flag_at, flags_in, for_result, note_end, place_in, place_within, set_flags};
 
-use crate::class_part::{named, node_at, parent_of};
+use crate::class_part::{class_by_name, node_at, parent_of};
 use crate::fault::ShapeFault;
 use crate::ref_views::{note_at, stub_ref_at};
 use class_desc::Slot;
@@ -23,7 +23,7 @@ fn place_within(nodes: &[Node], class: Slot, count: usize, name: &str) -> Option
     while left > 0 {
         left -= 1;
         let node = node_at(nodes, slot);
-        match named(node, name) {
+        match class_by_name(node, name) {
             Some(_desc) => return Some(left),
             None => slot = parent_of(node)?,
         }

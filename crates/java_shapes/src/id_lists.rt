@@ -15,9 +15,9 @@ use std::alloc::{AllocError, Global};
 
 /// The part of an object's identifier.
 fn id_parts(alloc: Global, number: &i64, space: Slot) -> Result<PartList, AllocError>
-    ensures { IfOk result (λ parts. parts ≡ one_part (values.J number.now ∷ values.Ref space ∷ [])) }
+    ensures { IfOk result (λ parts. parts ≡ one_part (values.Long number.now ∷ values.Ref space ∷ [])) }
 {
-    one_part(alloc, &[Value::J(*number), Value::Ref(space)])
+    one_part(alloc, &[Value::Long(*number), Value::Ref(space)])
 }
 
 /// Puts an object's identifier, of these classes.

@@ -2,7 +2,7 @@
 ghost use Rattle.std.specs.Prelude.{◌≡◌};
 ghost use Rattle.java_shapes.specs.Ids.{uid_of, uid_at, objid_of, objid_at, objids_at};
 ghost use Rattle.java_shapes.specs.Objects.{each};
-ghost use Rattle.java_shapes.specs.Views.{Views};
+ghost use Rattle.java_shapes.specs.ViewAnswers.{Views};
 
 use crate::class_part::{ClassPart, own_at, refs_at};
 use crate::fault::ShapeFault;

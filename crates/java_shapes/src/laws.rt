@@ -1,5 +1,5 @@
 //! Laws of shapes, for those who read contracts: these functions do nothing.
-ghost use Rattle.java_shapes.specs.Laws.{NotesAreRead, NotesAreWritten, ViewsStay};
+ghost use Rattle.java_shapes.specs.ShapeLaws.{NotesAreRead, NotesAreWritten, ViewsStay};
 
 /// The note of a reference, of class `UnicastRef` or `UnicastRef2`, is read as that reference.
 pub fn notes_are_read()

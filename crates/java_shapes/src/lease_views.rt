@@ -3,7 +3,7 @@ ghost use Rattle.std.specs.Prelude.{◌≡◌, List, option_map};
 ghost use Rattle.ser_values.specs.declared.node.Node.{Node as OneNode};
 ghost use Rattle.std.specs.List.{list_any};
 ghost use Rattle.java_shapes.specs.Ids.{has_null, is_nameless, is_null, vmid_parts, vmid_parts_at, vmid_at, vmid_or_null, lease_of, lease_parts, lease_parts_at, lease_at, short_client};
-ghost use Rattle.java_shapes.specs.Views.{Views};
+ghost use Rattle.java_shapes.specs.ViewAnswers.{Views};
 
 use crate::class_part::{ClassPart, bytes_at, node_at, own_at};
 use crate::fault::ShapeFault;

@@ -30,9 +30,9 @@ pub(crate) fn uid_parts(alloc: Global, uid: &Uid) -> Result<PartList, AllocError
     ensures { IfOk result (λ parts. parts ≡ one_part (uid_values uid.now)) }
 {
     let values = [
-        Value::S(uid.count),
-        Value::J(uid.time),
-        Value::I(uid.unique),
+        Value::Short(uid.count),
+        Value::Long(uid.time),
+        Value::Int(uid.unique),
     ];
     one_part(alloc, &values)
 }
@@ -77,9 +77,9 @@ fn put_some_vmid(alloc: Global, b: &mut Builder, vmid: &Vmid) -> Result<Slot, Bu
 
 /// The part of a lease.
 pub(crate) fn lease_parts(alloc: Global, value: &i64, client: Slot) -> Result<PartList, AllocError>
-    ensures { IfOk result (λ parts. parts ≡ one_part (values.J value.now ∷ values.Ref client ∷ [])) }
+    ensures { IfOk result (λ parts. parts ≡ one_part (values.Long value.now ∷ values.Ref client ∷ [])) }
 {
-    one_part(alloc, &[Value::J(*value), Value::Ref(client)])
+    one_part(alloc, &[Value::Long(*value), Value::Ref(client)])
 }
 
 /// Puts a lease; a refusal may leave some of its nodes.

@@ -2,7 +2,7 @@
 ghost use Rattle.std.specs.Prelude.{◌≡◌, ◌↔◌, IsTrue, option_map};
 ghost use Rattle.java_shapes.specs.LiveRefs.{cut_text, after_kind, host_and_tail, is_proxied, proxy_handler, holder_at, note_at, ref_of, ref_with, stub_ref_at, live_ref_at};
 ghost use Rattle.java_shapes.specs.Objects.{same_text};
-ghost use Rattle.java_shapes.specs.Views.{Views};
+ghost use Rattle.java_shapes.specs.ViewAnswers.{Views};
 
 use crate::class_part::{held_in, node_at, own_at};
 use crate::fault::ShapeFault;

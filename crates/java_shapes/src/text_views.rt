@@ -1,7 +1,7 @@
 //! Texts and lists of texts, read from their shapes.
 ghost use Rattle.java_shapes.specs.Ids.{texts_at};
 ghost use Rattle.java_shapes.specs.Objects.{each, text_at};
-ghost use Rattle.java_shapes.specs.Views.{Views};
+ghost use Rattle.java_shapes.specs.ViewAnswers.{Views};
 
 use crate::class_part::{copy_text, node_at, refs_at, text_in};
 use crate::fault::ShapeFault;

@@ -1,7 +1,7 @@
 //! What is told of a fault.
 ghost use Rattle.std.specs.Prelude.{◌≡◌, IfOk, option_map};
 ghost use Rattle.java_shapes.specs.Throwable.{class_name_in, message_of, with_message, fault_text_at};
-ghost use Rattle.java_shapes.specs.Views.{Views};
+ghost use Rattle.java_shapes.specs.ViewAnswers.{Views};
 
 use crate::class_part::{ClassPart, held_in, node_at, text_in};
 use crate::fault::ShapeFault;

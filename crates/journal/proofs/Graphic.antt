@@ -9,9 +9,8 @@ use mir.Val.{hbits}
 use Rattle.object_ids.specs.declared.ids.Uid.{Uid}
 use Rattle.object_ids.specs.declared.ids.ObjId.{ObjId}
 use Rattle.object_ids.specs.Client.{Client}
-use Rattle.object_ids.proofs.Exact.{both}
 use Rattle.std.proofs.lemmas.Grind.{common_steps}
-use Rattle.std.proofs.lemmas.Bool.{ne_eqb}
+use Rattle.std.proofs.lemmas.Bool.{ne_eqb, and_parts}
 use Rattle.history.specs.declared.asks.SpaceConfig.{SpaceConfig}
 use Rattle.history.specs.declared.asks.Event.{Event}
 use Rattle.history.specs.declared.asks.Ask.{Ask}
@@ -55,8 +54,8 @@ ends = record { within = none_within }
 within_by_test : (word : List ℕ) → list_all (λ b. leb 33 b && leb b 126) word ≡ true → Within 33 126 word
 within_by_test [] holds = tt
 within_by_test (b ∷ word) holds =
-    let now = both (leb 33 b && leb b 126) (list_all (λ x. leb 33 x && leb x 126) word) holds in
-    let here = both (leb 33 b) (leb b 126) now.0 in
+    let now = and_parts (leb 33 b && leb b 126) (list_all (λ x. leb 33 x && leb x 126) word) holds in
+    let here = and_parts (leb 33 b) (leb b 126) now.0 in
     ((leb-true 33 b here.0, leb-true b 126 here.1), within_by_test word now.1)
 
 -- a given word

@@ -14,7 +14,7 @@ use Rattle.history.specs.declared.asks.Event.{Event}
 use Rattle.history.specs.declared.asks.Ask.{Ask}
 use Rattle.history.specs.declared.asks.Ask.TheVariants.{Open, Begin, Finish, Abandon, Dirty, Clean, Ack, Bind, Rebind, Unbind, Lookup, Tick}
 use Rattle.history.specs.declared.asks.Ask.TheVariants.{List as ListNames}
-use Rattle.history.specs.declared.limits.TheConstants.{MAX_NAME_UNITS, MAX_DURATION, END_OF_TIME}
+use Rattle.history.specs.declared.limits.TheConstants.{MAX_NAME_UNITS, MAX_DURATION_MS, END_OF_TIME}
 use Rattle.history.specs.Texts.{uid_text, address_text, client_text, name_text}
 
 -- ---- words
@@ -37,7 +37,7 @@ SpellsMoment moment word = SpellsBelow END_OF_TIME moment word
 
 -- A duration, from 1 on.
 abbrev pub SpellsDuration : ℕ → List ℕ → Type 0
-SpellsDuration duration word = (1 ≤ duration) × (duration ≤ MAX_DURATION) × (word ≡ decimal duration)
+SpellsDuration duration word = (1 ≤ duration) × (duration ≤ MAX_DURATION_MS) × (word ≡ decimal duration)
 
 -- The parts of an identifier fit their types.
 pub record IsUid (uid : Uid) : Type 0 where

@@ -11,7 +11,7 @@ use Rattle.history.specs.declared.asks.Event.{Event}
 use Rattle.history.specs.declared.asks.Ask.{Ask}
 use Rattle.history.specs.declared.asks.Ask.TheVariants.{Open, Begin, Finish, Abandon, Dirty, Clean, Ack, Bind, Rebind, Unbind, Lookup, Tick}
 use Rattle.history.specs.declared.asks.Ask.TheVariants.{List as ListNames}
-use Rattle.history.specs.declared.limits.TheConstants.{MAX_DURATION, END_OF_TIME}
+use Rattle.history.specs.declared.limits.TheConstants.{MAX_DURATION_MS, END_OF_TIME}
 use Rattle.history.specs.Texts.{uid_text, client_text, object_text, name_text}
 use Rattle.journal.specs.Grammar.{IsUid, IsClient, IsName}
 
@@ -67,15 +67,15 @@ config_text config = join_with_byte 32 (
     codes "space" ∷ decimal config.lease_ms ∷ decimal config.ack_ms ∷ signed_decimal config.uid.unique ∷ signed_decimal config.uid.time ∷ [])
 
 -- A line with its LF.
-abbrev pub ended : List ℕ → List ℕ
-ended text = text ++ 10 ∷ []
+abbrev pub with_line_end : List ℕ → List ℕ
+with_line_end text = text ++ 10 ∷ []
 
 abbrev pub event_line : Uid → Event → List ℕ
-event_line space event = ended (event_text space event)
+event_line space event = with_line_end (event_text space event)
 
 -- The journal of a configuration and of events.
 unfoldable pub journal_text : SpaceConfig → List Event → List ℕ
-journal_text config events = ended (config_text config) ++ flat_map (event_line config.uid) events
+journal_text config events = with_line_end (config_text config) ++ flat_map (event_line config.uid) events
 
 -- ---- numbers that fit their types
 
@@ -114,7 +114,7 @@ pub record EventFits (event : Event) : Type 0 where
 -- The durations of a configuration are within their limits, and the count of its identifier is 0.
 pub record ConfigFits (config : SpaceConfig) : Type 0 where
   pub some_lease : 1 ≤ config.lease_ms
-  pub short_lease : config.lease_ms ≤ MAX_DURATION
+  pub short_lease : config.lease_ms ≤ MAX_DURATION_MS
   pub some_ack : 1 ≤ config.ack_ms
-  pub short_ack : config.ack_ms ≤ MAX_DURATION
+  pub short_ack : config.ack_ms ≤ MAX_DURATION_MS
   pub count : config.uid.count ≡ pos 0

@@ -8,7 +8,7 @@ ghost use Rattle.journal.specs.Grammar.{SpellsBelow, SpellsSigned, SpellsNumber,
 
 use crate::fields::Field;
 use crate::unread::Unread;
-use history::limits::{END_OF_TIME, MAX_DURATION};
+use history::limits::{END_OF_TIME, MAX_DURATION_MS};
 use object_ids::Uid;
 use std::alloc::Global;
 
@@ -130,7 +130,7 @@ fn read_below(limit: u64, word: &[u8]) -> Option<u64>
 pub(crate) fn read_duration(word: &[u8]) -> Option<u64>
     ensures { Finds SpellsDuration result word.now }
 {
-    let n = read_below(MAX_DURATION + 1, word)?;
+    let n = read_below(MAX_DURATION_MS + 1, word)?;
     if n == 0 { None } else { Some(n) }
 }
 

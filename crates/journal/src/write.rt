@@ -7,7 +7,7 @@ ghost use Rattle.history.specs.Texts.{uid_text, client_text, object_text, name_t
 ghost use Rattle.history.specs.declared.limits.TheConstants.{END_OF_TIME};
 ghost use Rattle.journal.specs.Grammar.{IsUid, IsClient, IsName};
 ghost use Rattle.journal.specs.Putting.{AppendsFront};
-ghost use Rattle.journal.specs.Written.{list_text, objects_text, pinned_text, strong_text, ask_words, config_text, event_text, ended, IsObject, AreKinds, AreObjects, AskFits, EventFits};
+ghost use Rattle.journal.specs.Written.{list_text, objects_text, pinned_text, strong_text, ask_words, config_text, event_text, with_line_end, IsObject, AreKinds, AreObjects, AskFits, EventFits};
 
 use crate::outline::{Word, put_line, put_words};
 use crate::put::put_decimal;
@@ -20,8 +20,8 @@ use std::alloc::AllocError;
 /// the durations are within their limits and the count is 0, it spells this configuration and no other ([`config_texts_spell`](crate::text_laws::config_texts_spell)).
 #[tactic(auto, unfolding(crate::specs::Written::config_text))]
 pub fn put_first_line(out: &mut ByteList, config: &SpaceConfig) -> Result<(), AllocError>
-    ensures text { OnOk result (out.new ≡ out.old ++ ended (config_text config.now)) }
-    ensures err { OnErr result (AppendsFront out.old (ended (config_text config.now)) out.new) }
+    ensures text { OnOk result (out.new ≡ out.old ++ with_line_end (config_text config.now)) }
+    ensures err { OnErr result (AppendsFront out.old (with_line_end (config_text config.now)) out.new) }
 
     // The numbers of an identifier without a count are within their ranges.
     ensures fits { config.now.uid.count ≡ pos 0 → IsUid config.now.uid }
@@ -41,8 +41,8 @@ pub fn put_first_line(out: &mut ByteList, config: &SpaceConfig) -> Result<(), Al
 /// Appends the line of an event, with its LF, in the journal of the space of this identifier. Where the event's numbers are
 /// within their ranges, it spells this event and no other ([`event_texts_spell`](crate::text_laws::event_texts_spell)).
 pub fn put_event_line(out: &mut ByteList, space: Uid, event: &Event) -> Result<(), AllocError>
-    ensures text { OnOk result (out.new ≡ out.old ++ ended (event_text space event.now)) }
-    ensures err { OnErr result (AppendsFront out.old (ended (event_text space event.now)) out.new) }
+    ensures text { OnOk result (out.new ≡ out.old ++ with_line_end (event_text space event.now)) }
+    ensures err { OnErr result (AppendsFront out.old (with_line_end (event_text space event.now)) out.new) }
 
     // The numbers of an event that was written are within their ranges, where its moment is below the end of time.
     ensures fits { OnOk result (event.now.moment < END_OF_TIME → EventFits event.now) }

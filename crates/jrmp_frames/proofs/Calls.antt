@@ -5,20 +5,20 @@ use Rattle.class_desc.specs.declared.field.TypeCode.{TypeCode}
 use Rattle.class_desc.specs.declared.slot.Item.{Item}
 use Rattle.class_desc.specs.declared.slot.Item.TheVariants as items
 use Rattle.ser_values.specs.declared.node.Node.{Node}
-use Rattle.ser_values.specs.Spelled.{put_block, joined}
-use Rattle.ser_values.specs.Fronts.{without_front}
-use Rattle.ser_values.specs.Reading.{Fault, short, magic_at}
-use Rattle.ser_values.proofs.PlainSound.{chosen}
-use Rattle.ser_values.proofs.Spelling.{joined_joined}
+use Rattle.stream_grammar.specs.Spelled.{joined}
+use Rattle.ser_values.specs.Fronts.{put_block, without_front}
+use Rattle.stream_grammar.specs.Reading.{Fault, short, magic_at}
+use Rattle.stream_grammar.proofs.PlainSound.{chosen}
+use Rattle.stream_grammar.proofs.Spelling.{joined_joined}
 use Rattle.ser_values.proofs.FrontLaws.{front_undone}
 use Rattle.ser_read.specs.declared.fault.StreamFault.{StreamFault}
 use Rattle.ser_read.specs.declared.serving.Want.{Want}
 use Rattle.ser_read.specs.declared.serving.Want.TheVariants as wanted
 use Rattle.ser_read.specs.Here.{Reads}
-use Rattle.ser_read.specs.Wants.{WantFault, inside, ◌▸◌, lifted, Stand, nothing_read, bytes_at, close_at, want_at, serve, serve_to_close, wants_at, WantBreaks}
-use Rattle.ser_read.specs.Asked.{Fits}
+use Rattle.ser_read.specs.Wants.{WantFault, inside, ◌▸◌, lift_fault, Stand, nothing_read, bytes_at, close_at, want_at, serve, serve_to_close, wants_at, WantBreaks}
+use Rattle.ser_read.specs.SpelledWants.{Fits}
 use Rattle.ser_read.proofs.Served.{want_ok, lifted_ok, given_is}
-use Rattle.ser_read.proofs.Asked.{serve_fits, serve_items}
+use Rattle.ser_read.proofs.SpelledWants.{serve_fits, serve_items}
 use Rattle.ser_read.proofs.Steps.{leads_read, done, reads_two}
 use Rattle.ser_read.proofs.Breaking.{want_first, want_breaks_two}
 use Rattle.ser_read.proofs.InOrder.{takes_asked}
@@ -93,7 +93,7 @@ head_fails : (end : ℕ) (ws : List Want) (bs : List ℕ) (f : WantFault) → he
 unfolding head_at wants_at serve_to_close serve want_at
 head_fails end ws bs f e = go (magic_at end (0xAC ∷ 0xED ∷ 0x00 ∷ 0x05 ∷ []) bs) e
   where
-    go : (r : Result (List ℕ) Fault) → (lifted r ▸ bytes_at end 34 nothing_read) ≡ Err f → (lifted r ▸ serve_to_close end (wanted.Bytes 34 ∷ ws) nothing_read) ≡ Err f
+    go : (r : Result (List ℕ) Fault) → (lift_fault r ▸ bytes_at end 34 nothing_read) ≡ Err f → (lift_fault r ▸ serve_to_close end (wanted.Bytes 34 ∷ ws) nothing_read) ≡ Err f
     go (Err g) e = let same : inside g ≡ f = cc in ap (λ (h : WantFault). Err h) same
     go (Ok bs) e = rw e refl
 

@@ -7,12 +7,12 @@ use Rattle.class_desc.specs.declared.field.TypeCode.TheVariants as codes
 use Rattle.class_desc.specs.declared.slot.Slot.{Slot}
 use Rattle.class_desc.specs.declared.slot.Item.{Item}
 use Rattle.class_desc.specs.declared.slot.Item.TheVariants as items
-use Rattle.ser_values.specs.Reading.{short}
+use Rattle.stream_grammar.specs.Reading.{short}
 use Rattle.ser_read.specs.declared.fault.StreamFault.{StreamFault}
 use Rattle.ser_read.specs.declared.serving.Want.TheVariants as wanted
 use Rattle.ser_read.specs.Here.{Reads}
 use Rattle.ser_read.specs.Wants.{WantFault, inside, Stand, bytes_at, slot_next, want_at, serve, WantBreaks}
-use Rattle.ser_read.proofs.Asked.{serve_fits}
+use Rattle.ser_read.proofs.SpelledWants.{serve_fits}
 use Rattle.ser_read.proofs.Wants.{want_bytes, want_slot}
 use Rattle.ser_read.proofs.Steps.{Leads, leads_start, leads_more, leads_done, said, done, reads_two}
 use Rattle.ser_read.proofs.InOrder.{given_before, serve_start, serve_next, serve_err, serve_end}
@@ -27,27 +27,27 @@ use Rattle.jrmp_frames.specs.Calls.{ReadsArgument, ReadsEach}
 
 -- A number that is wanted has as many bytes as its type.
 pub width_is : (code : TypeCode) (n : ℕ) → want_of code ≡ wanted.Bytes n → n ≡ width_of code
-width_is codes.B n h = cc
-width_is codes.C n h = cc
-width_is codes.D n h = cc
-width_is codes.F n h = cc
-width_is codes.I n h = cc
-width_is codes.J n h = cc
-width_is codes.S n h = cc
-width_is codes.Z n h = cc
+width_is codes.Byte n h = cc
+width_is codes.Char n h = cc
+width_is codes.Double n h = cc
+width_is codes.Float n h = cc
+width_is codes.Int n h = cc
+width_is codes.Long n h = cc
+width_is codes.Short n h = cc
+width_is codes.Boolean n h = cc
 width_is codes.Array n h = absurd cc
 width_is codes.Object n h = absurd cc
 
 -- No number has more than eight bytes.
 pub few_bytes : (code : TypeCode) → width_of code ≤ 8
-few_bytes codes.B = omega arith
-few_bytes codes.C = omega arith
-few_bytes codes.D = omega arith
-few_bytes codes.F = omega arith
-few_bytes codes.I = omega arith
-few_bytes codes.J = omega arith
-few_bytes codes.S = omega arith
-few_bytes codes.Z = omega arith
+few_bytes codes.Byte = omega arith
+few_bytes codes.Char = omega arith
+few_bytes codes.Double = omega arith
+few_bytes codes.Float = omega arith
+few_bytes codes.Int = omega arith
+few_bytes codes.Long = omega arith
+few_bytes codes.Short = omega arith
+few_bytes codes.Boolean = omega arith
 few_bytes codes.Array = omega arith
 few_bytes codes.Object = omega arith
 

@@ -6,13 +6,13 @@ use Rattle.std.proofs.Math.Seq.{take-add}
 use Rattle.wire_io.specs.Pulled.{PullState}
 use Rattle.object_ids.specs.Bytes.{signed_bytes, bytes_of_objid}
 use Rattle.class_desc.specs.declared.slot.Item.TheVariants as items
-use Rattle.ser_values.specs.Spelled.{put_block}
-use Rattle.ser_values.specs.Reading.{short, magic_at}
+use Rattle.ser_values.specs.Fronts.{put_block}
+use Rattle.stream_grammar.specs.Reading.{short, magic_at}
 use Rattle.ser_read.specs.declared.serving.Want.TheVariants as wanted
 use Rattle.ser_read.specs.Here.{Reads}
 use Rattle.ser_read.specs.Wants.{inside, Stand, nothing_read, bytes_at, want_at, serve}
 use Rattle.ser_read.proofs.Served.{lifted_ok}
-use Rattle.ser_read.proofs.Asked.{serve_fits, serve_items}
+use Rattle.ser_read.proofs.SpelledWants.{serve_fits, serve_items}
 use Rattle.jrmp_frames.specs.declared.head.CallHead.{CallHead}
 use Rattle.jrmp_frames.specs.Messages.{head_bytes}
 use Rattle.jrmp_frames.specs.Calls.{head_at}

@@ -1,12 +1,12 @@
 -- Calls and returns as they are written.
-use Rattle.std.proofs.Common.{◌≡◌, ℕ, ◌<◌, ◌≤◌, Bool, true, false, List, [], ◌∷◌, ◌++◌, length, map, get_or, Result, Ok, Err, refl, sym, ap, subst, ◌∙◌, append-nil, suc, arith}
+use Rattle.std.proofs.Common.{◌≡◌, ℕ, ◌<◌, ◌≤◌, Bool, true, List, [], ◌∷◌, ◌++◌, length, map, get_or, Result, Ok, Err, refl, sym, ap, subst, ◌∙◌, append-nil, suc, arith}
 use Rattle.std.proofs.Math.Logic.{∥∥₁_map, ∥∥₁_elim, ∥∥₁_prop}
 use Rattle.std.specs.Prelude.{OnOk}
 use Rattle.std.specs.List.{AllByRecursion}
 use Rattle.std.proofs.lemmas.List.Elements.{All-nil}
+use Rattle.ser_values.proofs.FrontLaws.{later_joined, put_apart}
 use Rattle.object_ids.specs.declared.ids.Uid.{Uid}
 use Rattle.class_desc.specs.declared.field.TypeCode.{TypeCode}
-use Rattle.class_desc.specs.TypeText.{is_nil}
 use Rattle.class_desc.specs.declared.slot.Item.{Item}
 use Rattle.class_desc.specs.declared.slot.Item.TheVariants as items
 use Rattle.ser_values.specs.declared.node.Node.{Node}
@@ -14,13 +14,14 @@ use Rattle.ser_values.specs.declared.graph.Graph.{Graph}
 use Rattle.ser_values.specs.Numbered.{IsGraph}
 use Rattle.ser_values.specs.Ranges.{NumbersFit, UnitsFit, NodeFits, UnitsFitIn}
 use Rattle.ser_values.specs.Shape.{joined_from, is_joined, parts_in}
-use Rattle.ser_values.specs.Spelled.{put_block, joined, Spells, SpellsBlocks}
+use Rattle.stream_grammar.specs.Spelled.{joined, Spells, SpellsBlocks}
+use Rattle.ser_values.specs.Fronts.{put_block}
 use Rattle.ser_write.proofs.Streams.{bytes_full}
 use Rattle.ser_write.specs.Canonical.{blocks, write_items, contents, value_bytes, IsFull, SpellFully}
 use Rattle.ser_read.specs.declared.serving.Want.{Want}
 use Rattle.ser_read.specs.declared.serving.Want.TheVariants as wanted
 use Rattle.ser_read.specs.Here.{AreBytes}
-use Rattle.ser_read.specs.Asked.{Fits, IsSome, EndsFull, IsAsked}
+use Rattle.ser_read.specs.SpelledWants.{Fits, IsSome, EndsFull, SpellsWants}
 use Rattle.jrmp_frames.specs.declared.head.CallHead.{CallHead}
 use Rattle.jrmp_frames.specs.declared.message.Body.{Body}
 use Rattle.jrmp_frames.specs.declared.message.Body.TheVariants.{Void, Prim, Tree}
@@ -44,26 +45,13 @@ ends_full [] h = tt
 ends_full (i ∷ []) h = full_is i h.0
 ends_full (i ∷ j ∷ is) h = ends_full (j ∷ is) h.1
 
-after_joined : (is : List Item) → joined_from true is ≡ true → is_joined is ≡ true
-unfolding joined_from
-after_joined [] h = refl
-after_joined (items.Ref s ∷ is) h = h
-after_joined (items.Bytes b ∷ is) h = absurd cc
-
-put_apart : (b : List ℕ) (is : List Item) → is_nil b ≡ false → joined_from true is ≡ true → put_block b is ≡ items.Bytes b ∷ is
-unfolding joined_from
-put_apart [] is h j = absurd cc
-put_apart (x ∷ b) [] h j = refl
-put_apart (x ∷ b) (items.Ref s ∷ is) h j = refl
-put_apart (x ∷ b) (items.Bytes p ∷ is) h j = absurd cc
-
 -- Items that are joined stay so.
 joined_own : (is : List Item) → is_joined is ≡ true → joined is ≡ is
 unfolding joined_from
 joined_own [] h = refl
 joined_own (items.Ref s ∷ is) h = ap (λ (l : List Item). items.Ref s ∷ l) (joined_own is h)
 joined_own (items.Bytes [] ∷ is) h = absurd cc
-joined_own (items.Bytes (x ∷ b) ∷ is) h = ap (put_block (x ∷ b)) (joined_own is (after_joined is h)) ∙ put_apart (x ∷ b) is refl h
+joined_own (items.Bytes (x ∷ b) ∷ is) h = ap (put_block (x ∷ b)) (joined_own is (later_joined is h)) ∙ put_apart (x ∷ b) is refl h
 
 -- ---- what is spelled
 
@@ -80,7 +68,7 @@ no_nodes : Nodes []
 unfolding parts_in
 no_nodes = record { numbers = All-nil NodeFits; units = All-nil UnitsFitIn; few = omega arith }
 
-spelled_asked : (ws : List Want) (answers : List Item) (nodes : List Node) (is : List Item) (bytes : List ℕ) → AreBytes bytes → Fits ws answers → joined answers ≡ is → Nodes nodes → SpellFully nodes is bytes → IsAsked ws answers nodes bytes
+spelled_asked : (ws : List Want) (answers : List Item) (nodes : List Node) (is : List Item) (bytes : List ℕ) → AreBytes bytes → Fits ws answers → joined answers ≡ is → Nodes nodes → SpellFully nodes is bytes → SpellsWants ws answers nodes bytes
 spelled_asked ws answers nodes is bytes range fits same known s = record {
   are_bytes = range;
   fits = fits;

@@ -5,10 +5,10 @@ use Rattle.wire_io.specs.declared.pull.Pull.{Pull}
 use Rattle.class_desc.specs.declared.field.TypeCode.{TypeCode}
 use Rattle.class_desc.specs.declared.slot.Item.{Item}
 use Rattle.class_desc.specs.declared.slot.Item.TheVariants as items
-use Rattle.ser_values.specs.Spelled.{joined}
-use Rattle.ser_values.specs.Reading.{short, magic_at}
+use Rattle.stream_grammar.specs.Spelled.{joined}
+use Rattle.stream_grammar.specs.Reading.{short, magic_at}
 use Rattle.ser_read.specs.Here.{Caused, Reads, IsTold, env, coming}
-use Rattle.ser_read.specs.Wants.{WantFault, inside, ◌▸◌, lifted, Stand, nothing_read, bytes_at, want_at, serve, serve_to_close, ReaderState, WantFails, WantBreaks}
+use Rattle.ser_read.specs.Wants.{WantFault, inside, ◌▸◌, lift_fault, Stand, nothing_read, bytes_at, want_at, serve, serve_to_close, ReaderState, WantFails, WantBreaks}
 use Rattle.jrmp_frames.specs.declared.arguments.Arg.{Arg}
 use Rattle.jrmp_frames.specs.declared.head.CallHead.{CallHead}
 use Rattle.jrmp_frames.specs.declared.arguments.Arguments.{Arguments}
@@ -18,7 +18,7 @@ use Rattle.jrmp_frames.specs.Messages.{head_bytes, want_of, wants_of, arg_of, ar
 
 -- The head of a call behind its code, as it is read: the magic number and the version, and then 34 bytes of block data
 unfoldable pub head_at : ℕ → List ℕ → Result (List ℕ × Stand × List ℕ) WantFault
-head_at end bs = lifted (magic_at end (0xAC ∷ 0xED ∷ 0x00 ∷ 0x05 ∷ []) bs) ▸ bytes_at end 34 nothing_read
+head_at end bs = lift_fault (magic_at end (0xAC ∷ 0xED ∷ 0x00 ∷ 0x05 ∷ []) bs) ▸ bytes_at end 34 nothing_read
 
 -- ---- what is answered
 

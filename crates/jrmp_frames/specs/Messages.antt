@@ -13,10 +13,11 @@ use Rattle.ser_values.specs.declared.value.Value.{Value}
 use Rattle.ser_values.specs.declared.value.Value.TheVariants as values
 use Rattle.ser_values.specs.declared.node.Node.{Node}
 use Rattle.ser_values.specs.declared.graph.Graph.{Graph}
-use Rattle.ser_values.specs.Spelled.{put_block, joined}
+use Rattle.stream_grammar.specs.Spelled.{joined}
+use Rattle.ser_values.specs.Fronts.{put_block}
 use Rattle.ser_read.specs.declared.serving.Want.{Want}
 use Rattle.ser_read.specs.declared.serving.Want.TheVariants as wanted
-use Rattle.ser_read.specs.Asked.{IsAsked}
+use Rattle.ser_read.specs.SpelledWants.{SpellsWants}
 use Rattle.ser_write.specs.Canonical.{contents, value_bytes}
 use Rattle.jrmp_frames.specs.declared.head.CallHead.{CallHead}
 use Rattle.jrmp_frames.specs.declared.arguments.Arg.{Arg}
@@ -39,14 +40,14 @@ return_front normal uid = (if normal then 1 else 2) ∷ bytes_of_uid uid
 
 -- how many bytes a value of a primitive type has
 abbrev pub width_of : TypeCode → ℕ
-width_of codes.B = 1
-width_of codes.C = 2
-width_of codes.D = 8
-width_of codes.F = 4
-width_of codes.I = 4
-width_of codes.J = 8
-width_of codes.S = 2
-width_of codes.Z = 1
+width_of codes.Byte = 1
+width_of codes.Char = 2
+width_of codes.Double = 8
+width_of codes.Float = 4
+width_of codes.Int = 4
+width_of codes.Long = 8
+width_of codes.Short = 2
+width_of codes.Boolean = 1
 width_of codes.Array = 0
 width_of codes.Object = 0
 
@@ -62,14 +63,14 @@ wants_of params = map want_of params
 
 -- The value of a primitive type that bytes spell; every byte but 00 is true. For the type of references it is null.
 abbrev pub value_of : TypeCode → List ℕ → Value
-value_of codes.B b = values.B (from_be_bytes w8 b)
-value_of codes.C b = values.C (from_be_bytes w16 b)
-value_of codes.D b = values.D (from_be_bytes w64 b)
-value_of codes.F b = values.F (from_be_bytes w32 b)
-value_of codes.I b = values.I (signed_from_bytes w32 b)
-value_of codes.J b = values.J (signed_from_bytes w64 b)
-value_of codes.S b = values.S (signed_from_bytes w16 b)
-value_of codes.Z b = values.Z (not (nat_eq (from_be_bytes w8 b) 0))
+value_of codes.Byte b = values.Byte (from_be_bytes w8 b)
+value_of codes.Char b = values.Char (from_be_bytes w16 b)
+value_of codes.Double b = values.Double (from_be_bytes w64 b)
+value_of codes.Float b = values.Float (from_be_bytes w32 b)
+value_of codes.Int b = values.Int (signed_from_bytes w32 b)
+value_of codes.Long b = values.Long (signed_from_bytes w64 b)
+value_of codes.Short b = values.Short (signed_from_bytes w16 b)
+value_of codes.Boolean b = values.Boolean (not (nat_eq (from_be_bytes w8 b) 0))
 value_of codes.Array b = values.Ref slots.Null
 value_of codes.Object b = values.Ref slots.Null
 
@@ -90,7 +91,7 @@ pub record CallBytes (head : CallHead) (params : List TypeCode) (arguments : Arg
   pub contents : List ℕ
   pub headed : bytes ≡ 0x50 ∷ 0xAC ∷ 0xED ∷ 0x00 ∷ 0x05 ∷ contents
   pub answers : List Item
-  pub asked : IsAsked (wanted.Bytes 34 ∷ wants_of params) (items.Bytes (head_bytes head) ∷ answers) arguments.graph.nodes contents
+  pub asked : SpellsWants (wanted.Bytes 34 ∷ wants_of params) (items.Bytes (head_bytes head) ∷ answers) arguments.graph.nodes contents
   pub items : arguments.graph.items ≡ joined answers
   pub values : arguments.values ≡ args_of params answers
 
@@ -116,7 +117,7 @@ want_for (items.Ref s) = wanted.Slot
 pub record ReturnBytes (normal : Bool) (uid : Uid) (body : Body) (bytes : List ℕ) : Type 0 where
   pub contents : List ℕ
   pub headed : bytes ≡ 0x51 ∷ 0xAC ∷ 0xED ∷ 0x00 ∷ 0x05 ∷ contents
-  pub asked : IsAsked (wanted.Bytes 15 ∷ map want_for (items_of body)) (items.Bytes (return_front normal uid) ∷ items_of body) (nodes_of body) contents
+  pub asked : SpellsWants (wanted.Bytes 15 ∷ map want_for (items_of body)) (items.Bytes (return_front normal uid) ∷ items_of body) (nodes_of body) contents
 
 -- ---- as they are written
 

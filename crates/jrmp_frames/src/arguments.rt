@@ -2,7 +2,7 @@
 ghost use Rattle.std.specs.Prelude.{◌≡◌, length, [], ◌∷◌, true, Some, is_some, IfOk, IfErr, OnOk, None};
 ghost use Rattle.wire_io.specs.Pulled.{PullState, pull_state};
 ghost use Rattle.ser_values.specs.Fronts.{without_front};
-ghost use Rattle.ser_read.specs.Wants.{StopsWant, want_at, serve, serve_to_close, wants_at};
+ghost use Rattle.ser_read.specs.Wants.{WantStopsTaken, want_at, serve, serve_to_close, wants_at};
 ghost use Rattle.ser_read.specs.declared.serving.Want.TheVariants as wanted;
 ghost use Rattle.jrmp_frames.specs.declared.head.CallHead.{CallHead};
 ghost use Rattle.jrmp_frames.specs.Messages.{width_of, want_of, wants_of, value_of};
@@ -68,10 +68,10 @@ fn want_of(code: TypeCode) -> Want
     ensures { result ≡ want_of code }
 {
     match code {
-        TypeCode::B | TypeCode::Z => Want::Bytes(1),
-        TypeCode::C | TypeCode::S => Want::Bytes(2),
-        TypeCode::F | TypeCode::I => Want::Bytes(4),
-        TypeCode::D | TypeCode::J => Want::Bytes(8),
+        TypeCode::Byte | TypeCode::Boolean => Want::Bytes(1),
+        TypeCode::Char | TypeCode::Short => Want::Bytes(2),
+        TypeCode::Float | TypeCode::Int => Want::Bytes(4),
+        TypeCode::Double | TypeCode::Long => Want::Bytes(8),
         TypeCode::Array | TypeCode::Object => Want::Slot,
     }
 }
@@ -112,14 +112,14 @@ fn value_of(code: TypeCode, bytes: &[u8]) -> Value
     ensures { result ≡ value_of code bytes.now }
 {
     match code {
-        TypeCode::B => Value::B(u8::from_be_bytes([bytes[0]])),
-        TypeCode::Z => Value::Z(u8::from_be_bytes([bytes[0]]) != 0),
-        TypeCode::C => Value::C(u16::from_be_bytes(two_bytes(bytes))),
-        TypeCode::S => Value::S(i16::from_be_bytes(two_bytes(bytes))),
-        TypeCode::F => Value::F(u32::from_be_bytes(four_bytes(bytes))),
-        TypeCode::I => Value::I(i32::from_be_bytes(four_bytes(bytes))),
-        TypeCode::D => Value::D(u64::from_be_bytes(eight_bytes(bytes))),
-        TypeCode::J => Value::J(i64::from_be_bytes(eight_bytes(bytes))),
+        TypeCode::Byte => Value::Byte(u8::from_be_bytes([bytes[0]])),
+        TypeCode::Boolean => Value::Boolean(u8::from_be_bytes([bytes[0]]) != 0),
+        TypeCode::Char => Value::Char(u16::from_be_bytes(two_bytes(bytes))),
+        TypeCode::Short => Value::Short(i16::from_be_bytes(two_bytes(bytes))),
+        TypeCode::Float => Value::Float(u32::from_be_bytes(four_bytes(bytes))),
+        TypeCode::Int => Value::Int(i32::from_be_bytes(four_bytes(bytes))),
+        TypeCode::Double => Value::Double(u64::from_be_bytes(eight_bytes(bytes))),
+        TypeCode::Long => Value::Long(i64::from_be_bytes(eight_bytes(bytes))),
         TypeCode::Array | TypeCode::Object => Value::Ref(Slot::Null),
     }
 }
@@ -137,7 +137,7 @@ fn read_prim<S: Source>(
     ensures kept { OnOk result (reader.new.refused ≡ None) }
     ensures lent { pull.new.source.ghost_name ≡ pull.old.source.ghost_name }
     ensures reads { IfOk result (ReadsArgument (pull_state S.left S.faults pull.old) (pull_state S.left S.faults pull.new) reader.old.stand reader.new.stand code) }
-    ensures stops { StopsWant S.left S.faults pull.old pull.new result (λ end. want_at end (want_of code) reader.old.stand) }
+    ensures stops { WantStopsTaken S.left S.faults pull.old pull.new result (λ end. want_at end (want_of code) reader.old.stand) }
 {
     let mut all = [0; WIDEST];
     let bytes = &mut all[..n as usize];
@@ -156,7 +156,7 @@ fn read_arg<S: Source>(
     ensures kept { OnOk result (reader.new.refused ≡ None) }
     ensures lent { pull.new.source.ghost_name ≡ pull.old.source.ghost_name }
     ensures reads { IfOk result (ReadsArgument (pull_state S.left S.faults pull.old) (pull_state S.left S.faults pull.new) reader.old.stand reader.new.stand code) }
-    ensures stops { StopsWant S.left S.faults pull.old pull.new result (λ end. want_at end (want_of code) reader.old.stand) }
+    ensures stops { WantStopsTaken S.left S.faults pull.old pull.new result (λ end. want_at end (want_of code) reader.old.stand) }
 {
     match want_of(code) {
         Want::Bytes(n) => read_prim(alloc, pull, reader, code, n),
@@ -180,7 +180,7 @@ fn read_onto<S: Source>(
     ensures kept { OnOk result (reader.new.refused ≡ None) }
     ensures lent { pull.new.source.ghost_name ≡ pull.old.source.ghost_name }
     ensures reads { OnOk result (ReadsEach (pull_state S.left S.faults pull.old) (pull_state S.left S.faults pull.new) reader.old.stand reader.new.stand params.now args.new) }
-    ensures stops { StopsWant S.left S.faults pull.old pull.new result (λ end. serve end (wants_of params.now) reader.old.stand) }
+    ensures stops { WantStopsTaken S.left S.faults pull.old pull.new result (λ end. serve end (wants_of params.now) reader.old.stand) }
 {
     args.reserve(params.len())?;
     for code in params {
@@ -215,7 +215,7 @@ fn read_graph<S: Source>(
     requires empty { args.old ≡ [] }
     ensures lent { pull.new.source.ghost_name ≡ pull.old.source.ghost_name }
     ensures reads { IfOk result (λ graph. ReadsArguments (pull_state S.left S.faults pull.old) (pull_state S.left S.faults pull.new) reader.stand params.now (record { graph = graph; values = args.new })) }
-    ensures stops { StopsWant S.left S.faults pull.old pull.new result (λ end. serve_to_close end (wants_of params.now) reader.stand) }
+    ensures stops { WantStopsTaken S.left S.faults pull.old pull.new result (λ end. serve_to_close end (wants_of params.now) reader.stand) }
 {
     let mut reader = reader;
     read_onto(alloc, pull, &mut reader, params, args)?;
@@ -233,7 +233,7 @@ fn read_values<S: Source>(
     requires ready { HasHead reader }
     ensures lent { pull.new.source.ghost_name ≡ pull.old.source.ghost_name }
     ensures reads { IfOk result (λ arguments. ReadsArguments (pull_state S.left S.faults pull.old) (pull_state S.left S.faults pull.new) reader.stand params.now arguments) }
-    ensures stops { StopsWant S.left S.faults pull.old pull.new result (λ end. serve_to_close end (wants_of params.now) reader.stand) }
+    ensures stops { WantStopsTaken S.left S.faults pull.old pull.new result (λ end. serve_to_close end (wants_of params.now) reader.stand) }
 {
     let mut values = ArgList::new(alloc);
     let graph = read_graph(alloc, pull, reader, params, &mut values)?;

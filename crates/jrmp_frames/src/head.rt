@@ -3,7 +3,7 @@ ghost use Rattle.std.specs.Prelude.{◌≡◌, length, IfOk, IfErr, None};
 ghost use Rattle.std.specs.Int.{w32, w64};
 ghost use Rattle.wire_io.specs.Pulled.{pull_state};
 ghost use Rattle.object_ids.specs.Bytes.{signed_bytes};
-ghost use Rattle.ser_read.specs.Wants.{StopsWant, WantTaken};
+ghost use Rattle.ser_read.specs.Wants.{WantStopsTaken, WantReadsTaken};
 ghost use Rattle.jrmp_frames.specs.Messages.{head_bytes};
 ghost use Rattle.jrmp_frames.specs.Calls.{head_at, ReadsHead, HasHead, BreaksIn, CausedIn, GivesIn};
 
@@ -84,8 +84,8 @@ fn read_start<S: Source>(
     requires { length bytes.old ≡ 34 }
     ensures lent { pull.new.source.ghost_name ≡ pull.old.source.ghost_name }
     ensures kept { IfOk result (λ reader. reader.refused ≡ None) }
-    ensures reads { WantTaken S.left S.faults pull.old pull.new result head_at (λ reader rest. (bytes.new, reader.stand, rest)) }
-    ensures stops { StopsWant S.left S.faults pull.old pull.new result head_at }
+    ensures reads { WantReadsTaken S.left S.faults pull.old pull.new result head_at (λ reader rest. (bytes.new, reader.stand, rest)) }
+    ensures stops { WantStopsTaken S.left S.faults pull.old pull.new result head_at }
 {
     let mut reader = Reader::start(alloc, pull)?;
     reader.bytes_into(alloc, pull, bytes)?;

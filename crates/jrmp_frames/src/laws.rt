@@ -1,5 +1,5 @@
 //! Laws of calls, for those who read contracts: these functions do nothing.
-ghost use Rattle.jrmp_frames.specs.Laws.{CallHasHead, CallIsOne};
+ghost use Rattle.jrmp_frames.specs.MessageLaws.{CallHasHead, CallIsOne};
 
 /// No call is a proper front of another, and bytes are a call with one head and one list of arguments.
 pub fn call_is_one()

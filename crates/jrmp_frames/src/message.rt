@@ -2,10 +2,11 @@
 ghost use Rattle.std.specs.Prelude.{◌≡◌, ◌<◌, List, ◌++◌, length, IfOk, OnOk};
 ghost use Rattle.class_desc.specs.declared.field.TypeCode.{TypeCode};
 ghost use Rattle.class_desc.specs.declared.slot.Item.{Item};
-ghost use Rattle.ser_values.specs.Spelled.{joined, put_block};
+ghost use Rattle.stream_grammar.specs.Spelled.{joined};
+ghost use Rattle.ser_values.specs.Fronts.{put_block};
 ghost use Rattle.ser_write.specs.Canonical.{blocks, contents, value_bytes, SpellFully};
 ghost use Rattle.ser_read.specs.Here.{AreBytes};
-ghost use Rattle.ser_read.specs.Asked.{Fits};
+ghost use Rattle.ser_read.specs.SpelledWants.{Fits};
 ghost use Rattle.jrmp_frames.specs.Messages.{wants_of, args_of, items_of, nodes_of, return_front, call_message, return_message, CallBytes, ReturnBytes};
 
 use crate::head::CallHead;

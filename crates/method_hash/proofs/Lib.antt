@@ -1,4 +1,3 @@
-mod Tests
 mod Types
 mod Steps
 mod Places

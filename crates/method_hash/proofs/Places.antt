@@ -5,7 +5,7 @@ use Rattle.class_desc.specs.declared.field.TypeCode.{TypeCode}
 use Rattle.class_desc.specs.declared.field.TypeCode.TheVariants as codes
 use Rattle.method_hash.specs.MethodText.{IsType, IsClassTail, Returns}
 use Rattle.method_hash.specs.Next.{need, IsWithin}
-use Rattle.method_hash.specs.Reading.{CompletesPart, CompletesTypes, Completes}
+use Rattle.method_hash.specs.TextReading.{CompletesPart, CompletesTypes, Completes}
 use Rattle.method_hash.specs.declared.place.Part.{Part}
 use Rattle.method_hash.specs.declared.place.Part.TheVariants.{Elements, Class, ClassName}
 use Rattle.method_hash.specs.declared.place.TextPlace.{TextPlace}
@@ -79,7 +79,7 @@ part_text Class = 0x61 ∷ 0x3B ∷ []
 part_text ClassName = 0x3B ∷ []
 
 part_completed : (part : Part) → CompletesPart part (part_text part)
-part_completed Elements = inr (inr (codes.I, refl, refl, refl))
+part_completed Elements = inr (inr (codes.Int, refl, refl, refl))
 part_completed Class = (0x61 ∷ [], omega arith, (refl, tt), refl)
 part_completed ClassName = ([], tt, refl)
 

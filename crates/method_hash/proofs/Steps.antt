@@ -10,7 +10,7 @@ use Rattle.class_desc.specs.TypeCode.{letter}
 use Rattle.class_desc.specs.TypeText.{code_of}
 use Rattle.method_hash.specs.MethodText.{is_name_byte, HasType, Returns}
 use Rattle.method_hash.specs.Next.{begin, part_next, next, in_parameter, in_result, IsWithin}
-use Rattle.method_hash.specs.Reading.{CompletesPart, CompletesTypes, Completes, name_noted, param_noted, returned_noted, returned_at}
+use Rattle.method_hash.specs.TextReading.{CompletesPart, CompletesTypes, Completes, name_noted, param_noted, returned_noted, returned_at}
 use Rattle.method_hash.specs.declared.place.Begun.{Begun}
 use Rattle.method_hash.specs.declared.place.Begun.TheVariants.{Whole, In}
 use Rattle.method_hash.specs.declared.place.Part.{Part}
@@ -178,14 +178,14 @@ abbrev pub GoesOn : TextPlace → ℕ → List ℕ → Type 0
 GoesOn p b t = (q : TextPlace) × (next p b ≡ Some q) × ((more : List ℕ) × (others : List TypeCode) × (coming : Option TypeCode) × Completes q t more others coming)
 
 letter_stands_out : (code : TypeCode) → (eqb (letter code) 0x29 ≡ false) × (eqb (letter code) 0x56 ≡ false)
-letter_stands_out codes.B = (refl, refl)
-letter_stands_out codes.C = (refl, refl)
-letter_stands_out codes.D = (refl, refl)
-letter_stands_out codes.F = (refl, refl)
-letter_stands_out codes.I = (refl, refl)
-letter_stands_out codes.J = (refl, refl)
-letter_stands_out codes.S = (refl, refl)
-letter_stands_out codes.Z = (refl, refl)
+letter_stands_out codes.Byte = (refl, refl)
+letter_stands_out codes.Char = (refl, refl)
+letter_stands_out codes.Double = (refl, refl)
+letter_stands_out codes.Float = (refl, refl)
+letter_stands_out codes.Int = (refl, refl)
+letter_stands_out codes.Long = (refl, refl)
+letter_stands_out codes.Short = (refl, refl)
+letter_stands_out codes.Boolean = (refl, refl)
 letter_stands_out codes.Array = (refl, refl)
 letter_stands_out codes.Object = (refl, refl)
 

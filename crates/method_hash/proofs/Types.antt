@@ -7,7 +7,7 @@ use Rattle.class_desc.specs.TypeCode.{is_primitive, letter}
 use Rattle.class_desc.specs.TypeText.{code_of}
 use Rattle.method_hash.specs.MethodText.{is_class_byte, AreClassBytes, IsClassTail, IsType, IsTail, HasType}
 use Rattle.method_hash.specs.Next.{begun_by, begin, part_next}
-use Rattle.method_hash.specs.Reading.{CompletesPart}
+use Rattle.method_hash.specs.TextReading.{CompletesPart}
 use Rattle.method_hash.specs.declared.place.Begun.{Begun}
 use Rattle.method_hash.specs.declared.place.Begun.TheVariants.{Whole, In}
 use Rattle.method_hash.specs.declared.place.Part.{Part}
@@ -21,14 +21,14 @@ CompletesBegun (In part) t = CompletesPart part t
 -- ---- letters
 
 pub letter_code : (code : TypeCode) → code_of (letter code) ≡ Some code
-letter_code codes.B = refl
-letter_code codes.C = refl
-letter_code codes.D = refl
-letter_code codes.F = refl
-letter_code codes.I = refl
-letter_code codes.J = refl
-letter_code codes.S = refl
-letter_code codes.Z = refl
+letter_code codes.Byte = refl
+letter_code codes.Char = refl
+letter_code codes.Double = refl
+letter_code codes.Float = refl
+letter_code codes.Int = refl
+letter_code codes.Long = refl
+letter_code codes.Short = refl
+letter_code codes.Boolean = refl
 letter_code codes.Array = refl
 letter_code codes.Object = refl
 
@@ -45,14 +45,14 @@ code_letter b code h = at (eqb b 0x42) refl h
 
     at : (t : Bool) → eqb b 0x42 ≡ t → code_of b ≡ Some code → b ≡ letter code
     at t e h =
-        step 0x42 codes.B _ refl (
-        step 0x43 codes.C _ refl (
-        step 0x44 codes.D _ refl (
-        step 0x46 codes.F _ refl (
-        step 0x49 codes.I _ refl (
-        step 0x4A codes.J _ refl (
-        step 0x53 codes.S _ refl (
-        step 0x5A codes.Z _ refl (
+        step 0x42 codes.Byte _ refl (
+        step 0x43 codes.Char _ refl (
+        step 0x44 codes.Double _ refl (
+        step 0x46 codes.Float _ refl (
+        step 0x49 codes.Int _ refl (
+        step 0x4A codes.Long _ refl (
+        step 0x53 codes.Short _ refl (
+        step 0x5A codes.Boolean _ refl (
         step 0x5B codes.Array _ refl (
         step 0x4C codes.Object _ refl none (eqb b 0x4C) refl) (eqb b 0x5B) refl) (eqb b 0x5A) refl) (eqb b 0x53) refl) (eqb b 0x4A) refl) (eqb b 0x49) refl) (eqb b 0x46) refl) (eqb b 0x44) refl) (eqb b 0x43) refl) (eqb b 0x42) refl h
 
@@ -60,24 +60,24 @@ code_letter b code h = at (eqb b 0x42) refl h
 
 -- A type of this kind has come so far behind its letter, and what completes it is its tail.
 begun_tail : (code : TypeCode) (x : Begun) (t : List ℕ) → begun_by (Some code) ≡ Some x → CompletesBegun x t → IsTail code t
-begun_tail codes.B Whole t h c = c
-begun_tail codes.C Whole t h c = c
-begun_tail codes.D Whole t h c = c
-begun_tail codes.F Whole t h c = c
-begun_tail codes.I Whole t h c = c
-begun_tail codes.J Whole t h c = c
-begun_tail codes.S Whole t h c = c
-begun_tail codes.Z Whole t h c = c
+begun_tail codes.Byte Whole t h c = c
+begun_tail codes.Char Whole t h c = c
+begun_tail codes.Double Whole t h c = c
+begun_tail codes.Float Whole t h c = c
+begun_tail codes.Int Whole t h c = c
+begun_tail codes.Long Whole t h c = c
+begun_tail codes.Short Whole t h c = c
+begun_tail codes.Boolean Whole t h c = c
 begun_tail codes.Array (In Elements) t h c = c
 begun_tail codes.Object (In Class) t h c = c
-begun_tail codes.B (In part) t h c = absurd cc
-begun_tail codes.C (In part) t h c = absurd cc
-begun_tail codes.D (In part) t h c = absurd cc
-begun_tail codes.F (In part) t h c = absurd cc
-begun_tail codes.I (In part) t h c = absurd cc
-begun_tail codes.J (In part) t h c = absurd cc
-begun_tail codes.S (In part) t h c = absurd cc
-begun_tail codes.Z (In part) t h c = absurd cc
+begun_tail codes.Byte (In part) t h c = absurd cc
+begun_tail codes.Char (In part) t h c = absurd cc
+begun_tail codes.Double (In part) t h c = absurd cc
+begun_tail codes.Float (In part) t h c = absurd cc
+begun_tail codes.Int (In part) t h c = absurd cc
+begun_tail codes.Long (In part) t h c = absurd cc
+begun_tail codes.Short (In part) t h c = absurd cc
+begun_tail codes.Boolean (In part) t h c = absurd cc
 begun_tail codes.Array Whole t h c = absurd cc
 begun_tail codes.Array (In Class) t h c = absurd cc
 begun_tail codes.Array (In ClassName) t h c = absurd cc
@@ -87,14 +87,14 @@ begun_tail codes.Object (In ClassName) t h c = absurd cc
 
 -- Behind the letter of a type, what its tail is completes it.
 tail_begun : (code : TypeCode) (t : List ℕ) → IsTail code t → (x : Begun) × (begun_by (Some code) ≡ Some x) × CompletesBegun x t
-tail_begun codes.B t h = (Whole, refl, h)
-tail_begun codes.C t h = (Whole, refl, h)
-tail_begun codes.D t h = (Whole, refl, h)
-tail_begun codes.F t h = (Whole, refl, h)
-tail_begun codes.I t h = (Whole, refl, h)
-tail_begun codes.J t h = (Whole, refl, h)
-tail_begun codes.S t h = (Whole, refl, h)
-tail_begun codes.Z t h = (Whole, refl, h)
+tail_begun codes.Byte t h = (Whole, refl, h)
+tail_begun codes.Char t h = (Whole, refl, h)
+tail_begun codes.Double t h = (Whole, refl, h)
+tail_begun codes.Float t h = (Whole, refl, h)
+tail_begun codes.Int t h = (Whole, refl, h)
+tail_begun codes.Long t h = (Whole, refl, h)
+tail_begun codes.Short t h = (Whole, refl, h)
+tail_begun codes.Boolean t h = (Whole, refl, h)
 tail_begun codes.Array t h = (In Elements, refl, h)
 tail_begun codes.Object t h = (In Class, refl, h)
 
@@ -116,26 +116,26 @@ type_begun code t (tail, is, h) = let r = tail_begun code tail h in (tail, r.0, 
 
 -- The text of a type is that of one of its kind.
 type_of : (code : TypeCode) (c : ℕ) (t : List ℕ) → c ≡ letter code → IsTail code t → IsType (c ∷ t)
-type_of codes.B c t e h = inr (inr (codes.B, refl, e, h))
-type_of codes.C c t e h = inr (inr (codes.C, refl, e, h))
-type_of codes.D c t e h = inr (inr (codes.D, refl, e, h))
-type_of codes.F c t e h = inr (inr (codes.F, refl, e, h))
-type_of codes.I c t e h = inr (inr (codes.I, refl, e, h))
-type_of codes.J c t e h = inr (inr (codes.J, refl, e, h))
-type_of codes.S c t e h = inr (inr (codes.S, refl, e, h))
-type_of codes.Z c t e h = inr (inr (codes.Z, refl, e, h))
+type_of codes.Byte c t e h = inr (inr (codes.Byte, refl, e, h))
+type_of codes.Char c t e h = inr (inr (codes.Char, refl, e, h))
+type_of codes.Double c t e h = inr (inr (codes.Double, refl, e, h))
+type_of codes.Float c t e h = inr (inr (codes.Float, refl, e, h))
+type_of codes.Int c t e h = inr (inr (codes.Int, refl, e, h))
+type_of codes.Long c t e h = inr (inr (codes.Long, refl, e, h))
+type_of codes.Short c t e h = inr (inr (codes.Short, refl, e, h))
+type_of codes.Boolean c t e h = inr (inr (codes.Boolean, refl, e, h))
 type_of codes.Array c t e h = inl (e, h)
 type_of codes.Object c t e h = inr (inl (e, h))
 
 primitive_tail : (code : TypeCode) (t : List ℕ) → is_primitive code ≡ true → t ≡ [] → IsTail code t
-primitive_tail codes.B t p h = h
-primitive_tail codes.C t p h = h
-primitive_tail codes.D t p h = h
-primitive_tail codes.F t p h = h
-primitive_tail codes.I t p h = h
-primitive_tail codes.J t p h = h
-primitive_tail codes.S t p h = h
-primitive_tail codes.Z t p h = h
+primitive_tail codes.Byte t p h = h
+primitive_tail codes.Char t p h = h
+primitive_tail codes.Double t p h = h
+primitive_tail codes.Float t p h = h
+primitive_tail codes.Int t p h = h
+primitive_tail codes.Long t p h = h
+primitive_tail codes.Short t p h = h
+primitive_tail codes.Boolean t p h = h
 primitive_tail codes.Array t p h = absurd cc
 primitive_tail codes.Object t p h = absurd cc
 

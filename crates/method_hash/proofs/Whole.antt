@@ -6,7 +6,7 @@ use Rattle.std.proofs.Math.Seq.{take-length}
 use Rattle.class_desc.specs.declared.field.TypeCode.{TypeCode}
 use Rattle.method_hash.specs.MethodText.{IsMethod, IsFront, BreaksAt}
 use Rattle.method_hash.specs.Next.{next, need}
-use Rattle.method_hash.specs.Reading.{Completes, HasRead, name_noted, param_noted, returned_noted, returned_at}
+use Rattle.method_hash.specs.TextReading.{Completes, HasRead, name_noted, param_noted, returned_noted, returned_at}
 use Rattle.method_hash.specs.declared.place.Part.TheVariants.{Elements, Class, ClassName}
 use Rattle.method_hash.specs.declared.place.TextPlace.{TextPlace}
 use Rattle.method_hash.specs.declared.place.TextPlace.TheVariants.{Name, Parameters, Parameter, Returned, ReturnedType, End}

@@ -1,5 +1,5 @@
 pub mod MethodText
 pub mod Next
-pub mod Reading
+pub mod TextReading
 pub mod Hash
 pub mod System

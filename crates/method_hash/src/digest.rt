@@ -1,6 +1,6 @@
 //! The hash by which a call names a method (Java RMI Specification, 8.3).
 ghost use Rattle.std.specs.Prelude.{◌≡◌, ◌<◌, ◌^◌, length};
-ghost use Rattle.method_hash.specs.Hash.{folded, hash_of};
+ghost use Rattle.method_hash.specs.Hash.{folded_hash, hash_of};
 
 use crate::method::Method;
 use sha1::Sha1;
@@ -25,7 +25,7 @@ pub fn hash(method: &Method) -> i64
 
 /// The first eight bytes of a digest, as a number with its lowest byte first.
 pub fn fold_hash(digest: [u8; 20]) -> i64
-    ensures { result ≡ folded digest }
+    ensures { result ≡ folded_hash digest }
 {
     i64::from_le_bytes([
         digest[0], digest[1], digest[2], digest[3], digest[4], digest[5], digest[6], digest[7],

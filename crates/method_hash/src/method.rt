@@ -2,7 +2,7 @@
 ghost use Rattle.std.specs.Prelude.{◌≡◌, ◌⊎◌, ◌+◌, ◌^◌, ◌<◌, ◌≤◌, ◌++◌, None, Some, OnOk, IfOk, IfErr, IfSome, IfNone};
 ghost use Rattle.method_hash.specs.MethodText.{IsMethod, IsUnread};
 ghost use Rattle.method_hash.specs.Next.{next, need};
-ghost use Rattle.method_hash.specs.Reading.{name_noted, param_noted, returned_noted};
+ghost use Rattle.method_hash.specs.TextReading.{name_noted, param_noted, returned_noted};
 ghost use Rattle.method_hash.specs.declared.method.MethodFault.TheVariants.{OutOfMemory};
 ghost use Rattle.method_hash.specs.declared.place.TextPlace.{TextPlace as Places};
 ghost use Rattle.method_hash.specs.declared.place.TextPlace.TheVariants.{Name};

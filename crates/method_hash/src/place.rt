@@ -6,7 +6,7 @@ ghost use Rattle.method_hash.specs.Next.{begin, part_next, next, in_parameter, i
 
 use class_desc::TypeCode;
 
-/// The greatest number of bytes of a method's name, and of its parameters.
+/// The most bytes of a method's name, and the most parameters of a method.
 pub const MAX_METHOD_PARTS: u32 = 255;
 
 /// Where in a type's text reading stands.

@@ -5,7 +5,7 @@ use Rattle.std.proofs.Common.{inl, inr, length-drop}
 use Rattle.std.proofs.lemmas.List.{nil_from_length}
 use Rattle.mod_utf.specs.Utf.{unit_bytes, utf, SpellsUnit, Utf}
 use Rattle.mod_utf.proofs.Spelling.{unit_spelled_once, unit_spelled, spelled_once}
-use Rattle.mod_utf.specs.Decoding.{front, then_unit, put_unit, decoded_at, decoded, IsBadAt, IsUnread, NoUnit, GivesMore}
+use Rattle.mod_utf.specs.Decoding.{front, then_unit, put_unit, decoded_at, decoded_units, IsBadAt, IsUnread, NoUnit, GivesMore}
 use Rattle.mod_utf.specs.declared.decode.UtfFault.{UtfFault}
 use Rattle.mod_utf.specs.declared.decode.UtfFault.TheVariants.{BadUtf, OutOfMemory}
 use Rattle.mod_utf.proofs.Fronts.{AreUnits, NoFront, AreOf, IsBad, front_sound, front_back, front_none, unit_some, not_both, one_place, one_units}
@@ -53,7 +53,7 @@ told (suc f) at (b ∷ bs) le = go (front (b ∷ bs)) refl (λ at bs le. told f 
         let less : length (drop n (b ∷ bs)) ≤ f = omega (arith, le, ap length s.1, length-append (unit_bytes u) (drop n (b ∷ bs)), unit_some u) in
         more u n s len (decoded_at f (at + n) (drop n (b ∷ bs))) (rec (at + n) (drop n (b ∷ bs)) less)
 
-pub decoded_told : (bs : List ℕ) → Told 0 bs (decoded bs)
+pub decoded_told : (bs : List ℕ) → Told 0 bs (decoded_units bs)
 decoded_told bs = told (length bs) 0 bs (omega arith)
 
 abbrev worse : ℕ → Result (List ℕ) ℕ
@@ -62,23 +62,23 @@ worse at = Err at
 abbrev good : List ℕ → Result (List ℕ) ℕ
 good us = Ok us
 
-pub decoded_sound : (bs us : List ℕ) → decoded bs ≡ Ok us → AreOf us bs
+pub decoded_sound : (bs us : List ℕ) → decoded_units bs ≡ Ok us → AreOf us bs
 decoded_sound bs us e = subst (Told 0 bs) e (decoded_told bs)
 
-pub decoded_bad : (bs : List ℕ) (at : ℕ) → decoded bs ≡ Err at → IsBad bs at
+pub decoded_bad : (bs : List ℕ) (at : ℕ) → decoded_units bs ≡ Err at → IsBad bs at
 decoded_bad bs at e = let h = subst (Told 0 bs) e (decoded_told bs) in (h.0, h.1, h.2, h.3, h.4, h.5, omega (arith, h.6))
 
-pub decoded_back : (bs us : List ℕ) → AreOf us bs → decoded bs ≡ Ok us
-decoded_back bs us h = go (decoded bs) refl
+pub decoded_back : (bs us : List ℕ) → AreOf us bs → decoded_units bs ≡ Ok us
+decoded_back bs us h = go (decoded_units bs) refl
   where
-    go : (r : Result (List ℕ) ℕ) → decoded bs ≡ r → decoded bs ≡ Ok us
+    go : (r : Result (List ℕ) ℕ) → decoded_units bs ≡ r → decoded_units bs ≡ Ok us
     go (Ok vs) e = let v = decoded_sound bs vs e in e ∙ ap good (one_units bs vs us v h)
     go (Err at) e = absurd (not_both us bs at h (decoded_bad bs at e))
 
-pub bad_back : (bs : List ℕ) (at : ℕ) → IsBad bs at → decoded bs ≡ Err at
-bad_back bs at h = go (decoded bs) refl
+pub bad_back : (bs : List ℕ) (at : ℕ) → IsBad bs at → decoded_units bs ≡ Err at
+bad_back bs at h = go (decoded_units bs) refl
   where
-    go : (r : Result (List ℕ) ℕ) → decoded bs ≡ r → decoded bs ≡ Err at
+    go : (r : Result (List ℕ) ℕ) → decoded_units bs ≡ r → decoded_units bs ≡ Err at
     go (Ok vs) e = absurd (not_both vs bs at (decoded_sound bs vs e) h)
     go (Err at2) e = e ∙ ap worse (one_place bs at2 at (decoded_bad bs at2 e) h)
 
@@ -143,16 +143,16 @@ only_text bs text h others o = one_units bs others text (are_of others bs o) (ar
 
 -- ---- as a function
 
-pub gives_text : (bs text : List ℕ) → Utf text bs → decoded bs ≡ Ok text
+pub gives_text : (bs text : List ℕ) → Utf text bs → decoded_units bs ≡ Ok text
 gives_text bs text h = decoded_back bs text (are_of text bs h)
 
-pub gives_bad : (bs : List ℕ) (at : ℕ) → IsBadAt bs at → decoded bs ≡ Err at
-gives_bad bs at h = go (decoded bs) refl
+pub gives_bad : (bs : List ℕ) (at : ℕ) → IsBadAt bs at → decoded_units bs ≡ Err at
+gives_bad bs at h = go (decoded_units bs) refl
   where
-    go : (r : Result (List ℕ) ℕ) → decoded bs ≡ r → decoded bs ≡ Err at
+    go : (r : Result (List ℕ) ℕ) → decoded_units bs ≡ r → decoded_units bs ≡ Err at
     go (Ok vs) e = absurd (h.no_text vs (is_text vs bs (decoded_sound bs vs e)))
     go (Err at2) e = e ∙ ap worse (one_place bs at2 at (decoded_bad bs at2 e) (bad_of bs at h))
 
-pub gives_unread : (bs old new : List ℕ) (fault : UtfFault) → IsUnread bs fault → GivesMore old new (Err fault) (decoded bs)
+pub gives_unread : (bs old new : List ℕ) (fault : UtfFault) → IsUnread bs fault → GivesMore old new (Err fault) (decoded_units bs)
 gives_unread bs old new (BadUtf at) h = gives_bad bs at h
 gives_unread bs old new OutOfMemory h = tt

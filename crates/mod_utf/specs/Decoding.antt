@@ -67,8 +67,8 @@ decoded_at zero at (b ∷ bs) = Err at
 decoded_at (suc f) at (b ∷ bs) = then_unit (decoded_at f) at (b ∷ bs) (front (b ∷ bs))
 
 -- The units that bytes spell, or the place from where on they spell none.
-abbrev pub decoded : List ℕ → Result (List ℕ) ℕ
-decoded bs = decoded_at (length bs) 0 bs
+abbrev pub decoded_units : List ℕ → Result (List ℕ) ℕ
+decoded_units bs = decoded_at (length bs) 0 bs
 
 -- A function answered what reading gives, unless memory ran out.
 abbrev pub GivesUnits : Result (List ℕ) UtfFault → Result (List ℕ) ℕ → Type 0

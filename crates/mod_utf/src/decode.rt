@@ -1,7 +1,7 @@
 //! Units from bytes: modified UTF (Java Object Serialization Specification, 6.2).
 ghost use Rattle.std.specs.Prelude.{◌≡◌, ◌++◌, ◌<◌, ◌≤◌, length, take, List, ℕ, OnOk, OnErr, IfOk, IfErr, IfSome};
 ghost use Rattle.mod_utf.specs.Utf.{Utf};
-ghost use Rattle.mod_utf.specs.Decoding.{front, two, three, decoded, IsUnread, GivesUnits, GivesMore};
+ghost use Rattle.mod_utf.specs.Decoding.{front, two, three, decoded_units, IsUnread, GivesUnits, GivesMore};
 
 use sequence::Units;
 use std::alloc::Global;
@@ -24,7 +24,7 @@ pub fn decode(alloc: Global, bytes: &[u8]) -> Result<Units, UtfFault>
     ensures ok { IfOk result (λ units. Utf units bytes.now) }
     ensures alone { IfOk result (λ units. (others : List ℕ) → Utf others bytes.now → others ≡ units) }
     ensures err { IfErr result (λ fault. IsUnread bytes.now fault) }
-    ensures value { GivesUnits result (decoded bytes.now) }
+    ensures value { GivesUnits result (decoded_units bytes.now) }
 {
     let mut units = Units::new(alloc);
     match decode_onto(&mut units, bytes) {
@@ -38,7 +38,7 @@ pub fn decode_onto(units: &mut Units, bytes: &[u8]) -> Result<(), UtfFault>
     ensures ok { OnOk result ((text : List ℕ) × Utf text bytes.now × (units.new ≡ units.old ++ text)) }
     ensures err { IfErr result (λ fault. IsUnread bytes.now fault) }
     ensures unchanged { OnErr result (units.new ≡ units.old) }
-    ensures value { GivesMore units.old units.new result (decoded bytes.now) }
+    ensures value { GivesMore units.old units.new result (decoded_units bytes.now) }
 {
     let before = units.len();
     match push_all(units, bytes) {

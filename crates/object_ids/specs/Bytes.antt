@@ -1,5 +1,5 @@
 -- The bytes of identifiers: each number in two's complement with its highest byte first, one after the other.
-use Rattle.std.specs.Prelude.{ℕ, ℤ, List, ◌++◌, take, drop}
+use Rattle.std.specs.Prelude.{ℕ, ℤ, FitsSigned, List, ◌++◌, take, drop}
 use Rattle.std.specs.Int.{w16, w32, w64, Width, to_be_bytes, from_be_bytes, cast_unsigned, cast_signed}
 use Rattle.object_ids.specs.declared.ids.Uid.{Uid}
 use Rattle.object_ids.specs.declared.ids.ObjId.{ObjId}
@@ -11,6 +11,12 @@ signed_bytes w x = to_be_bytes w (cast_unsigned w x)
 -- The signed number of this width that has these bytes.
 abbrev pub signed_from_bytes : Width → List ℕ → ℤ
 signed_from_bytes w bytes = cast_signed w (from_be_bytes w bytes)
+
+-- The identifier's numbers are in range, so that its bytes tell them.
+pub record FitsUid (uid : Uid) : Type 0 where
+  pub unique : FitsSigned w32 uid.unique
+  pub time : FitsSigned w64 uid.time
+  pub count : FitsSigned w16 uid.count
 
 -- Four bytes of the unique number, eight of the time, two of the count.
 abbrev pub bytes_of_uid : Uid → List ℕ

@@ -1,7 +1,7 @@
 //! The program `rmi`.
 #![tactic(auto)]
 
-use rmi_cli::{Host, Words, run};
+use rmi_cli::{Host, RunEnd, Words, run};
 use std::io::{ErrorKind, Read, Write};
 use std::net::{Net, TcpListener, TcpStream};
 use std::process::ExitCode;
@@ -10,14 +10,9 @@ use std::sync::Wait;
 use std::thread::Threads;
 use std::time::Clock;
 use std::{env, io};
-use wire_io::edge::{StdClock, StdSink, StdSource};
 use wire_io::put::put_all;
+use wire_io::std_io::{StdClock, StdSink, StdSource};
 use wire_io::tcp::TcpListen;
-
-/// The status where the words are no command line.
-const USAGE: u8 = 1;
-/// The status for want of memory.
-const OUT_OF_MEMORY: u8 = 5;
 
 /// The program's words. One that is no UTF-8 is `InvalidData`.
 fn words_of(rt: &HostRuntime) -> io::Result<Words> {
@@ -66,7 +61,7 @@ fn main(rt: HostRuntime) -> ExitCode {
         Ok(words) => run_process(&rt, &words, rt.stdin(), rt.stdout(), rt.stderr()),
         Err(e) if e.kind() == ErrorKind::InvalidData => {
             let _ = put_all(&mut StdSink::new(rt.stderr()), b"usage\n");
-            return ExitCode::from(USAGE);
+            return ExitCode::from(RunEnd::Usage.status());
         }
         Err(e) => Err(e),
     };
@@ -74,7 +69,7 @@ fn main(rt: HostRuntime) -> ExitCode {
         Ok(status) => ExitCode::from(status),
         Err(_) => {
             let _ = put_all(&mut StdSink::new(rt.stderr()), b"out of memory\n");
-            ExitCode::from(OUT_OF_MEMORY)
+            ExitCode::from(RunEnd::OutOfMemory.status())
         }
     }
 }

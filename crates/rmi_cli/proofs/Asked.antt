@@ -3,14 +3,14 @@ use Rattle.std.proofs.Common.{◌≡◌, ℕ, ◌≤◌, ◌<◌, ◌^◌, List,
 use Rattle.std.specs.Prelude.{slice_get}
 use Rattle.std.proofs.lemmas.Bool.Decides.{Decides-eqb}
 use Rattle.std.proofs.lemmas.Fmt.{decimal_injective}
-use Rattle.object_ids.proofs.Exact.{and_true}
+use Rattle.std.proofs.lemmas.Bool.{and_from}
 use Rattle.object_ids.specs.Same.{same_bytes}
-use Rattle.history.specs.declared.limits.TheConstants.{MAX_DURATION}
+use Rattle.history.specs.declared.limits.TheConstants.{MAX_DURATION_MS}
 use Rattle.rmi_cli.proofs.DrillWords.{one_drill}
 use Rattle.rmi_cli.specs.Command.{AskFor, IsAnswer, IsServe, IsWordOfDrill, word_of_text}
-use Rattle.rmi_cli.specs.Terms.{AreGivenBy, IsInRange, IsServed, IsBindingOf, IsDurationOf, SpellsUpTo}
-use Rattle.rmi_cli.specs.declared.terms.ServeWords.{ServeWords}
-use Rattle.rmi_cli.specs.declared.terms.Terms.{Terms}
+use Rattle.rmi_cli.specs.Options.{AreGivenBy, IsInRange, IsServeInRange, IsBindingOf, IsDurationOf, SpellsUpTo}
+use Rattle.rmi_cli.specs.declared.options.ServeWords.{ServeWords}
+use Rattle.rmi_cli.specs.declared.options.LeaseOptions.{LeaseOptions}
 use Rattle.rmi_cli.specs.declared.words.Command.{Command}
 use Rattle.rmi_cli.specs.declared.words.Command.TheVariants.{Answer, Serve, Replay, Show, Drill}
 use Rattle.rmi_cli.specs.declared.words.DrillText.{DrillText}
@@ -18,28 +18,28 @@ use Rattle.rmi_cli.specs.declared.words.DrillText.TheVariants.{Summary, Journal}
 
 -- ---- ranges
 
-duration_in_range : (default n : ℕ) (word : Option (List ℕ)) → 1 ≤ default → default ≤ MAX_DURATION → IsDurationOf default n word → (1 ≤ n) × (n ≤ MAX_DURATION)
+duration_in_range : (default n : ℕ) (word : Option (List ℕ)) → 1 ≤ default → default ≤ MAX_DURATION_MS → IsDurationOf default n word → (1 ≤ n) × (n ≤ MAX_DURATION_MS)
 duration_in_range default n (Some word) some short spells = (spells.0, spells.1)
 duration_in_range default n None some short is = (omega (arith, is, some), omega (arith, is, short))
 
-terms_in_range : (terms : Terms) (words : List (List ℕ)) → AreGivenBy terms words → IsInRange terms
-terms_in_range terms words given =
-    let lease = duration_in_range 600000 terms.lease_ms (slice_get words 1) (omega arith) (omega arith) given.lease in
-    let ack = duration_in_range 300000 terms.ack_ms (slice_get words 2) (omega arith) (omega arith) given.ack in
+options_in_range : (options : LeaseOptions) (words : List (List ℕ)) → AreGivenBy options words → IsInRange options
+options_in_range options words given =
+    let lease = duration_in_range 600000 options.lease_ms (slice_get words 1) (omega arith) (omega arith) given.lease in
+    let ack = duration_in_range 300000 options.ack_ms (slice_get words 2) (omega arith) (omega arith) given.ack in
     record { some_lease = lease.0; short_lease = lease.1; some_ack = ack.0; short_ack = ack.1 }
 
--- The terms of `answer` are in range.
-pub answer_in_range : (words : List (List ℕ)) (terms : Terms) → AskFor words (Answer terms) → IsInRange terms
-answer_in_range words terms asked = terms_in_range terms asked.rest asked.terms_are
+-- The options of `answer` are in range.
+pub answer_in_range : (words : List (List ℕ)) (options : LeaseOptions) → AskFor words (Answer options) → IsInRange options
+answer_in_range words options asked = options_in_range options asked.rest asked.options_are
 
 -- So is what `serve` is told.
-pub serve_in_range : (words : List (List ℕ)) (serve : ServeWords) → AskFor words (Serve serve) → IsServed serve
+pub serve_in_range : (words : List (List ℕ)) (serve : ServeWords) → AskFor words (Serve serve) → IsServeInRange serve
 serve_in_range words serve asked = record {
   port = asked.told.port_is.0;
   port_fits = asked.told.port_is.1;
   count = asked.told.count_is.0;
   count_fits = asked.told.count_is.1;
-  terms = terms_in_range serve.terms asked.rest asked.told.terms_are;
+  options = options_in_range serve.options asked.rest asked.told.options_are;
 }
 
 -- ---- one command
@@ -56,32 +56,32 @@ same_number : (most a b : ℕ) (word : List ℕ) → most < 2 ^ 64 → SpellsUpT
 same_number most a b word fits x y = decimal_injective a b (omega (arith, fits, x.1)) (omega (arith, fits, y.1)) (sym x.2 ∙ y.2)
 
 same_duration : (default a b : ℕ) (word : Option (List ℕ)) → IsDurationOf default a word → IsDurationOf default b word → a ≡ b
-same_duration default a b (Some word) x y = same_number MAX_DURATION a b word (omega arith) x y
+same_duration default a b (Some word) x y = same_number MAX_DURATION_MS a b word (omega arith) x y
 same_duration default a b None x y = x ∙ sym y
 
-abbrev terms_with : Bool → ℕ → ℕ → Terms
-terms_with binding lease ack = record { binding = binding; lease_ms = lease; ack_ms = ack }
+abbrev options_with : Bool → ℕ → ℕ → LeaseOptions
+options_with binding lease ack = record { binding = binding; lease_ms = lease; ack_ms = ack }
 
-abbrev serve_with : ℕ → ℕ → Terms → ServeWords
-serve_with port count terms = record { port = port; count = count; terms = terms }
+abbrev serve_with : ℕ → ℕ → LeaseOptions → ServeWords
+serve_with port count options = record { port = port; count = count; options = options }
 
-same_terms : (words : List (List ℕ)) (a b : Terms) → AreGivenBy a words → AreGivenBy b words → a ≡ b
-same_terms words a b x y =
+same_options : (words : List (List ℕ)) (a b : LeaseOptions) → AreGivenBy a words → AreGivenBy b words → a ≡ b
+same_options words a b x y =
     let binding = same_binding a.binding b.binding (slice_get words 0) x.binding y.binding in
     let lease = same_duration 600000 a.lease_ms b.lease_ms (slice_get words 1) x.lease y.lease in
     let ack = same_duration 300000 a.ack_ms b.ack_ms (slice_get words 2) x.ack y.ack in
-    ap (λ x. terms_with x a.lease_ms a.ack_ms) binding ∙ ap (λ n. terms_with b.binding n a.ack_ms) lease ∙ ap (λ n. terms_with b.binding b.lease_ms n) ack
+    ap (λ x. options_with x a.lease_ms a.ack_ms) binding ∙ ap (λ n. options_with b.binding n a.ack_ms) lease ∙ ap (λ n. options_with b.binding b.lease_ms n) ack
 
 -- the word that asks for a command
 abbrev first_of : Command → List ℕ
-first_of (Answer terms) = codes "answer"
+first_of (Answer options) = codes "answer"
 first_of (Serve serve) = codes "serve"
 first_of Replay = codes "replay"
 first_of Show = codes "show"
 first_of (Drill text seed rounds) = word_of_text text
 
 first_is : (words : List (List ℕ)) (command : Command) → AskFor words command → get_or words 0 [] ≡ first_of command
-first_is words (Answer terms) asked = ap (λ words. get_or words 0 []) asked.words_are
+first_is words (Answer options) asked = ap (λ words. get_or words 0 []) asked.words_are
 first_is words (Serve serve) asked = ap (λ words. get_or words 0 []) asked.words_are
 first_is words Replay asked = ap (λ words. get_or words 0 []) asked
 first_is words Show asked = ap (λ words. get_or words 0 []) asked
@@ -89,7 +89,7 @@ first_is words (Drill text seed rounds) asked = ap (λ words. get_or words 0 [])
 
 same_bytes-self : (word : List ℕ) → same_bytes word word ≡ true
 same_bytes-self [] = refl
-same_bytes-self (x ∷ xs) = and_true (x == x) (same_bytes xs xs) ((Decides-eqb x x).1 refl) (same_bytes-self xs)
+same_bytes-self (x ∷ xs) = and_from (x == x) (same_bytes xs xs) ((Decides-eqb x x).1 refl) (same_bytes-self xs)
 
 -- Two commands that begin with other words are not asked for by the same ones.
 apart : (words : List (List ℕ)) (a b : Command) → AskFor words a → AskFor words b → same_bytes (first_of a) (first_of b) ≡ false → ⊥
@@ -97,10 +97,10 @@ apart words a b x y other =
     let same : first_of a ≡ first_of b = sym (first_is words a x) ∙ first_is words b y in
     true≢false (sym (same_bytes-self (first_of b)) ∙ subst (λ word. same_bytes word (first_of b) ≡ false) same other)
 
-same_answer : (words : List (List ℕ)) (a b : Terms) → IsAnswer a words → IsAnswer b words → a ≡ b
+same_answer : (words : List (List ℕ)) (a b : LeaseOptions) → IsAnswer a words → IsAnswer b words → a ≡ b
 same_answer words a b x y =
     let rest : x.rest ≡ y.rest = ap (λ words. drop 1 words) (sym x.words_are ∙ y.words_are) in
-    same_terms y.rest a b (subst (λ words. AreGivenBy a words) rest x.terms_are) y.terms_are
+    same_options y.rest a b (subst (λ words. AreGivenBy a words) rest x.options_are) y.options_are
 
 same_serve : (words : List (List ℕ)) (a b : ServeWords) → IsServe a words → IsServe b words → a ≡ b
 same_serve words a b x y =
@@ -108,8 +108,8 @@ same_serve words a b x y =
     let rest : x.rest ≡ y.rest = ap (λ words. drop 3 words) same in
     let port : a.port ≡ b.port = same_number 65535 a.port b.port y.port (omega arith) (subst (λ word. SpellsUpTo 65535 a.port word) (ap (λ words. get_or words 1 []) same) x.told.port_is) y.told.port_is in
     let count : a.count ≡ b.count = same_number 65535 a.count b.count y.count (omega arith) (subst (λ word. SpellsUpTo 65535 a.count word) (ap (λ words. get_or words 2 []) same) x.told.count_is) y.told.count_is in
-    let terms : a.terms ≡ b.terms = same_terms y.rest a.terms b.terms (subst (λ words. AreGivenBy a.terms words) rest x.told.terms_are) y.told.terms_are in
-    ap (λ n. serve_with n a.count a.terms) port ∙ ap (λ n. serve_with b.port n a.terms) count ∙ ap (λ x. serve_with b.port b.count x) terms
+    let options : a.options ≡ b.options = same_options y.rest a.options b.options (subst (λ words. AreGivenBy a.options words) rest x.told.options_are) y.told.options_are in
+    ap (λ n. serve_with n a.count a.options) port ∙ ap (λ n. serve_with b.port n a.options) count ∙ ap (λ x. serve_with b.port b.count x) options
 
 same_drill : (words : List (List ℕ)) (text text2 : DrillText) (seed rounds seed2 rounds2 : ℕ) → IsWordOfDrill words (word_of_text text) seed rounds
     → IsWordOfDrill words (word_of_text text2) seed2 rounds2 → Drill text seed rounds ≡ Drill text2 seed2 rounds2
@@ -121,36 +121,36 @@ same_drill words text text2 seed rounds seed2 rounds2 x y =
 
 -- Words ask for one command.
 pub asked_once : (words : List (List ℕ)) (a b : Command) → AskFor words a → AskFor words b → a ≡ b
-asked_once words (Answer terms) (Answer terms2) x y = ap Answer (same_answer words terms terms2 x y)
+asked_once words (Answer options) (Answer options2) x y = ap Answer (same_answer words options options2 x y)
 asked_once words (Serve serve) (Serve serve2) x y = ap Serve (same_serve words serve serve2 x y)
 asked_once words Replay Replay x y = refl
 asked_once words Show Show x y = refl
 asked_once words (Drill text seed rounds) (Drill text2 seed2 rounds2) x y = same_drill words text text2 seed rounds seed2 rounds2 x y
-asked_once words (Answer terms) (Serve serve2) x y = absurd (apart words (Answer terms) (Serve serve2) x y refl)
-asked_once words (Answer terms) Replay x y = absurd (apart words (Answer terms) Replay x y refl)
-asked_once words (Answer terms) Show x y = absurd (apart words (Answer terms) Show x y refl)
-asked_once words (Answer terms) (Drill Summary seed2 rounds2) x y = absurd (apart words (Answer terms) (Drill Summary seed2 rounds2) x y refl)
-asked_once words (Answer terms) (Drill Journal seed2 rounds2) x y = absurd (apart words (Answer terms) (Drill Journal seed2 rounds2) x y refl)
-asked_once words (Serve serve) (Answer terms2) x y = absurd (apart words (Serve serve) (Answer terms2) x y refl)
+asked_once words (Answer options) (Serve serve2) x y = absurd (apart words (Answer options) (Serve serve2) x y refl)
+asked_once words (Answer options) Replay x y = absurd (apart words (Answer options) Replay x y refl)
+asked_once words (Answer options) Show x y = absurd (apart words (Answer options) Show x y refl)
+asked_once words (Answer options) (Drill Summary seed2 rounds2) x y = absurd (apart words (Answer options) (Drill Summary seed2 rounds2) x y refl)
+asked_once words (Answer options) (Drill Journal seed2 rounds2) x y = absurd (apart words (Answer options) (Drill Journal seed2 rounds2) x y refl)
+asked_once words (Serve serve) (Answer options2) x y = absurd (apart words (Serve serve) (Answer options2) x y refl)
 asked_once words (Serve serve) Replay x y = absurd (apart words (Serve serve) Replay x y refl)
 asked_once words (Serve serve) Show x y = absurd (apart words (Serve serve) Show x y refl)
 asked_once words (Serve serve) (Drill Summary seed2 rounds2) x y = absurd (apart words (Serve serve) (Drill Summary seed2 rounds2) x y refl)
 asked_once words (Serve serve) (Drill Journal seed2 rounds2) x y = absurd (apart words (Serve serve) (Drill Journal seed2 rounds2) x y refl)
-asked_once words Replay (Answer terms2) x y = absurd (apart words Replay (Answer terms2) x y refl)
+asked_once words Replay (Answer options2) x y = absurd (apart words Replay (Answer options2) x y refl)
 asked_once words Replay (Serve serve2) x y = absurd (apart words Replay (Serve serve2) x y refl)
 asked_once words Replay Show x y = absurd (apart words Replay Show x y refl)
 asked_once words Replay (Drill Summary seed2 rounds2) x y = absurd (apart words Replay (Drill Summary seed2 rounds2) x y refl)
 asked_once words Replay (Drill Journal seed2 rounds2) x y = absurd (apart words Replay (Drill Journal seed2 rounds2) x y refl)
-asked_once words Show (Answer terms2) x y = absurd (apart words Show (Answer terms2) x y refl)
+asked_once words Show (Answer options2) x y = absurd (apart words Show (Answer options2) x y refl)
 asked_once words Show (Serve serve2) x y = absurd (apart words Show (Serve serve2) x y refl)
 asked_once words Show Replay x y = absurd (apart words Show Replay x y refl)
 asked_once words Show (Drill Summary seed2 rounds2) x y = absurd (apart words Show (Drill Summary seed2 rounds2) x y refl)
 asked_once words Show (Drill Journal seed2 rounds2) x y = absurd (apart words Show (Drill Journal seed2 rounds2) x y refl)
-asked_once words (Drill Summary seed rounds) (Answer terms2) x y = absurd (apart words (Drill Summary seed rounds) (Answer terms2) x y refl)
+asked_once words (Drill Summary seed rounds) (Answer options2) x y = absurd (apart words (Drill Summary seed rounds) (Answer options2) x y refl)
 asked_once words (Drill Summary seed rounds) (Serve serve2) x y = absurd (apart words (Drill Summary seed rounds) (Serve serve2) x y refl)
 asked_once words (Drill Summary seed rounds) Replay x y = absurd (apart words (Drill Summary seed rounds) Replay x y refl)
 asked_once words (Drill Summary seed rounds) Show x y = absurd (apart words (Drill Summary seed rounds) Show x y refl)
-asked_once words (Drill Journal seed rounds) (Answer terms2) x y = absurd (apart words (Drill Journal seed rounds) (Answer terms2) x y refl)
+asked_once words (Drill Journal seed rounds) (Answer options2) x y = absurd (apart words (Drill Journal seed rounds) (Answer options2) x y refl)
 asked_once words (Drill Journal seed rounds) (Serve serve2) x y = absurd (apart words (Drill Journal seed rounds) (Serve serve2) x y refl)
 asked_once words (Drill Journal seed rounds) Replay x y = absurd (apart words (Drill Journal seed rounds) Replay x y refl)
 asked_once words (Drill Journal seed rounds) Show x y = absurd (apart words (Drill Journal seed rounds) Show x y refl)

@@ -9,7 +9,7 @@ use Rattle.history.specs.Limits.{limits, refusal}
 use Rattle.history.specs.Steps.{Step, Steps, IsLegal, history_with}
 use Rattle.history.specs.Table.{places}
 use Rattle.wire_io.specs.Wire.{Wires}
-use Rattle.drill.specs.Rounds.{drill_config, drilled}
+use Rattle.drill.specs.Rounds.{drill_config, drill_events}
 use Rattle.drill.specs.Runs.{StopsIn, EndsIn}
 use Rattle.rmi_cli.specs.Drilled.{TakesAll, IsStopped, DrillStops, Drills, DrillsExactly}
 use Rattle.rmi_cli.specs.Replay.{EventIsTaken, AllTaken}
@@ -59,13 +59,13 @@ taken_there config h (x ∷ front) e rest taken =
 
 -- ---- drills
 
-pub takes_all : (seed rounds : ℕ) (config : SpaceConfig) (h : List Event) → config ≡ drill_config → h ≡ drilled seed rounds → IsLegal config h → TakesAll seed rounds
+pub takes_all : (seed rounds : ℕ) (config : SpaceConfig) (h : List Event) → config ≡ drill_config → h ≡ drill_events seed rounds → IsLegal config h → TakesAll seed rounds
 takes_all seed rounds config h same is legal =
     let P : SpaceConfig → Type 0 = λ c. AllTaken c [] h in
     let Q : List Event → Type 0 = λ g. AllTaken drill_config [] g in
     subst Q is (subst P same (legal_taken config h legal))
 
-stopped_in : (seed rounds : ℕ) (cause : Refused) → StopsIn drill_config [] (drilled seed rounds) cause → IsStopped seed rounds
+stopped_in : (seed rounds : ℕ) (cause : Refused) → StopsIn drill_config [] (drill_events seed rounds) cause → IsStopped seed rounds
 stopped_in seed rounds cause s = record {
   front = s.front;
   event = s.event;
@@ -76,7 +76,7 @@ stopped_in seed rounds cause s = record {
   refused = s.cause;
 }
 
-pub stops : (seed rounds : ℕ) (refused : Refused) → EndsIn drill_config [] (drilled seed rounds) refused → DrillStops seed rounds refused
+pub stops : (seed rounds : ℕ) (refused : Refused) → EndsIn drill_config [] (drill_events seed rounds) refused → DrillStops seed rounds refused
 stops seed rounds HistoryFull (inl memory) = absurd (cc)
 stops seed rounds HistoryFull (inr s) = stopped_in seed rounds HistoryFull s
 stops seed rounds (Full kind) (inl memory) = absurd (cc)

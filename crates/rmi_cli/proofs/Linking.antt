@@ -3,8 +3,8 @@ use Rattle.std.proofs.Common.{◌≡◌, ◌≢◌, ℕ, ◌≤◌, List, Option
 use Rattle.std.specs.Prelude.{false, is_err}
 use Rattle.wire_io.specs.Links.{Listens, with_next}
 use Rattle.wire_io.specs.Wire.{Rose}
-use Rattle.conn_server.specs.declared.accepts.Stop.{Stop}
-use Rattle.conn_server.specs.declared.accepts.Stop.TheVariants as stops
+use Rattle.conn_server.specs.declared.accept_loop.Stop.{Stop}
+use Rattle.conn_server.specs.declared.accept_loop.Stop.TheVariants as stops
 use Rattle.rmi_cli.specs.Line.{status_of_run}
 use Rattle.rmi_cli.specs.ServedLinks.{EndsServed}
 use Rattle.rmi_cli.specs.declared.end.RunEnd.{RunEnd}

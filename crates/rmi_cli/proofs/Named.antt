@@ -3,25 +3,26 @@ use Rattle.std.proofs.Common.{◌≡◌, ℕ, List, Option, sym, subst, ◌∙�
 use Rattle.std.specs.Prelude.{IfSome}
 use Rattle.wire_io.specs.Wire.{Wires}
 use Rattle.conn_server.specs.declared.server.Report.{Report}
-use Rattle.sample_server.specs.declared.crew.SampleHand.{SampleHand}
+use Rattle.sample_app.specs.declared.crew.SampleHand.{SampleHand}
 use Rattle.rmi_cli.proofs.Asked.{answer_in_range, serve_in_range}
 use Rattle.rmi_cli.specs.Answer.{AnswersExactly}
 use Rattle.rmi_cli.specs.Command.{AskFor}
 use Rattle.rmi_cli.specs.Drilled.{Drills}
 use Rattle.rmi_cli.specs.Limits.{IsInLimits}
 use Rattle.rmi_cli.specs.Opening.{served_opening}
-use Rattle.rmi_cli.specs.ServedLinks.{Heard, IsSampleLink, ListensAlone, ServeEnds, ServesLinks, Serving, serve_plan}
+use Rattle.conn_server.specs.Reports.{ServesLinks}
+use Rattle.rmi_cli.specs.ServedLinks.{ListenerLog, IsSampleLink, ListensAlone, ServeEnds, Serving, serve_plan}
 use Rattle.rmi_cli.specs.Told.{Reported, TellsEnd}
 use Rattle.rmi_cli.specs.declared.end.RunEnd.{RunEnd}
-use Rattle.rmi_cli.specs.declared.terms.ServeWords.{ServeWords}
-use Rattle.rmi_cli.specs.declared.terms.Terms.{Terms}
+use Rattle.rmi_cli.specs.declared.options.ServeWords.{ServeWords}
+use Rattle.rmi_cli.specs.declared.options.LeaseOptions.{LeaseOptions}
 use Rattle.rmi_cli.specs.declared.words.Command.{Command}
 use Rattle.rmi_cli.specs.declared.words.Command.TheVariants.{Answer, Serve, Replay, Show, Drill}
 use Rattle.rmi_cli.specs.declared.words.DrillText.{DrillText}
 
 -- What words ask for is in the limits of its command.
 pub asked_fits : (words : List (List ℕ)) (c : Command) → AskFor words c → IsInLimits c
-asked_fits words (Answer terms) is = answer_in_range words terms is
+asked_fits words (Answer options) is = answer_in_range words options is
 asked_fits words (Serve serve) is = serve_in_range words serve is
 asked_fits words Replay is = tt
 asked_fits words Show is = tt
@@ -29,8 +30,8 @@ asked_fits words (Drill text seed rounds) is = is.in_range.most
 
 -- ---- one command, named twice
 
-same_terms : (t t2 : Terms) → Answer t ≡ Answer t2 → t ≡ t2
-same_terms t t2 same = cc
+same_options : (t t2 : LeaseOptions) → Answer t ≡ Answer t2 → t ≡ t2
+same_options t t2 same = cc
 
 same_serve : (s s2 : ServeWords) → Serve s ≡ Serve s2 → s ≡ s2
 same_serve s s2 same = cc
@@ -38,10 +39,10 @@ same_serve s s2 same = cc
 same_drill : (text text2 : DrillText) (m n m2 n2 : ℕ) → Drill text m n ≡ Drill text2 m2 n2 → (text ≡ text2) × (m ≡ m2) × (n ≡ n2)
 same_drill text text2 m n m2 n2 same = (cc, cc, cc)
 
-pub exactly_asked : (seed : List ℕ) (command : Command) (t t2 : Terms) (old new : Wires) (told : Reported) → command ≡ Answer t → command ≡ Answer t2
+pub exactly_asked : (seed : List ℕ) (command : Command) (t t2 : LeaseOptions) (old new : Wires) (told : Reported) → command ≡ Answer t → command ≡ Answer t2
     → AnswersExactly seed t old new told → AnswersExactly seed t2 old new told
 exactly_asked seed command t t2 old new told is is2 exact =
-    let P : Terms → Type 0 = λ x. AnswersExactly seed x old new told in subst P (same_terms t t2 (sym is ∙ is2)) exact
+    let P : LeaseOptions → Type 0 = λ x. AnswersExactly seed x old new told in subst P (same_options t t2 (sym is ∙ is2)) exact
 
 pub drills_named : (command : Command) (text text2 : DrillText) (m n m2 n2 : ℕ) (old new : Wires) (told : Reported) → command ≡ Drill text m n → command ≡ Drill text2 m2 n2
     → Drills text m n old new told → Drills text2 m2 n2 old new told
@@ -53,10 +54,10 @@ drills_named command text text2 m n m2 n2 old new told is is2 drills =
     subst R same.2 (subst Q same.1 (subst P same.0 drills))
 
 pub serving_asked : {I O T R : Type 0} (left : I → Option (List ℕ)) (held : O → Option (List ℕ)) (given : T → Option (List ℕ)) (seed : List ℕ) (command : Command) (s s2 : ServeWords)
-    (heard heard2 : Heard) (old new : Wires) (faults faults2 : ℕ) (told : Reported) (served : Option (Report I O T (SampleHand R))) (end : RunEnd) → command ≡ Serve s → command ≡ Serve s2
-    → IfSome served (ServesLinks (IsSampleLink {R = R} left held given (serve_plan seed s)) (served_opening seed s.terms) s.count heard.accepted heard2.accepted)
-    → ListensAlone s.port heard heard2 served → ServeEnds old.held new.held faults faults2 served end → TellsEnd told end → new.left ≡ old.left
-    → Serving (IsSampleLink {R = R} left held given (serve_plan seed s2)) seed s2 served heard heard2 old new faults faults2 told
-serving_asked {I} {O} {T} {R} left held given seed command s s2 heard heard2 old new faults faults2 told served end is is2 links alone ends tells unread =
-    let P : ServeWords → Type 0 = λ x. Serving (IsSampleLink {R = R} left held given (serve_plan seed x)) seed x served heard heard2 old new faults faults2 told in
+    (log_before log_after : ListenerLog) (old new : Wires) (faults faults2 : ℕ) (told : Reported) (served : Option (Report I O T (SampleHand R))) (end : RunEnd) → command ≡ Serve s → command ≡ Serve s2
+    → IfSome served (ServesLinks (IsSampleLink {R = R} left held given (serve_plan seed s)) (served_opening seed s.options) s.count log_before.accepted log_after.accepted)
+    → ListensAlone s.port log_before log_after served → ServeEnds old.held new.held faults faults2 served end → TellsEnd told end → new.left ≡ old.left
+    → Serving (IsSampleLink {R = R} left held given (serve_plan seed s2)) seed s2 served log_before log_after old new faults faults2 told
+serving_asked {I} {O} {T} {R} left held given seed command s s2 log_before log_after old new faults faults2 told served end is is2 links alone ends tells unread =
+    let P : ServeWords → Type 0 = λ x. Serving (IsSampleLink {R = R} left held given (serve_plan seed x)) seed x served log_before log_after old new faults faults2 told in
     subst P (same_serve s s2 (sym is ∙ is2)) (record { alone = alone; links = links; end = end; ends = ends; tells = tells; unread = unread })

@@ -2,9 +2,9 @@
 use Rattle.std.proofs.Common.{◌≡◌, ℕ, ◌≤◌, ◌<◌, List, [], length, take, Option, Some, Result, Ok, Err, ◌⊎◌, inl, inr, refl, ap, sym, subst, ◌∙◌, arith}
 use Rattle.class_desc.specs.declared.slot.Item.{Item}
 use Rattle.ser_values.specs.declared.node.Node.{Node}
-use Rattle.ser_values.specs.Spelled.{IsStream}
-use Rattle.ser_values.specs.Reading.{Fault, short, bad, too_many, too_deep, stream_of}
-use Rattle.ser_values.proofs.Complete.{stream_complete}
+use Rattle.stream_grammar.specs.Spelled.{IsStream}
+use Rattle.stream_grammar.specs.Reading.{Fault, short, bad, too_many, too_deep, stream_of}
+use Rattle.stream_grammar.proofs.Complete.{stream_complete}
 use Rattle.ser_read.specs.declared.fault.StreamKind.{StreamKind}
 use Rattle.ser_read.specs.declared.fault.StreamKind.TheVariants as kinds
 use Rattle.ser_read.specs.declared.fault.StreamFault.{StreamFault}

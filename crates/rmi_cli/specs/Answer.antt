@@ -1,35 +1,36 @@
 -- What `rmi answer` does.
-use Rattle.std.specs.Prelude.{◌≡◌, Bool, ℕ, ◌+◌, ◌%◌, ◌^◌, pos, codes, ◌⊎◌, List, [], ◌++◌, slice_index, Option, Some}
+use Rattle.std.specs.Prelude.{◌≡◌, Bool, ℕ, ◌+◌, ◌%◌, ◌^◌, pos, ◌⊎◌, List, [], ◌++◌, slice_index, Option, Some}
 use Rattle.std.specs.List.{flat_map}
 use Rattle.std.specs.Int.{w64, to_be_bytes}
 use Rattle.wire_io.specs.Wire.{Wires, with_front, with_end, Gave}
 use Rattle.history.specs.declared.asks.Event.{Event}
-use Rattle.space.specs.Ports.{Went}
+use Rattle.ports.specs.Ports.{Went}
 use Rattle.call_dispatch.specs.declared.end.ConnEnd.{ConnEnd}
 use Rattle.call_dispatch.specs.End.{IsSettled}
-use Rattle.call_dispatch.specs.Terms.{Terms}
+use Rattle.system_objects.specs.Terms.{Terms}
 use Rattle.call_dispatch.specs.Acts.{States, entries, moments, calls, MayAll, Moves}
-use Rattle.call_dispatch.specs.Tape.{Tick, tape}
-use Rattle.call_dispatch.specs.Spot.{Course}
+use Rattle.call_dispatch.specs.Tape.{OutsideAnswer, tape}
+use Rattle.call_dispatch.specs.ConnectionState.{Transcript}
 use Rattle.call_dispatch.specs.Dialogue.{Dialogue}
-use Rattle.call_dispatch.specs.declared.setup.TheConstants.{DRAWS_BEGIN_BELOW}
+use Rattle.system_objects.specs.declared.setup.TheConstants.{DRAWS_BEGIN_BELOW}
 use Rattle.sample_app.specs.Kinds.{sample_kinds}
 use Rattle.sample_app.specs.Opened.{sample_events}
 use Rattle.sample_app.specs.Does as sample
 use Rattle.conn_server.specs.Plans.{low_signed}
+use Rattle.rmi_cli.specs.Loopback.{loopback_host}
 use Rattle.rmi_cli.specs.Opening.{served_space}
 use Rattle.rmi_cli.specs.Told.{Reported, TellsExactly, TellsEnd}
 use Rattle.rmi_cli.specs.declared.end.RunEnd.TheVariants.{Answered}
-use Rattle.rmi_cli.specs.declared.terms.Terms.{Terms as ServedTerms}
+use Rattle.rmi_cli.specs.declared.options.LeaseOptions.{LeaseOptions}
 
 -- The terms of the connection, by the seed and by whether clients may bind names: it has the number 1, its peer is 127.0.0.1, port 1234, its own
 -- end is 127.0.0.1, port 1099, and the kinds of objects are the sample's.
 abbrev pub answer_terms : List ℕ → Bool → Terms
 answer_terms seed binding = record {
   by = 1;
-  peer_host = codes "127.0.0.1";
+  peer_host = loopback_host;
   peer_port = pos 1234;
-  host = codes "127.0.0.1";
+  host = loopback_host;
   port = pos 1099;
   binding = binding;
   mark = to_be_bytes w64 (slice_index seed 2);
@@ -40,36 +41,36 @@ answer_terms seed binding = record {
 
 -- This course is the only one of its input and of what the outside answered: where the input was told and a settled dialogue stands for it,
 -- in which the outside's answers begin as those that were given here, as far as both go, the connection went so, unless something outside failed.
-abbrev pub IsOnly : List ℕ → Bool → Wires → Wires → Course → ConnEnd → Type 0
-IsOnly seed binding old new course result = (other : Course) (rest : List ℕ) (end : ConnEnd) (t t2 : List Tick)
+abbrev pub IsOnly : List ℕ → Bool → Wires → Wires → Transcript → ConnEnd → Type 0
+IsOnly seed binding old new course result = (other : Transcript) (rest : List ℕ) (end : ConnEnd) (t t2 : List OutsideAnswer)
     → old.left ≡ Some (other.taken ++ rest) → Dialogue (answer_terms seed binding) 0 other (Some rest) end → IsSettled end → IsSettled result
     → tape course.acts ++ t ≡ tape other.acts ++ t2 → (result ≡ end) × (course ≡ other) × (new.left ≡ Some rest)
 
 -- One connection was served: what was taken, done and written is a dialogue with the end, on terms by the seed and the words, before which nothing was
 -- drawn, and the only one of the input and the outside's answers. The clock gave the moments of its turns, and these are, one after the other, steps
 -- of the sample space's history. Each invocation came out as one of a sample object may, and the calls of the worker count from no numbers on.
-pub record ServesOne (seed : List ℕ) (terms : ServedTerms) (old new : Wires) (gave gave2 : Option (List ℕ)) (end : ConnEnd) : Type 0 where
-  pub course : Course
+pub record ServesOne (seed : List ℕ) (options : LeaseOptions) (old new : Wires) (gave gave_after : Option (List ℕ)) (end : ConnEnd) : Type 0 where
+  pub course : Transcript
   pub left : old.left ≡ with_front course.taken new.left
   pub held : new.held ≡ with_end old.held course.written
-  pub dialogue : Dialogue (answer_terms seed terms.binding) 0 course new.left end
-  pub only : IsOnly seed terms.binding old new course end
-  pub given : Gave gave gave2 (flat_map moments course.acts)
+  pub dialogue : Dialogue (answer_terms seed options.binding) 0 course new.left end
+  pub only : IsOnly seed options.binding old new course end
+  pub given : Gave gave gave_after (flat_map moments course.acts)
   pub events : List Event
-  pub went : Went (served_space seed terms) 1 (sample_events (served_space seed terms)) (flat_map entries course.acts) events
+  pub went : Went (served_space seed options) 1 (sample_events (served_space seed options)) (flat_map entries course.acts) events
   pub may_all : MayAll sample.May (flat_map calls course.acts)
   pub numbers : States
   pub counted : Moves sample.Moves [] (flat_map calls course.acts) numbers
 
 -- Where a settled dialogue without acts stands for the input that was told, the connection went so, unless something outside failed.
-unfoldable pub ServesExactly : List ℕ → ServedTerms → Wires → Wires → ConnEnd → Type 0
-ServesExactly seed terms old new result = (other : Course) (rest : List ℕ) (end : ConnEnd)
-    → old.left ≡ Some (other.taken ++ rest) → Dialogue (answer_terms seed terms.binding) 0 other (Some rest) end → other.acts ≡ [] → IsSettled end → IsSettled result
+unfoldable pub ServesExactly : List ℕ → LeaseOptions → Wires → Wires → ConnEnd → Type 0
+ServesExactly seed options old new result = (other : Transcript) (rest : List ℕ) (end : ConnEnd)
+    → old.left ≡ Some (other.taken ++ rest) → Dialogue (answer_terms seed options.binding) 0 other (Some rest) end → other.acts ≡ [] → IsSettled end → IsSettled result
     → (result ≡ end) × (new.left ≡ Some rest) × (new.held ≡ with_end old.held other.written)
 
 -- One connection was served, and its end is told.
-abbrev pub Answers : List ℕ → ServedTerms → Wires → Wires → Option (List ℕ) → Option (List ℕ) → Reported → Type 0
-Answers seed terms old new given given2 told = (end : ConnEnd) × ServesOne seed terms old new given given2 end × TellsEnd told (Answered end)
+abbrev pub Answers : List ℕ → LeaseOptions → Wires → Wires → Option (List ℕ) → Option (List ℕ) → Reported → Type 0
+Answers seed options old new given given_after told = (end : ConnEnd) × ServesOne seed options old new given given_after end × TellsEnd told (Answered end)
 
 -- The outside failed: reading, writing or memory.
 abbrev pub IsOutsideStatus : ℕ → Type 0
@@ -77,7 +78,7 @@ IsOutsideStatus status = (status ≡ 3) ⊎ ((status ≡ 4) ⊎ (status ≡ 5))
 
 -- Where a settled dialogue that neither makes a turn nor invokes anything stands for the input that was told, it is the one that was had: its
 -- rest is left, its output was written, and its end is told; unless the outside failed.
-unfoldable pub AnswersExactly : List ℕ → ServedTerms → Wires → Wires → Reported → Type 0
-AnswersExactly seed terms old new told = (other : Course) (rest : List ℕ) (end : ConnEnd)
-    → old.left ≡ Some (other.taken ++ rest) → Dialogue (answer_terms seed terms.binding) 0 other (Some rest) end → other.acts ≡ [] → IsSettled end
+unfoldable pub AnswersExactly : List ℕ → LeaseOptions → Wires → Wires → Reported → Type 0
+AnswersExactly seed options old new told = (other : Transcript) (rest : List ℕ) (end : ConnEnd)
+    → old.left ≡ Some (other.taken ++ rest) → Dialogue (answer_terms seed options.binding) 0 other (Some rest) end → other.acts ≡ [] → IsSettled end
     → (TellsExactly told (Answered end) × (new.left ≡ Some rest) × (new.held ≡ with_end old.held other.written)) ⊎ IsOutsideStatus told.status

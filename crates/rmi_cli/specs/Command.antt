@@ -1,8 +1,8 @@
 -- The command lines of the program.
 use Rattle.std.specs.Prelude.{◌≡◌, ℕ, ◌<◌, ◌≤◌, ◌^◌, codes, decimal, List, [], ◌∷◌}
-use Rattle.rmi_cli.specs.Terms.{AreGivenBy, SpellsUpTo}
-use Rattle.rmi_cli.specs.declared.terms.ServeWords.{ServeWords}
-use Rattle.rmi_cli.specs.declared.terms.Terms.{Terms}
+use Rattle.rmi_cli.specs.Options.{AreGivenBy, SpellsUpTo}
+use Rattle.rmi_cli.specs.declared.options.ServeWords.{ServeWords}
+use Rattle.rmi_cli.specs.declared.options.LeaseOptions.{LeaseOptions}
 use Rattle.rmi_cli.specs.declared.words.Command.{Command}
 use Rattle.rmi_cli.specs.declared.words.Command.TheVariants.{Answer, Serve, Replay, Show, Drill}
 use Rattle.rmi_cli.specs.declared.words.DrillText.{DrillText}
@@ -13,17 +13,17 @@ use Rattle.rmi_cli.specs.declared.numbers.TheConstants.{MAX_ROUNDS}
 abbrev pub IsWord : List (List ℕ) → List ℕ → Type 0
 IsWord words word = words ≡ word ∷ []
 
--- These words are `answer`, and up to three words that give its terms.
-pub record IsAnswer (terms : Terms) (words : List (List ℕ)) : Type 0 where
+-- These words are `answer`, and up to three words that give its options.
+pub record IsAnswer (options : LeaseOptions) (words : List (List ℕ)) : Type 0 where
   pub rest : List (List ℕ)
   pub words_are : words ≡ codes "answer" ∷ rest
-  pub terms_are : AreGivenBy terms rest
+  pub options_are : AreGivenBy options rest
 
--- What `serve` is told by a word for the port, a word for the count, and up to three words that give its terms.
+-- What `serve` is told by a word for the port, a word for the count, and up to three words that give its options.
 pub record IsToldBy (port count : List ℕ) (serve : ServeWords) (rest : List (List ℕ)) : Type 0 where
   pub port_is : SpellsUpTo 65535 serve.port port
   pub count_is : SpellsUpTo 65535 serve.count count
-  pub terms_are : AreGivenBy serve.terms rest
+  pub options_are : AreGivenBy serve.options rest
 
 -- These words are `serve`, and the words for what it is told.
 pub record IsServe (serve : ServeWords) (words : List (List ℕ)) : Type 0 where
@@ -51,7 +51,7 @@ word_of_text Journal = codes "journal"
 
 -- These words ask for the command.
 abbrev pub AskFor : List (List ℕ) → Command → Type 0
-AskFor words (Answer terms) = IsAnswer terms words
+AskFor words (Answer options) = IsAnswer options words
 AskFor words (Serve serve) = IsServe serve words
 AskFor words Replay = IsWord words (codes "replay")
 AskFor words Show = IsWord words (codes "show")

@@ -9,7 +9,7 @@ use Rattle.history.specs.Limits.{limits, refusal}
 use Rattle.history.specs.Outline.{summary}
 use Rattle.history.specs.Table.{places}
 use Rattle.journal.specs.Written.{journal_text}
-use Rattle.drill.specs.Rounds.{drill_config, drilled}
+use Rattle.drill.specs.Rounds.{drill_config, drill_events}
 use Rattle.rmi_cli.specs.Replay.{AllTaken}
 use Rattle.rmi_cli.specs.Told.{Reported, TellsExactly, TellsEnd}
 use Rattle.rmi_cli.specs.declared.words.DrillText.{DrillText}
@@ -24,11 +24,11 @@ text_of Journal config events = journal_text config events
 
 -- what is written of a drill whose events are all taken
 abbrev pub drill_text : DrillText → ℕ → ℕ → List ℕ
-drill_text text seed rounds = text_of text drill_config (drilled seed rounds)
+drill_text text seed rounds = text_of text drill_config (drill_events seed rounds)
 
 -- A drill's events are all taken, one after another.
 abbrev pub TakesAll : ℕ → ℕ → Type 0
-TakesAll seed rounds = AllTaken drill_config [] (drilled seed rounds)
+TakesAll seed rounds = AllTaken drill_config [] (drill_events seed rounds)
 
 -- A drill's events are taken up to one that there is a cause to refuse.
 pub record IsStopped (seed rounds : ℕ) : Type 0 where
@@ -36,7 +36,7 @@ pub record IsStopped (seed rounds : ℕ) : Type 0 where
   pub event : Event
   pub rest : List Event
   pub cause : Refused
-  pub events_are : drilled seed rounds ≡ front ++ event ∷ rest
+  pub events_are : drill_events seed rounds ≡ front ++ event ∷ rest
   pub taken : AllTaken drill_config [] front
   pub refused : refusal limits drill_config (places drill_config front) event ≡ Some cause
 
@@ -54,19 +54,19 @@ end_of_refused NoMemory = OutOfMemory
 
 -- What each end says of a drill, and what was written, by what the output held before and after; `text` is the drill's text.
 abbrev pub DrillEnds : ℕ → ℕ → List ℕ → Option (List ℕ) → Option (List ℕ) → RunEnd → Type 0
-DrillEnds seed rounds text held held2 Done = TakesAll seed rounds × (held2 ≡ with_end held text)
-DrillEnds seed rounds text held held2 Usage = ⊥
-DrillEnds seed rounds text held held2 (Answered end) = ⊥
-DrillEnds seed rounds text held held2 (BadLine line) = ⊥
-DrillEnds seed rounds text held held2 RefusedTurn = IsStopped seed rounds × (held2 ≡ held)
-DrillEnds seed rounds text held held2 (TooLarge limit) = ⊥
-DrillEnds seed rounds text held held2 (NotShown fault) = ⊥
-DrillEnds seed rounds text held held2 ListenFault = ⊥
-DrillEnds seed rounds text held held2 AcceptFault = ⊥
-DrillEnds seed rounds text held held2 ReadFault = ⊥
-DrillEnds seed rounds text held held2 WriteFault =
-    (sent : ℕ) × TakesAll seed rounds × (sent < length text) × (held2 ≡ with_end held (take sent text))
-DrillEnds seed rounds text held held2 OutOfMemory = held2 ≡ held
+DrillEnds seed rounds text held held_after Done = TakesAll seed rounds × (held_after ≡ with_end held text)
+DrillEnds seed rounds text held held_after Usage = ⊥
+DrillEnds seed rounds text held held_after (Answered end) = ⊥
+DrillEnds seed rounds text held held_after (BadLine line) = ⊥
+DrillEnds seed rounds text held held_after RefusedTurn = IsStopped seed rounds × (held_after ≡ held)
+DrillEnds seed rounds text held held_after (TooLarge limit) = ⊥
+DrillEnds seed rounds text held held_after (NotShown fault) = ⊥
+DrillEnds seed rounds text held held_after ListenFault = ⊥
+DrillEnds seed rounds text held held_after AcceptFault = ⊥
+DrillEnds seed rounds text held held_after ReadFault = ⊥
+DrillEnds seed rounds text held held_after WriteFault =
+    (sent : ℕ) × TakesAll seed rounds × (sent < length text) × (held_after ≡ with_end held (take sent text))
+DrillEnds seed rounds text held held_after OutOfMemory = held_after ≡ held
 
 -- A drill was made, which is told, and nothing was read.
 abbrev pub Drills : DrillText → ℕ → ℕ → Wires → Wires → Reported → Type 0

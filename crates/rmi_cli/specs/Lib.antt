@@ -4,10 +4,12 @@ pub mod Command
 pub mod Drilled
 pub mod Limits
 pub mod Line
+pub mod Loopback
 pub mod Opening
 pub mod Replay
 pub mod Replayed
 pub mod ServedLinks
 pub mod Shown
-pub mod Terms
+pub mod Statuses
+pub mod Options
 pub mod Told

@@ -1,14 +1,14 @@
 -- The limits of what commands are told.
 use Rattle.std.specs.Prelude.{◌≤◌}
-use Rattle.rmi_cli.specs.Terms.{IsInRange, IsServed}
+use Rattle.rmi_cli.specs.Options.{IsInRange, IsServeInRange}
 use Rattle.rmi_cli.specs.declared.words.Command.{Command}
 use Rattle.rmi_cli.specs.declared.words.Command.TheVariants.{Answer, Serve, Replay, Show, Drill}
 use Rattle.rmi_cli.specs.declared.numbers.TheConstants.{MAX_ROUNDS}
 
 -- What the command is told is in its limits.
 abbrev pub IsInLimits : Command → Type 0
-IsInLimits (Answer terms) = IsInRange terms
-IsInLimits (Serve serve) = IsServed serve
+IsInLimits (Answer options) = IsInRange options
+IsInLimits (Serve serve) = IsServeInRange serve
 IsInLimits Replay = Unit {0}
 IsInLimits Show = Unit {0}
 IsInLimits (Drill text seed rounds) = rounds ≤ MAX_ROUNDS

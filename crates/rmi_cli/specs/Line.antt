@@ -1,6 +1,6 @@
 -- The line that says how a run ended, and the status of the process.
 use Rattle.std.specs.Prelude.{ℕ, codes, List, ◌++◌, decimal}
-use Rattle.call_dispatch.specs.End.{status_of}
+use Rattle.rmi_cli.specs.Statuses.{status_of}
 use Rattle.call_dispatch.specs.Words.{words_of}
 use Rattle.ser_read.specs.declared.fault.StreamFault.{StreamFault}
 use Rattle.ser_read.specs.declared.fault.StreamFault.TheVariants as faults

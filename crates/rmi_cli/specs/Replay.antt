@@ -38,15 +38,15 @@ ReplayStops config h lines number (Err (BadLine line)) = (lines ≢ []) × ((e :
 ReplayStops config h lines number (Err RefusedTurn) = (e : Event) × BeginsWith config lines e × ((cause : Refused) × (refusal limits config (places config h) e ≡ Some cause))
 ReplayStops config h lines number (Err OutOfMemory) = Unit {0}
 
--- After the history h these lines, the first of which has this number, are taken up to a stop, which leaves the history h2.
-pub record LinesGo (config : SpaceConfig) (h : List Event) (lines : List ℕ) (number : ℕ) (stop : Result (Unit {0}) ReplayFault) (h2 : List Event) : Type 0 where
+-- After the history h these lines, the first of which has this number, are taken up to a stop, which leaves the history h_after.
+pub record LinesGo (config : SpaceConfig) (h : List Event) (lines : List ℕ) (number : ℕ) (stop : Result (Unit {0}) ReplayFault) (h_after : List Event) : Type 0 where
   pub events : List Event
   pub front : List ℕ
   pub rest : List ℕ
   pub lines_are : lines ≡ front ++ rest
   pub taken : TakesLines config h events front
-  pub after : h2 ≡ h ++ events
-  pub stops : ReplayStops config h2 rest (number + length events) stop
+  pub after : h_after ≡ h ++ events
+  pub stops : ReplayStops config h_after rest (number + length events) stop
 
 -- ---- the whole input
 

@@ -1,50 +1,28 @@
 -- What `rmi serve` does.
-use Rattle.std.specs.Prelude.{◌≡◌, ℕ, ◌<◌, pos, codes, ◌⊎◌, List, [], ◌++◌, length, take, Option, Some, None, IfSome}
+use Rattle.std.specs.Prelude.{◌≡◌, ℕ, ◌<◌, pos, ◌⊎◌, List, length, take, Option, Some, None, IfSome}
 use Rattle.wire_io.specs.Links.{Accepted, with_next}
 use Rattle.wire_io.specs.Wire.{Wires, with_end, Rose}
-use Rattle.history.specs.Steps.{IsLegal}
 use Rattle.history.specs.Outline.{outline}
-use Rattle.space.specs.Built.{SpaceHistory}
-use Rattle.space.specs.Lists.{CollectsEach}
 use Rattle.space.specs.declared.asked.Asked.{Asked}
-use Rattle.turn_lock.specs.Rule.{StartsWith}
 use Rattle.sample_app.specs.Does.{May, Moves}
 use Rattle.sample_app.specs.Kinds.{sample_kinds}
-use Rattle.sample_server.specs.declared.crew.SampleHand.{SampleHand}
-use Rattle.conn_server.specs.Accepts.{links_of, ticks_of, with_all}
-use Rattle.conn_server.specs.Reports.{AreTurnsOf, IsLinkOf, IsReportOf, events_after}
-use Rattle.conn_server.specs.Rows.{Paired}
-use Rattle.conn_server.specs.Stops.{Stopped}
-use Rattle.conn_server.specs.declared.accepts.Stop.{Stop}
-use Rattle.conn_server.specs.declared.accepts.Stop.TheVariants as stops
-use Rattle.conn_server.specs.declared.jobs.LinkReport.{LinkReport}
+use Rattle.sample_app.specs.declared.crew.SampleHand.{SampleHand}
+use Rattle.conn_server.specs.Reports.{IsLinkOf, ServesLinks}
+use Rattle.conn_server.specs.declared.accept_loop.Stop.{Stop}
+use Rattle.conn_server.specs.declared.accept_loop.Stop.TheVariants as stops
+use Rattle.conn_server.specs.declared.link_task.LinkReport.{LinkReport}
 use Rattle.conn_server.specs.declared.plan.ServePlan.{ServePlan}
 use Rattle.conn_server.specs.declared.server.Report.{Report}
+use Rattle.rmi_cli.specs.Loopback.{loopback_host}
 use Rattle.rmi_cli.specs.Opening.{served_opening}
 use Rattle.rmi_cli.specs.Told.{Reported, TellsEnd}
-use Rattle.rmi_cli.specs.declared.terms.ServeWords.{ServeWords}
+use Rattle.rmi_cli.specs.declared.options.ServeWords.{ServeWords}
 use Rattle.rmi_cli.specs.declared.end.RunEnd.{RunEnd}
 use Rattle.rmi_cli.specs.declared.end.RunEnd.TheVariants.{Done, ListenFault, AcceptFault, WriteFault, OutOfMemory}
 
 -- What the server is told, by the seed and the words: its own end is 127.0.0.1 and the port that it listens on.
 abbrev pub serve_plan : List ℕ → ServeWords → ServePlan
-serve_plan seed serve = record { count = serve.count; host = codes "127.0.0.1"; port = pos serve.port; binding = serve.terms.binding; seed = seed }
-
--- Links were served over a space that was opened so, of which the listener tells these before and after. The one history that is left is legal and
--- goes on from the opening, and at each of its events the collector kept what there was a reason to keep, and withdrew the rest. Each link that was
--- accepted has its Tick and its report, but the one, if any, for which there was no memory; and there are no turns but these.
-pub record ServesLinks {I O T H : Type 0} (IsLink : ℕ → Accepted × Asked → LinkReport I O T H → Type 0) (opening : SpaceHistory) (count : ℕ) (accepted accepted2 : Option (List Accepted)) (report : Report I O T H) : Type 0 where
-  pub config : report.space.configuration ≡ opening.configuration
-  pub legal : IsLegal report.space.configuration report.space.events
-  pub begins : StartsWith report.space.events opening.events
-  pub collects : CollectsEach report.space.configuration [] report.space.events report.space.events
-  pub links : (served : List (Accepted × Asked)) × (lost : List Accepted)
-      × (accepted2 ≡ with_all accepted (links_of served ++ lost))
-      × (report.ticks ≡ ticks_of served)
-      × Paired (IsReportOf IsLink opening report.space) 1 served report.links
-      × Stopped report.stop count (length report.links) lost
-  pub ticks : AreTurnsOf opening 0 report.ticks report.space
-  pub others : (n : ℕ) → length report.links < n → events_after opening n report.space ≡ []
+serve_plan seed serve = record { count = serve.count; host = loopback_host; port = pos serve.port; binding = serve.options.binding; seed = seed }
 
 -- What is told of a link whose calls a hand of the sample does, by what its source, its sink and its clock show and by what the server is told. A
 -- hand tells neither its calls nor the numbers, which all hands share.
@@ -53,15 +31,15 @@ IsSampleLink left held given plan = IsLinkOf left held given (λ hand. hand.call
 
 -- A front of these bytes, and not all, was written.
 abbrev pub WroteLess : Option (List ℕ) → Option (List ℕ) → List ℕ → Type 0
-WroteLess held held2 bytes = (sent : ℕ) × (sent < length bytes) × (held2 ≡ with_end held (take sent bytes))
+WroteLess held held_after bytes = (sent : ℕ) × (sent < length bytes) × (held_after ≡ with_end held (take sent bytes))
 
 -- How printing this text ends, by what the output holds and how often it failed: all was written; or less, for the output failed; or nothing, for
 -- there was no memory for the text.
 abbrev pub Printed : Option (List ℕ) → Option (List ℕ) → ℕ → ℕ → List ℕ → RunEnd → Type 0
-Printed held held2 faults faults2 text end =
-    ((end ≡ Done) × (held2 ≡ with_end held text))
-    ⊎ (((end ≡ WriteFault) × WroteLess held held2 text × Rose faults faults2)
-    ⊎ ((end ≡ OutOfMemory) × (held2 ≡ held)))
+Printed held held_after faults faults_after text end =
+    ((end ≡ Done) × (held_after ≡ with_end held text))
+    ⊎ (((end ≡ WriteFault) × WroteLess held held_after text × Rose faults faults_after)
+    ⊎ ((end ≡ OutOfMemory) × (held_after ≡ held)))
 
 -- How the run ends where the accepting stopped so and printing the outline ended so.
 abbrev pub end_after : Stop → RunEnd → RunEnd
@@ -71,34 +49,34 @@ end_after stops.OutOfMemory printed = OutOfMemory
 
 -- The outline, which is this text, was printed, and the run ends as that and the stop say.
 abbrev pub EndsServed : Option (List ℕ) → Option (List ℕ) → ℕ → ℕ → List ℕ → Stop → RunEnd → Type 0
-EndsServed held held2 faults faults2 text stop end = (printed : RunEnd) × Printed held held2 faults faults2 text printed × (end ≡ end_after stop printed)
+EndsServed held held_after faults faults_after text stop end = (printed : RunEnd) × Printed held held_after faults faults_after text printed × (end ≡ end_after stop printed)
 
 -- How the run ends by what was served: where nothing was, the port could not be listened on, or there was no memory; nothing was written then.
 abbrev pub ServeEnds : {I O T H : Type 0} → Option (List ℕ) → Option (List ℕ) → ℕ → ℕ → Option (Report I O T H) → RunEnd → Type 0
-ServeEnds held held2 faults faults2 None end = ((end ≡ ListenFault) ⊎ (end ≡ OutOfMemory)) × (held2 ≡ held)
-ServeEnds held held2 faults faults2 (Some report) end = EndsServed held held2 faults faults2 (outline report.space.configuration report.space.events) report.stop end
+ServeEnds held held_after faults faults_after None end = ((end ≡ ListenFault) ⊎ (end ≡ OutOfMemory)) × (held_after ≡ held)
+ServeEnds held held_after faults faults_after (Some report) end = EndsServed held held_after faults faults_after (outline report.space.configuration report.space.events) report.stop end
 
 -- What a listener tells: the ports that it was told to listen on, and the links that it gave.
-pub record Heard : Type 0 where
+pub record ListenerLog : Type 0 where
   pub ports : Option (List ℕ)
   pub accepted : Option (List Accepted)
 
 -- the same of a listener
-abbrev pub heard : {L : Type 0} → (L → Option (List ℕ)) → (L → Option (List Accepted)) → L → Heard
-heard ports accepted listener = record { ports = ports listener; accepted = accepted listener }
+abbrev pub listener_log : {L : Type 0} → (L → Option (List ℕ)) → (L → Option (List Accepted)) → L → ListenerLog
+listener_log ports accepted listener = record { ports = ports listener; accepted = accepted listener }
 
 -- Where links were served this port was listened on, and no other; else none was but this one, and no link was accepted.
-abbrev pub ListensAlone : {R : Type 0} → ℕ → Heard → Heard → Option R → Type 0
+abbrev pub ListensAlone : {R : Type 0} → ℕ → ListenerLog → ListenerLog → Option R → Type 0
 ListensAlone port old new None = ((new.ports ≡ old.ports) ⊎ (new.ports ≡ with_next old.ports port)) × (new.accepted ≡ old.accepted)
 ListensAlone port old new (Some served) = new.ports ≡ with_next old.ports port
 
 -- The run of `serve` by its seed and words, and by what it left as served, which tells of the links' sources and sinks as they are left; and the end
 -- that is told, where the output had failed so often before and after. Nothing was read.
 pub record Serving {I O T H : Type 0} (IsLink : ℕ → Accepted × Asked → LinkReport I O T H → Type 0) (seed : List ℕ) (serve : ServeWords) (served : Option (Report I O T H))
-    (heard heard2 : Heard) (old new : Wires) (faults faults2 : ℕ) (told : Reported) : Type 0 where
-  pub alone : ListensAlone serve.port heard heard2 served
-  pub links : IfSome served (ServesLinks IsLink (served_opening seed serve.terms) serve.count heard.accepted heard2.accepted)
+    (log_before log_after : ListenerLog) (old new : Wires) (faults faults_after : ℕ) (told : Reported) : Type 0 where
+  pub alone : ListensAlone serve.port log_before log_after served
+  pub links : IfSome served (ServesLinks IsLink (served_opening seed serve.options) serve.count log_before.accepted log_after.accepted)
   pub end : RunEnd
-  pub ends : ServeEnds old.held new.held faults faults2 served end
+  pub ends : ServeEnds old.held new.held faults faults_after served end
   pub tells : TellsEnd told end
   pub unread : new.left ≡ old.left

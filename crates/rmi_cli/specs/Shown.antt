@@ -6,8 +6,8 @@ use Rattle.wire_io.specs.Pulled.{PullState}
 use Rattle.ser_values.specs.declared.limits.TheConstants.{MESSAGE_BYTES, PARTS}
 use Rattle.ser_values.specs.declared.node.Node.{Node}
 use Rattle.ser_values.specs.Shape.{parts_in}
-use Rattle.ser_values.specs.Spelled.{IsStream}
-use Rattle.ser_values.specs.Reading.{stream_of, Fault, short, bad, too_many, too_deep, FaultKind, bad_magic, bad_code, bad_handle, wrong_handle_kind, bad_desc, bad_utf, negative_length, reset, inner_exception, old_external}
+use Rattle.stream_grammar.specs.Spelled.{IsStream}
+use Rattle.stream_grammar.specs.Reading.{stream_of, Fault, short, bad, too_many, too_deep, FaultKind, bad_magic, bad_code, bad_handle, wrong_handle_kind, bad_desc, bad_utf, negative_length, reset, inner_exception, old_external}
 use Rattle.ser_read.specs.declared.fault.StreamFault.{StreamFault}
 use Rattle.ser_read.specs.declared.fault.StreamFault.TheVariants as faults
 use Rattle.ser_read.specs.declared.fault.Large.TheVariants.{Bytes, Nodes, Depth}

@@ -26,9 +26,9 @@ WasBad config lines NoRoom = Unit {0}
 
 -- ---- turns
 
--- After the history h the event is taken, and leaves the history h2.
+-- After the history h the event is taken, and leaves the history h_after.
 abbrev pub IsTakenTo : SpaceConfig → List Event → Event → List Event → Type 0
-IsTakenTo config h e h2 = EventIsTaken config h e × (h2 ≡ with_event h e)
+IsTakenTo config h e h_after = EventIsTaken config h e × (h_after ≡ with_event h e)
 
 -- Why the event is not taken after the history h; want of memory says nothing of it.
 abbrev pub Halts : SpaceConfig → List Event → Event → ReplayFault → Type 0
@@ -44,12 +44,12 @@ fault_of NoMemory = OutOfMemory
 
 -- ---- both
 
--- After the history h a front of these lines, the first of which has this number, is taken, and leaves the history h2; `next` is the
+-- After the history h a front of these lines, the first of which has this number, is taken, and leaves the history h_after; `next` is the
 -- number of the first of the lines `rest` after it.
-pub record TakesTo (config : SpaceConfig) (h : List Event) (lines : List ℕ) (number : ℕ) (rest : List ℕ) (next : ℕ) (h2 : List Event) : Type 0 where
+pub record TakesTo (config : SpaceConfig) (h : List Event) (lines : List ℕ) (number : ℕ) (rest : List ℕ) (next : ℕ) (h_after : List Event) : Type 0 where
   pub events : List Event
   pub front : List ℕ
   pub lines_are : lines ≡ front ++ rest
   pub taken : TakesLines config h events front
-  pub after : h2 ≡ h ++ events
+  pub after : h_after ≡ h ++ events
   pub next_is : next ≡ number + length events

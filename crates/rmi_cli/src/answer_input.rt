@@ -1,28 +1,28 @@
 //! `answer` over the program's input and output.
-ghost use Rattle.std.specs.Prelude.{◌≡◌, codes, IfOk};
+ghost use Rattle.std.specs.Prelude.{◌≡◌, IfOk};
 ghost use Rattle.wire_io.specs.Wire.{Rose, wires};
 ghost use Rattle.call_dispatch.specs.End.{IsWriteFault};
-ghost use Rattle.call_dispatch.specs.Terms.{terms_of};
+ghost use Rattle.system_objects.specs.Terms.{terms_of};
 ghost use Rattle.sample_app.specs.Kinds.{sample_kinds};
 ghost use Rattle.rmi_cli.specs.Answer.{answer_terms, ServesOne, ServesExactly};
 ghost use Rattle.rmi_cli.specs.Opening.{served_opening};
-ghost use Rattle.rmi_cli.specs.Terms.{IsInRange};
+ghost use Rattle.rmi_cli.specs.Options.{IsInRange};
 
+use crate::loopback::loopback_host;
 use crate::opening::opened_space;
-use crate::terms::Terms;
+use crate::options::LeaseOptions;
 use call_dispatch::{Book, ConnEnd, Setup, serve_connection};
 use conn_server::plan::{low_half, moment_of};
-use mod_utf::utf::units_of_ascii;
 use object_ids::UidDraw;
+use ports::DirectPort;
 use sample_app::{SampleWorker, sample_book};
-use sequence::Units;
-use space::{DirectPort, Space};
+use space::Space;
 use std::alloc::{AllocError, Global};
 use wire_io::{Clock, Sink, Source};
 
 /// What a connection is told beforehand, the kinds of objects that it knows, and the space where its turns are made.
 #[derive(Drop)]
-struct Ground {
+struct AnswerParts {
     setup: Setup,
     book: Book,
     space: Space,
@@ -36,22 +36,22 @@ pub fn answer_input<S: Source, K: Sink, C: Clock>(
     sink: &mut K,
     clock: &mut C,
     seed: &[u64; 4],
-    terms: Terms,
+    options: LeaseOptions,
 ) -> ConnEnd
-    requires { IsInRange terms }
-    ensures serves { ServesOne seed.now terms
+    requires { IsInRange options }
+    ensures serves { ServesOne seed.now options
         (wires S.left K.held source.old sink.old) (wires S.left K.held source.new sink.new)
         (C.given clock.old) (C.given clock.new) result }
-    ensures exact { ServesExactly seed.now terms
+    ensures exact { ServesExactly seed.now options
         (wires S.left K.held source.old sink.old) (wires S.left K.held source.new sink.new) result }
     ensures read_fault { result ≡ ConnEnd.ReadFault → Rose (S.faults source.old) (S.faults source.new) }
     ensures write_fault { IsWriteFault result → Rose (K.faults sink.old) (K.faults sink.new) }
 {
-    let mut ground = match ground_of(alloc, seed, terms) {
-        Ok(ground) => ground,
+    let mut parts = match answer_parts(alloc, seed, options) {
+        Ok(parts) => parts,
         Err(_) => return ConnEnd::OutOfMemory,
     };
-    let mut port = DirectPort::new(alloc, &mut ground.space, 1);
+    let mut port = DirectPort::new(alloc, &mut parts.space, 1);
     let mut worker = SampleWorker::new(alloc);
     serve_connection(
         alloc,
@@ -60,22 +60,26 @@ pub fn answer_input<S: Source, K: Sink, C: Clock>(
         clock,
         &mut port,
         &mut worker,
-        &ground.book,
-        &mut ground.setup,
+        &parts.book,
+        &mut parts.setup,
     )
 }
 
 /// What the connection is told beforehand, the sample kinds and the sample space.
-fn ground_of(alloc: Global, seed: &[u64; 4], terms: Terms) -> Result<Ground, AllocError>
-    requires { IsInRange terms }
-    ensures terms { IfOk result (λ ground. terms_of ground.book ground.setup ≡ answer_terms seed.now terms.binding) }
-    ensures drawn { IfOk result (λ ground. ground.setup.draw.drawn ≡ 0) }
-    ensures space { IfOk result (λ ground. ground.space ≡ served_opening seed.now terms) }
+fn answer_parts(
+    alloc: Global,
+    seed: &[u64; 4],
+    options: LeaseOptions,
+) -> Result<AnswerParts, AllocError>
+    requires { IsInRange options }
+    ensures terms { IfOk result (λ parts. terms_of parts.book parts.setup ≡ answer_terms seed.now options.binding) }
+    ensures drawn { IfOk result (λ parts. parts.setup.draw.drawn ≡ 0) }
+    ensures space { IfOk result (λ parts. parts.space ≡ served_opening seed.now options) }
 {
-    let setup = setup_of(alloc, seed, terms.binding)?;
+    let setup = setup_of(alloc, seed, options.binding)?;
     let book = sample_book(alloc)?;
-    let space = opened_space(alloc, seed, terms)?;
-    Ok(Ground { setup, book, space })
+    let space = opened_space(alloc, seed, options)?;
+    Ok(AnswerParts { setup, book, space })
 }
 
 /// What the connection is told beforehand, where clients may bind names or not.
@@ -85,19 +89,12 @@ pub fn setup_of(alloc: Global, seed: &[u64; 4], binding: bool) -> Result<Setup, 
 {
     Ok(Setup {
         by: 1,
-        peer_host: this_host(alloc)?,
+        peer_host: loopback_host(alloc)?,
         peer_port: 1234,
-        host: this_host(alloc)?,
+        host: loopback_host(alloc)?,
         port: 1099,
         binding,
         draw: UidDraw::new(low_half(seed[0].wrapping_add(1)), moment_of(seed[1]) as i64),
         mark: seed[2].to_be_bytes(),
     })
-}
-
-/// The text `127.0.0.1`.
-fn this_host(alloc: Global) -> Result<Units, AllocError>
-    ensures { IfOk result (λ host. host ≡ codes "127.0.0.1") }
-{
-    units_of_ascii(alloc, b"127.0.0.1")
 }

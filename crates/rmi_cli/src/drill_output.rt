@@ -1,7 +1,7 @@
 //! `drill` and `journal` over the program's output.
 ghost use Rattle.std.specs.Prelude.{◌≡◌, ◌≢◌, ◌≤◌, IfOk, IfErr};
 ghost use Rattle.wire_io.specs.Wire.{Rose};
-ghost use Rattle.drill.specs.Rounds.{drill_config, drilled};
+ghost use Rattle.drill.specs.Rounds.{drill_config, drill_events};
 ghost use Rattle.rmi_cli.specs.Drilled.{text_of, drill_text, TakesAll, DrillStops, end_of_refused, DrillEnds};
 ghost use Rattle.rmi_cli.specs.Line.{status_of_run};
 ghost use Rattle.rmi_cli.specs.declared.numbers.TheConstants.{MAX_ROUNDS};
@@ -47,7 +47,7 @@ pub fn write_drill<K: Sink>(
 /// The space that takes the events of a drill.
 fn drilled_space(alloc: Global, seed: u64, rounds: u64) -> Result<Space, Refused>
     requires { rounds ≤ MAX_ROUNDS }
-    ensures space { IfOk result (λ space. space ≡ record { configuration = drill_config; events = drilled seed rounds }) }
+    ensures space { IfOk result (λ space. space ≡ record { configuration = drill_config; events = drill_events seed rounds }) }
     ensures all { IfOk result (λ _. TakesAll seed rounds) }
     ensures refused { IfErr result (DrillStops seed rounds) }
 {

@@ -1,6 +1,7 @@
 //! How a run of the program ends.
 ghost use Rattle.std.specs.Prelude.{◌≡◌};
 ghost use Rattle.rmi_cli.specs.Line.{status_of_fault};
+ghost use Rattle.rmi_cli.specs.Statuses.{status_of};
 
 use call_dispatch::end::ConnEnd;
 use ser_read::StreamFault;
@@ -45,7 +46,7 @@ impl RunEnd {
         ensures { result ≡ status_of_run self }
     {
         match self {
-            RunEnd::Answered(end) => end.status(),
+            RunEnd::Answered(end) => status_of(&end),
             RunEnd::Done => 0,
             RunEnd::Usage => 1,
             RunEnd::BadLine { line: _ } => 2,
@@ -62,6 +63,31 @@ impl RunEnd {
         ensures { IsTrue result ↔ (self ≡ RunEnds.Done) }
     {
         matches!(self, RunEnd::Done)
+    }
+}
+
+/// The status of a process whose one connection ends so.
+pub fn status_of(end: &ConnEnd) -> u8
+    ensures { result ≡ status_of end.now }
+{
+    match end {
+        ConnEnd::Ended => 0,
+        ConnEnd::BadHeader { at: _ } => 2,
+        ConnEnd::UnknownProtocol { byte: _ } => 2,
+        ConnEnd::BadMessage { byte: _, at: _ } => 2,
+        ConnEnd::BadStream { kind: _, at: _ } => 2,
+        ConnEnd::Truncated { at: _ } => 2,
+        ConnEnd::ReadFault => 3,
+        ConnEnd::WriteFault { sent: _ } => 4,
+        ConnEnd::OutOfMemory => 5,
+        ConnEnd::TooLarge { what: _, at: _ } => 6,
+        ConnEnd::SpaceFull => 6,
+        ConnEnd::MessageLimit => 6,
+        ConnEnd::NoSuchObject { id: _ } => 7,
+        ConnEnd::NoSuchMethod {
+            operation: _,
+            hash: _,
+        } => 7,
     }
 }
 

@@ -2,8 +2,8 @@
 use crate::journal_input::JOURNAL_BYTES;
 use conn_server::plan::MAX_LINKS;
 use history::limits::{
-    END_OF_TIME, MAX_AWAITING, MAX_CLIENTS, MAX_DURATION, MAX_EXPORTS, MAX_NAME_UNITS, MAX_NAMES,
-    MAX_PAIRS, MAX_UNITS,
+    END_OF_TIME, MAX_AWAITING, MAX_CLIENTS, MAX_DURATION_MS, MAX_EXPORTS, MAX_HISTORY_UNITS,
+    MAX_NAME_UNITS, MAX_NAMES, MAX_PAIRS,
 };
 use object_ids::MAX_ADDRESS_BYTES;
 use ser_values::limits::{LEVELS, NODES, PARTS};
@@ -15,9 +15,9 @@ const _: () = prove!(MAX_LINKS == 65_535);
 
 const _: () = prove!(MAX_EXPORTS == 65_536 && MAX_AWAITING == 65_536 && MAX_CLIENTS == 65_536);
 
-const _: () = prove!(MAX_PAIRS == 262_144 && MAX_NAMES == 4_096 && MAX_UNITS == 4_194_304);
+const _: () = prove!(MAX_PAIRS == 262_144 && MAX_NAMES == 4_096 && MAX_HISTORY_UNITS == 4_194_304);
 
-const _: () = prove!(MAX_DURATION == 1 << 40 && END_OF_TIME == 1 << 62);
+const _: () = prove!(MAX_DURATION_MS == 1 << 40 && END_OF_TIME == 1 << 62);
 
 const _: () = prove!(MAX_NAME_UNITS == 255 && MAX_ADDRESS_BYTES == 255 && MAX_HOST_BYTES == 255);
 

@@ -1,13 +1,13 @@
 //! Decimal numbers on the command line, without needless zeros or signs.
 ghost use Rattle.std.specs.Prelude.{◌≡◌, ◌↔◌, ◌^◌, ℕ, decimal, IsTrue, IfSome, IfNone};
-ghost use Rattle.history.specs.declared.limits.TheConstants.{MAX_DURATION};
+ghost use Rattle.history.specs.declared.limits.TheConstants.{MAX_DURATION_MS};
 ghost use Rattle.journal.specs.Numbers.{BeginsPlainly};
 ghost use Rattle.journal.specs.Reading.{Finds};
 ghost use Rattle.journal.specs.Grammar.{SpellsBelow};
 ghost use Rattle.rmi_cli.specs.Command.{AreInRange};
-ghost use Rattle.rmi_cli.specs.Terms.{SpellsUpTo};
+ghost use Rattle.rmi_cli.specs.Options.{SpellsUpTo};
 
-use history::limits::MAX_DURATION;
+use history::limits::MAX_DURATION_MS;
 
 /// How many rounds a drill has at most.
 const MAX_ROUNDS: u64 = 1_000_000;
@@ -69,9 +69,9 @@ fn read_up_to(word: &str, most: u64) -> Option<u64>
 
 /// The number of milliseconds, 1 to 2^40, that a word spells.
 pub(crate) fn read_duration(word: &str) -> Option<u64>
-    ensures { Finds (SpellsUpTo MAX_DURATION) result word.now }
+    ensures { Finds (SpellsUpTo MAX_DURATION_MS) result word.now }
 {
-    read_up_to(word, MAX_DURATION)
+    read_up_to(word, MAX_DURATION_MS)
 }
 
 /// The number, 1 to 65535, that a word spells.

@@ -1,37 +1,37 @@
 //! The sample space that connections are served over.
 ghost use Rattle.std.specs.Prelude.{◌≡◌, IfOk};
 ghost use Rattle.rmi_cli.specs.Opening.{served_space, served_opening};
-ghost use Rattle.rmi_cli.specs.Terms.{IsInRange};
+ghost use Rattle.rmi_cli.specs.Options.{IsInRange};
 
-use crate::terms::Terms;
+use crate::options::LeaseOptions;
 use conn_server::plan::{low_half, moment_of};
 use object_ids::Uid;
 use sample_app::sample_space;
 use space::{Space, SpaceConfig};
 use std::alloc::{AllocError, Global};
 
-/// The sample space that the seed and the terms give. It is refused only for want of memory.
+/// The sample space that the seed and the options give. It is refused only for want of memory.
 pub(crate) fn opened_space(
     alloc: Global,
     seed: &[u64; 4],
-    terms: Terms,
+    options: LeaseOptions,
 ) -> Result<Space, AllocError>
-    requires { IsInRange terms }
-    ensures { IfOk result (λ space. space ≡ served_opening seed.now terms) }
+    requires { IsInRange options }
+    ensures { IfOk result (λ space. space ≡ served_opening seed.now options) }
 {
-    match sample_space(alloc, &config_of(seed, terms)) {
+    match sample_space(alloc, &config_of(seed, options)) {
         Ok(space) => Ok(space),
         Err(_refused) => Err(AllocError),
     }
 }
 
 /// What the space keeps to.
-fn config_of(seed: &[u64; 4], terms: Terms) -> SpaceConfig
-    ensures { result ≡ served_space seed.now terms }
+fn config_of(seed: &[u64; 4], options: LeaseOptions) -> SpaceConfig
+    ensures { result ≡ served_space seed.now options }
 {
     SpaceConfig {
-        lease_ms: terms.lease_ms,
-        ack_ms: terms.ack_ms,
+        lease_ms: options.lease_ms,
+        ack_ms: options.ack_ms,
         uid: Uid {
             unique: low_half(seed[2]),
             time: moment_of(seed[3]) as i64,

@@ -7,7 +7,7 @@ ghost use Rattle.rmi_cli.specs.Drilled.{Drills, DrillsExactly};
 ghost use Rattle.rmi_cli.specs.Limits.{IsInLimits};
 ghost use Rattle.rmi_cli.specs.Line.{status_of_run};
 ghost use Rattle.rmi_cli.specs.Replayed.{ReplaysInput, ReplaysExactly};
-ghost use Rattle.rmi_cli.specs.ServedLinks.{IsSampleLink, Serving, serve_plan, heard};
+ghost use Rattle.rmi_cli.specs.ServedLinks.{IsSampleLink, Serving, serve_plan, listener_log};
 ghost use Rattle.rmi_cli.specs.Shown.{ShowsInput, ShowsExactly};
 ghost use Rattle.rmi_cli.specs.Told.{told_by, TellsExactly, TellsEnd};
 ghost use Rattle.rmi_cli.specs.declared.end.RunEnd.{RunEnd as RunEnds};
@@ -19,11 +19,11 @@ use crate::drill_output::write_drill;
 use crate::end::RunEnd;
 use crate::host::Host;
 use crate::journal_input::replay_input;
+use crate::options::{LeaseOptions, ServeWords};
 use crate::serve_input::serve_input;
 use crate::stream_input::show_input;
-use crate::terms::{ServeWords, Terms};
 use crate::words::{Command, Words};
-use sample_server::SampleHand;
+use sample_app::SampleHand;
 use std::alloc::Global;
 use std::sync::Wait;
 use std::thread::Threads;
@@ -60,14 +60,14 @@ pub fn run<'t, R: Threads + Wait + Sync, I: Source, O: Sink, E: Sink, T: Clock, 
         × (O.held host.new.output ≡ O.held host.old.output) }
     ensures usage_line { result ≡ 1 → TellsExactly (told_by E.held E.faults host.old.errors host.new.errors result) RunEnds.Usage }
 
-    // `answer` serves one connection over a space of its own, on the terms that the words give: what was taken, done and written is a dialogue, whose
+    // `answer` serves one connection over a space of its own, on the options that the words give: what was taken, done and written is a dialogue, whose
     // end is told.
-    ensures answer { (terms : Terms) → AskFor words.now (Command.Answer terms) → Answers host.old.seed terms
+    ensures answer { (options : LeaseOptions) → AskFor words.now (Command.Answer options) → Answers host.old.seed options
         (wires I.left O.held host.old.input host.old.output)
         (wires I.left O.held host.new.input host.new.output)
         (T.given host.old.ticks) (T.given host.new.ticks)
         (told_by E.held E.faults host.old.errors host.new.errors result) }
-    ensures exact { (terms : Terms) → AskFor words.now (Command.Answer terms) → AnswersExactly host.old.seed terms
+    ensures exact { (options : LeaseOptions) → AskFor words.now (Command.Answer options) → AnswersExactly host.old.seed options
         (wires I.left O.held host.old.input host.old.output)
         (wires I.left O.held host.new.input host.new.output)
         (told_by E.held E.faults host.old.errors host.new.errors result) }
@@ -79,7 +79,7 @@ pub fn run<'t, R: Threads + Wait + Sync, I: Source, O: Sink, E: Sink, T: Clock, 
     // and the end is told. Nothing is read.
     ensures serves { (serve : ServeWords) → AskFor words.now (Command.Serve serve) → Serving
         (IsSampleLink L.In.left L.Out.held L.Ticks.given (serve_plan host.old.seed serve))
-        host.old.seed serve host.new.served (heard L.ports L.accepted host.old.listener) (heard L.ports L.accepted host.new.listener)
+        host.old.seed serve host.new.served (listener_log L.ports L.accepted host.old.listener) (listener_log L.ports L.accepted host.new.listener)
         (wires I.left O.held host.old.input host.old.output)
         (wires I.left O.held host.new.input host.new.output)
         (O.faults host.old.output) (O.faults host.new.output)
@@ -117,7 +117,7 @@ pub fn run<'t, R: Threads + Wait + Sync, I: Source, O: Sink, E: Sink, T: Clock, 
         (told_by E.held E.faults host.old.errors host.new.errors result) }
 
     // No other command asks the clock, none but `serve` the listener or changes what was served, and none changes the seed.
-    ensures clock { ((terms : Terms) → AskFor words.now (Command.Answer terms) → ⊥) → T.given host.new.ticks ≡ T.given host.old.ticks }
+    ensures clock { ((options : LeaseOptions) → AskFor words.now (Command.Answer options) → ⊥) → T.given host.new.ticks ≡ T.given host.old.ticks }
     ensures network { ((serve : ServeWords) → AskFor words.now (Command.Serve serve) → ⊥) → host.new.listener ≡ host.old.listener }
     ensures served { ((serve : ServeWords) → AskFor words.now (Command.Serve serve) → ⊥) → host.new.served ≡ host.old.served }
     ensures seed { host.new.seed ≡ host.old.seed }
@@ -146,18 +146,18 @@ fn obey<'t, R: Threads + Wait + Sync, I: Source, O: Sink, E: Sink, T: Clock, L: 
 ) -> u8
     requires limits { IsInLimits command }
     ensures known { result ≢ 1 }
-    ensures answer { (terms : Terms) → command ≡ Command.Answer terms → Answers host.old.seed terms
+    ensures answer { (options : LeaseOptions) → command ≡ Command.Answer options → Answers host.old.seed options
         (wires I.left O.held host.old.input host.old.output)
         (wires I.left O.held host.new.input host.new.output)
         (T.given host.old.ticks) (T.given host.new.ticks)
         (told_by E.held E.faults host.old.errors host.new.errors result) }
-    ensures exact { (terms : Terms) → command ≡ Command.Answer terms → AnswersExactly host.old.seed terms
+    ensures exact { (options : LeaseOptions) → command ≡ Command.Answer options → AnswersExactly host.old.seed options
         (wires I.left O.held host.old.input host.old.output)
         (wires I.left O.held host.new.input host.new.output)
         (told_by E.held E.faults host.old.errors host.new.errors result) }
     ensures serves { (serve : ServeWords) → command ≡ Command.Serve serve → Serving
         (IsSampleLink L.In.left L.Out.held L.Ticks.given (serve_plan host.old.seed serve))
-        host.old.seed serve host.new.served (heard L.ports L.accepted host.old.listener) (heard L.ports L.accepted host.new.listener)
+        host.old.seed serve host.new.served (listener_log L.ports L.accepted host.old.listener) (listener_log L.ports L.accepted host.new.listener)
         (wires I.left O.held host.old.input host.old.output)
         (wires I.left O.held host.new.input host.new.output)
         (O.faults host.old.output) (O.faults host.new.output)
@@ -186,7 +186,7 @@ fn obey<'t, R: Threads + Wait + Sync, I: Source, O: Sink, E: Sink, T: Clock, L: 
         (wires I.left O.held host.old.input host.old.output)
         (wires I.left O.held host.new.input host.new.output)
         (told_by E.held E.faults host.old.errors host.new.errors result) }
-    ensures clock { ((terms : Terms) → command ≡ Command.Answer terms → ⊥) → T.given host.new.ticks ≡ T.given host.old.ticks }
+    ensures clock { ((options : LeaseOptions) → command ≡ Command.Answer options → ⊥) → T.given host.new.ticks ≡ T.given host.old.ticks }
     ensures network { ((serve : ServeWords) → command ≡ Command.Serve serve → ⊥) → host.new.listener ≡ host.old.listener }
     ensures served { ((serve : ServeWords) → command ≡ Command.Serve serve → ⊥) → host.new.served ≡ host.old.served }
     ensures seed { host.new.seed ≡ host.old.seed }
@@ -195,16 +195,16 @@ fn obey<'t, R: Threads + Wait + Sync, I: Source, O: Sink, E: Sink, T: Clock, L: 
     ensures write_fault { result ≡ 4 → Rose (O.faults host.old.output) (O.faults host.new.output) }
 {
     match command {
-        Command::Answer(terms) => {
+        Command::Answer(options) => {
             let end = answer_input(
                 alloc,
                 &mut host.input,
                 &mut host.output,
                 &mut host.ticks,
                 &host.seed,
-                terms,
+                options,
             );
-            told(alloc, &mut host.errors, RunEnd::Answered(end))
+            report_end(alloc, &mut host.errors, RunEnd::Answered(end))
         }
         Command::Serve(serve) => {
             let served = serve_input(
@@ -216,19 +216,19 @@ fn obey<'t, R: Threads + Wait + Sync, I: Source, O: Sink, E: Sink, T: Clock, L: 
                 &serve,
             );
             host.served = served.report;
-            told(alloc, &mut host.errors, served.end)
+            report_end(alloc, &mut host.errors, served.end)
         }
         Command::Replay => {
             let end = replay_input(alloc, &mut host.input, &mut host.output);
-            told(alloc, &mut host.errors, end)
+            report_end(alloc, &mut host.errors, end)
         }
         Command::Show => {
             let end = show_input(alloc, &mut host.input, &mut host.output);
-            told(alloc, &mut host.errors, end)
+            report_end(alloc, &mut host.errors, end)
         }
         Command::Drill { text, seed, rounds } => {
             let end = write_drill(alloc, &mut host.output, text, seed, rounds);
-            told(alloc, &mut host.errors, end)
+            report_end(alloc, &mut host.errors, end)
         }
     }
 }
@@ -236,7 +236,7 @@ fn obey<'t, R: Threads + Wait + Sync, I: Source, O: Sink, E: Sink, T: Clock, L: 
 /// Writes the line that tells an end, where the sink takes it, and answers the status. Where there is no memory for the line, want of
 /// memory is told.
 #[tactic(auto, using(crate::proofs::Telling::took))]
-fn told<E: Sink>(alloc: Global, errors: &mut E, end: RunEnd) -> u8
+fn report_end<E: Sink>(alloc: Global, errors: &mut E, end: RunEnd) -> u8
     ensures told { TellsEnd (told_by E.held E.faults errors.old errors.new result) end }
     ensures status { (result ≡ status_of_run end) ⊎ (result ≡ 5) }
 {

@@ -1,6 +1,7 @@
 //! `serve` over the program's listener and output.
 ghost use Rattle.std.specs.Prelude.{◌≡◌, ◌≢◌, ◌≤◌, length, IfOk, IfSome};
 ghost use Rattle.mod_utf.specs.Utf.{utf};
+ghost use Rattle.conn_server.specs.Reports.{ServesLinks};
 ghost use Rattle.conn_server.specs.declared.plan.TheConstants.{MAX_LINKS};
 ghost use Rattle.wire_io.specs.Wire.{Rose};
 ghost use Rattle.wire_io.specs.declared.limits.TheConstants.{MAX_HOST_BYTES};
@@ -9,17 +10,16 @@ ghost use Rattle.turn_lock.specs.Handles.{IsFresh, opening_of};
 ghost use Rattle.sample_app.specs.Kinds.{sample_kinds};
 ghost use Rattle.rmi_cli.specs.Line.{status_of_run};
 ghost use Rattle.rmi_cli.specs.Opening.{served_opening};
-ghost use Rattle.rmi_cli.specs.Terms.{IsServed};
-ghost use Rattle.rmi_cli.specs.ServedLinks.{serve_plan, heard, IsSampleLink, ListensAlone, ServesLinks, Printed, ServeEnds, end_after};
+ghost use Rattle.rmi_cli.specs.Options.{IsServeInRange};
+ghost use Rattle.rmi_cli.specs.ServedLinks.{serve_plan, listener_log, IsSampleLink, ListensAlone, Printed, ServeEnds, end_after};
 
 use crate::end::RunEnd;
+use crate::loopback::loopback_host;
 use crate::opening::opened_space;
-use crate::terms::ServeWords;
+use crate::options::ServeWords;
 use call_dispatch::Book;
 use conn_server::{Report, ServePlan, Stop, serve};
-use mod_utf::utf::units_of_ascii;
-use sample_app::sample_book;
-use sample_server::{SampleCrew, SampleHand};
+use sample_app::{SampleCrew, SampleHand, sample_book};
 use space::{Space, outline};
 use std::alloc::{AllocError, Global};
 use std::sync::Wait;
@@ -30,14 +30,14 @@ use wire_io::{Listener, Sink};
 
 /// What was served, where it came to that, and how the run ends.
 #[derive(Drop)]
-pub struct Served<I, O, T, H> {
+pub struct ServeOutcome<I, O, T, H> {
     pub end: RunEnd,
     pub report: Option<Report<I, O, T, H>>,
 }
 
 /// What links are served with: who does the calls, the kinds of objects, what the server is told, and the sample space in its lock.
 #[derive(Drop)]
-struct Stage<'t, R: Wait + Sync> {
+struct ServeParts<'t, R: Wait + Sync> {
     crew: SampleCrew<'t, R>,
     book: Book,
     plan: ServePlan,
@@ -54,19 +54,19 @@ pub fn serve_input<'t, R: Threads + Wait + Sync, L: Listener, K: Sink>(
     sink: &mut K,
     seed: &[u64; 4],
     words: &ServeWords,
-) -> Served<L::In, L::Out, L::Ticks, SampleHand<'t, R>>
-    requires { IsServed words.now }
+) -> ServeOutcome<L::In, L::Out, L::Ticks, SampleHand<'t, R>>
+    requires { IsServeInRange words.now }
     ensures served { IfSome result.report (ServesLinks (IsSampleLink L.In.left L.Out.held L.Ticks.given (serve_plan seed.now words.now))
-        (served_opening seed.now words.now.terms) words.now.count (L.accepted listener.old) (L.accepted listener.new)) }
-    ensures alone { ListensAlone words.now.port (heard L.ports L.accepted listener.old) (heard L.ports L.accepted listener.new) result.report }
+        (served_opening seed.now words.now.options) words.now.count (L.accepted listener.old) (L.accepted listener.new)) }
+    ensures alone { ListensAlone words.now.port (listener_log L.ports L.accepted listener.old) (listener_log L.ports L.accepted listener.new) result.report }
     ensures ends { ServeEnds (K.held sink.old) (K.held sink.new) (K.faults sink.old) (K.faults sink.new) result.report result.end }
     ensures known { status_of_run result.end ≢ 1 }
     ensures fault { status_of_run result.end ≡ 3 → Rose (L.faults listener.old) (L.faults listener.new) }
     ensures write_fault { status_of_run result.end ≡ 4 → Rose (K.faults sink.old) (K.faults sink.new) }
 {
-    match stage_of(rt, alloc, seed, words) {
-        Ok(stage) => serve_on(rt, alloc, listener, sink, stage, words.port),
-        Err(_refused) => unserved(RunEnd::OutOfMemory),
+    match serve_parts(rt, alloc, seed, words) {
+        Ok(parts) => serve_on(rt, alloc, listener, sink, parts, words.port),
+        Err(_refused) => nothing_served(RunEnd::OutOfMemory),
     }
 }
 
@@ -76,27 +76,27 @@ fn serve_on<'t, R: Threads + Wait + Sync, L: Listener, K: Sink>(
     alloc: Global,
     listener: &mut L,
     sink: &mut K,
-    stage: Stage<'t, R>,
+    parts: ServeParts<'t, R>,
     port: u16,
-) -> Served<L::In, L::Out, L::Ticks, SampleHand<'t, R>>
-    requires fresh { IsFresh stage.lock stage.root }
-    requires few { stage.plan.count ≤ MAX_LINKS }
-    requires host { length (utf stage.plan.host) ≤ MAX_HOST_BYTES }
-    requires book { stage.book ≡ sample_kinds }
-    ensures served { IfSome result.report (ServesLinks (IsSampleLink L.In.left L.Out.held L.Ticks.given stage.entry.plan)
-        (opening_of stage.entry.lock) stage.entry.plan.count (L.accepted listener.old) (L.accepted listener.new)) }
-    ensures alone { ListensAlone port (heard L.ports L.accepted listener.old) (heard L.ports L.accepted listener.new) result.report }
+) -> ServeOutcome<L::In, L::Out, L::Ticks, SampleHand<'t, R>>
+    requires fresh { IsFresh parts.lock parts.root }
+    requires few { parts.plan.count ≤ MAX_LINKS }
+    requires host { length (utf parts.plan.host) ≤ MAX_HOST_BYTES }
+    requires book { parts.book ≡ sample_kinds }
+    ensures served { IfSome result.report (ServesLinks (IsSampleLink L.In.left L.Out.held L.Ticks.given parts.entry.plan)
+        (opening_of parts.entry.lock) parts.entry.plan.count (L.accepted listener.old) (L.accepted listener.new)) }
+    ensures alone { ListensAlone port (listener_log L.ports L.accepted listener.old) (listener_log L.ports L.accepted listener.new) result.report }
     ensures ends { ServeEnds (K.held sink.old) (K.held sink.new) (K.faults sink.old) (K.faults sink.new) result.report result.end }
     ensures known { status_of_run result.end ≢ 1 }
     ensures fault { status_of_run result.end ≡ 3 → Rose (L.faults listener.old) (L.faults listener.new) }
     ensures write_fault { status_of_run result.end ≡ 4 → Rose (K.faults sink.old) (K.faults sink.new) }
 {
     if listener.listen(port).is_err() {
-        return unserved(RunEnd::ListenFault);
+        return nothing_served(RunEnd::ListenFault);
     }
-    let report = serve_links(rt, alloc, listener, stage);
+    let report = serve_links(rt, alloc, listener, parts);
     let printed = print_outline(alloc, sink, &report.space);
-    Served {
+    ServeOutcome {
         end: end_after(report.stop, printed),
         report: Some(report),
     }
@@ -107,33 +107,33 @@ fn serve_links<'t, R: Threads + Wait + Sync, L: Listener>(
     rt: &'t R,
     alloc: Global,
     listener: &mut L,
-    stage: Stage<'t, R>,
+    parts: ServeParts<'t, R>,
 ) -> Report<L::In, L::Out, L::Ticks, SampleHand<'t, R>>
-    requires fresh { IsFresh stage.lock stage.root }
-    requires few { stage.plan.count ≤ MAX_LINKS }
-    requires host { length (utf stage.plan.host) ≤ MAX_HOST_BYTES }
-    requires book { stage.book ≡ sample_kinds }
-    ensures served { ServesLinks (IsSampleLink L.In.left L.Out.held L.Ticks.given stage.entry.plan)
-        (opening_of stage.entry.lock) stage.entry.plan.count (L.accepted listener.old) (L.accepted listener.new) result }
+    requires fresh { IsFresh parts.lock parts.root }
+    requires few { parts.plan.count ≤ MAX_LINKS }
+    requires host { length (utf parts.plan.host) ≤ MAX_HOST_BYTES }
+    requires book { parts.book ≡ sample_kinds }
+    ensures served { ServesLinks (IsSampleLink L.In.left L.Out.held L.Ticks.given parts.entry.plan)
+        (opening_of parts.entry.lock) parts.entry.plan.count (L.accepted listener.old) (L.accepted listener.new) result }
     ensures ports { L.ports listener.new ≡ L.ports listener.old }
     ensures fault { result.stop ≡ Stop.AcceptFault → Rose (L.faults listener.old) (L.faults listener.new) }
     ensures faults { L.faults listener.old ≤ L.faults listener.new }
 {
-    let Stage {
+    let ServeParts {
         crew,
         book,
         plan,
         lock,
         root,
-    } = stage;
+    } = parts;
     serve(rt, alloc, listener, &crew, &book, lock, root, &plan)
 }
 
 /// Nothing was served.
-fn unserved<I, O, T, H>(end: RunEnd) -> Served<I, O, T, H>
+fn nothing_served<I, O, T, H>(end: RunEnd) -> ServeOutcome<I, O, T, H>
     ensures { (result.end ≡ end) × (result.report ≡ None) }
 {
-    Served { end, report: None }
+    ServeOutcome { end, report: None }
 }
 
 /// Writes the outline of the space that is left, and answers how that ended.
@@ -162,23 +162,23 @@ fn end_after(stop: Stop, printed: RunEnd) -> RunEnd
 }
 
 /// What links are served with.
-fn stage_of<'t, R: Wait + Sync>(
+fn serve_parts<'t, R: Wait + Sync>(
     rt: &'t R,
     alloc: Global,
     seed: &[u64; 4],
     words: &ServeWords,
-) -> Result<Stage<'t, R>, AllocError>
-    requires { IsServed words.now }
-    ensures book { IfOk result (λ stage. stage.book ≡ sample_kinds) }
-    ensures plan { IfOk result (λ stage. stage.plan ≡ serve_plan seed.now words.now) }
-    ensures fresh { IfOk result (λ stage. IsFresh stage.lock stage.root) }
-    ensures opening { IfOk result (λ stage. opening_of stage.lock ≡ served_opening seed.now words.now.terms) }
+) -> Result<ServeParts<'t, R>, AllocError>
+    requires { IsServeInRange words.now }
+    ensures book { IfOk result (λ parts. parts.book ≡ sample_kinds) }
+    ensures plan { IfOk result (λ parts. parts.plan ≡ serve_plan seed.now words.now) }
+    ensures fresh { IfOk result (λ parts. IsFresh parts.lock parts.root) }
+    ensures opening { IfOk result (λ parts. opening_of parts.lock ≡ served_opening seed.now words.now.options) }
 {
     let crew = SampleCrew::new(rt, alloc)?;
     let book = sample_book(alloc)?;
     let plan = plan_of(alloc, seed, words)?;
     let (lock, root) = lock_of(alloc, seed, words)?;
-    Ok(Stage {
+    Ok(ServeParts {
         crew,
         book,
         plan,
@@ -193,11 +193,11 @@ fn lock_of(
     seed: &[u64; 4],
     words: &ServeWords,
 ) -> Result<(TurnLock, Root), AllocError>
-    requires { IsServed words.now }
+    requires { IsServeInRange words.now }
     ensures fresh { IfOk result (λ t. IsFresh t.0 t.1) }
-    ensures opening { IfOk result (λ t. opening_of t.0 ≡ served_opening seed.now words.now.terms) }
+    ensures opening { IfOk result (λ t. opening_of t.0 ≡ served_opening seed.now words.now.options) }
 {
-    let space = opened_space(alloc, seed, words.terms)?;
+    let space = opened_space(alloc, seed, words.options)?;
     match TurnLock::around(alloc, space) {
         Ok(made) => Ok(made),
         Err(_space) => Err(AllocError),
@@ -210,9 +210,9 @@ fn plan_of(alloc: Global, seed: &[u64; 4], words: &ServeWords) -> Result<ServePl
 {
     Ok(ServePlan {
         count: u32::from(words.count),
-        host: units_of_ascii(alloc, b"127.0.0.1")?,
+        host: loopback_host(alloc)?,
         port: i32::from(words.port),
-        binding: words.terms.binding,
+        binding: words.options.binding,
         seed: *seed,
     })
 }

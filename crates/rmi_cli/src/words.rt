@@ -4,7 +4,7 @@ ghost use Rattle.journal.specs.Reading.{Finds};
 ghost use Rattle.rmi_cli.specs.Command.{IsToldBy};
 
 use crate::numbers::{read_drill, read_small};
-use crate::terms::{ServeWords, Terms, read_terms};
+use crate::options::{LeaseOptions, ServeWords, read_lease_options};
 use std::marker::Model;
 
 /// A list of texts, which contracts see as the list of their bytes.
@@ -24,9 +24,9 @@ impl Model for Words {
 /// What the words ask for.
 #[derive(Clone, Copy, Debug, PartialEq, Eq)]
 pub enum Command {
-    /// `answer [BINDING] [LEASE] [ACK]`: serve the input and the output as one connection, on these terms.
-    Answer(Terms),
-    /// `serve PORT COUNT [BINDING] [LEASE] [ACK]`: serve this many links at this port, on these terms.
+    /// `answer [BINDING] [LEASE] [ACK]`: serve the input and the output as one connection, on these options.
+    Answer(LeaseOptions),
+    /// `serve PORT COUNT [BINDING] [LEASE] [ACK]`: serve this many links at this port, on these options.
     Serve(ServeWords),
     /// `replay`: print the outline of the history that the input spells as a journal.
     Replay,
@@ -71,8 +71,8 @@ impl Words {
             Some(Command::Replay)
         } else if self.are("show") {
             Some(Command::Show)
-        } else if let Some(terms) = self.answer() {
-            Some(Command::Answer(terms))
+        } else if let Some(options) = self.answer() {
+            Some(Command::Answer(options))
         } else if let Some(serve) = self.serve() {
             Some(Command::Serve(serve))
         } else {
@@ -80,12 +80,12 @@ impl Words {
         }
     }
 
-    /// The terms of `answer`, where the words are this command.
-    fn answer(&self) -> Option<Terms>
+    /// The options of `answer`, where the words are this command.
+    fn answer(&self) -> Option<LeaseOptions>
         ensures { Finds IsAnswer result self.now }
     {
         match self.items.as_slice() {
-            [first, rest @ ..] if first.as_str() == "answer" => read_terms(rest),
+            [first, rest @ ..] if first.as_str() == "answer" => read_lease_options(rest),
             _ => None,
         }
     }
@@ -146,12 +146,16 @@ impl Words {
     }
 }
 
-/// What `serve` is told by a port, a count, and the words that give its terms.
-fn read_serve(port: &str, count: &str, terms: &[String]) -> Option<ServeWords>
-    ensures { Finds (IsToldBy port.now count.now) result (map string_bytes terms.now) }
+/// What `serve` is told by a port, a count, and the words that give its options.
+fn read_serve(port: &str, count: &str, options: &[String]) -> Option<ServeWords>
+    ensures { Finds (IsToldBy port.now count.now) result (map string_bytes options.now) }
 {
     let port = read_small(port)?;
     let count = read_small(count)?;
-    let terms = read_terms(terms)?;
-    Some(ServeWords { port, count, terms })
+    let options = read_lease_options(options)?;
+    Some(ServeWords {
+        port,
+        count,
+        options,
+    })
 }

@@ -9,24 +9,19 @@ use Rattle.object_ids.specs.declared.ids.ObjId.{ObjId}
 use Rattle.object_ids.specs.Same.{same_id, same_bytes}
 use Rattle.history.specs.declared.limits.TheConstants.{MAX_NAMES, MAX_NAME_UNITS}
 use Rattle.std.specs.List.{AllByRecursion}
+use Rattle.sequence.proofs.Lists.{filter-shorter}
 use Rattle.history.specs.Lists.{AllOnce}
-use Rattle.history.proofs.ListLemmas.{every-append, every-filter, AllOnce-filter, AllOnce-push, same_test}
-use Rattle.history.proofs.NameLaws.{bytes-equality}
+use Rattle.history.proofs.ListLemmas.{every-append, every-filter, AllOnce-filter, AllOnce-push}
+use Rattle.history.proofs.NameLaws.{bytes-equality, same_bytes-turned}
 use Rattle.rmi_registry.specs.declared.binding.Binding.{Binding}
-use Rattle.rmi_registry.specs.Named.{object_of, is_bound, names_in, count_of, rebound, without, IsRegistry}
+use Rattle.rmi_registry.specs.Bindings.{object_of, is_bound, names_in, count_of, with_binding, without_name, IsRegistry}
 
 -- ---- names
-
-pub turned : (a b : List ℕ) → same_bytes a b ≡ same_bytes b a
-turned a b = same_test (same_bytes a b) (same_bytes b a) (there a b) (there b a)
-  where
-    there : (a b : List ℕ) → same_bytes a b ≡ true → same_bytes b a ≡ true
-    there a b h = let P : List ℕ → Type 0 = λ l. same_bytes l a ≡ true in subst P (bytes-equality.equal a b h) (bytes-equality.self a)
 
 -- A name is bound exactly where it is among the names.
 pub bound-named : (bs : List Binding) (n : List ℕ) → is_bound bs n ≡ list_any (same_bytes n) (names_in bs)
 bound-named [] n = refl
-bound-named (b ∷ bs) n = rw (turned b.name n) (go (same_bytes n b.name) (bound-named bs n))
+bound-named (b ∷ bs) n = rw (same_bytes-turned b.name n) (go (same_bytes n b.name) (bound-named bs n))
   where
     go : (s : Bool) → is_bound bs n ≡ list_any (same_bytes n) (names_in bs) →
         is_some (if s then Some b.object else object_of bs n) ≡ (s || list_any (same_bytes n) (names_in bs))
@@ -34,26 +29,26 @@ bound-named (b ∷ bs) n = rw (turned b.name n) (go (same_bytes n b.name) (bound
     go false ih = ih
 
 -- What is not bound stands in no binding.
-pub without-absent : (bs : List Binding) (n : List ℕ) → is_bound bs n ≡ false → without bs n ≡ bs
+pub without-absent : (bs : List Binding) (n : List ℕ) → is_bound bs n ≡ false → without_name bs n ≡ bs
 without-absent [] n h = refl
 without-absent (b ∷ bs) n h = go (same_bytes b.name n) h (without-absent bs n)
   where
-    go : (s : Bool) → is_some (if s then Some b.object else object_of bs n) ≡ false → (is_bound bs n ≡ false → without bs n ≡ bs) → cond (not s) (b ∷ without bs n) (without bs n) ≡ b ∷ bs
+    go : (s : Bool) → is_some (if s then Some b.object else object_of bs n) ≡ false → (is_bound bs n ≡ false → without_name bs n ≡ bs) → cond (not s) (b ∷ without_name bs n) (without_name bs n) ≡ b ∷ bs
     go true h f = absurd (cc)
     go false h f = ap (λ l. b ∷ l) (f h)
 
 -- A name that stands before others once is not among them.
-pub without-rest : (bs : List Binding) (k n : List ℕ) → same_bytes k n ≡ true → list_any (same_bytes k) (names_in bs) ≡ false → without bs n ≡ bs
+pub without-rest : (bs : List Binding) (k n : List ℕ) → same_bytes k n ≡ true → list_any (same_bytes k) (names_in bs) ≡ false → without_name bs n ≡ bs
 without-rest bs k n h absent =
     let P : List ℕ → Type 0 = λ l. list_any (same_bytes l) (names_in bs) ≡ false in
     without-absent bs n (bound-named bs n ∙ subst P (bytes-equality.equal k n h) absent)
 
-pub names-without : (bs : List Binding) (n : List ℕ) → names_in (without bs n) ≡ filter (λ k. not (same_bytes k n)) (names_in bs)
+pub names-without : (bs : List Binding) (n : List ℕ) → names_in (without_name bs n) ≡ filter (λ k. not (same_bytes k n)) (names_in bs)
 names-without [] n = refl
 names-without (b ∷ bs) n = go (not (same_bytes b.name n)) (names-without bs n)
   where
-    go : (s : Bool) → names_in (without bs n) ≡ filter (λ k. not (same_bytes k n)) (names_in bs) →
-        names_in (cond s (b ∷ without bs n) (without bs n)) ≡ cond s (b.name ∷ filter (λ k. not (same_bytes k n)) (names_in bs)) (filter (λ k. not (same_bytes k n)) (names_in bs))
+    go : (s : Bool) → names_in (without_name bs n) ≡ filter (λ k. not (same_bytes k n)) (names_in bs) →
+        names_in (cond s (b ∷ without_name bs n) (without_name bs n)) ≡ cond s (b.name ∷ filter (λ k. not (same_bytes k n)) (names_in bs)) (filter (λ k. not (same_bytes k n)) (names_in bs))
     go true ih = ap (λ l. b.name ∷ l) ih
     go false ih = ih
 
@@ -62,22 +57,22 @@ names-added [] cs = refl
 names-added (b ∷ bs) cs = ap (λ l. b.name ∷ l) (names-added bs cs)
 
 -- REBINDING a name that is there keeps the names.
-pub names-rebound : (bs : List Binding) (n : List ℕ) (o : ObjId) → is_bound bs n ≡ true → names_in (rebound bs n o) ≡ names_in bs
+pub names-rebound : (bs : List Binding) (n : List ℕ) (o : ObjId) → is_bound bs n ≡ true → names_in (with_binding bs n o) ≡ names_in bs
 names-rebound [] n o h = absurd (cc)
 names-rebound (b ∷ bs) n o h = go (same_bytes b.name n) h (names-rebound bs n o)
   where
-    go : (s : Bool) → is_some (if s then Some b.object else object_of bs n) ≡ true → (is_bound bs n ≡ true → names_in (rebound bs n o) ≡ names_in bs) →
-        names_in (if s then record { name = b.name; object = o } ∷ bs else b ∷ rebound bs n o) ≡ b.name ∷ names_in bs
+    go : (s : Bool) → is_some (if s then Some b.object else object_of bs n) ≡ true → (is_bound bs n ≡ true → names_in (with_binding bs n o) ≡ names_in bs) →
+        names_in (if s then record { name = b.name; object = o } ∷ bs else b ∷ with_binding bs n o) ≡ b.name ∷ names_in bs
     go true h f = refl
     go false h f = ap (λ l. b.name ∷ l) (f h)
 
 -- Rebinding a new name binds it.
-pub rebound-new : (bs : List Binding) (n : List ℕ) (o : ObjId) → is_bound bs n ≡ false → rebound bs n o ≡ bs ++ record { name = n; object = o } ∷ []
+pub rebound-new : (bs : List Binding) (n : List ℕ) (o : ObjId) → is_bound bs n ≡ false → with_binding bs n o ≡ bs ++ record { name = n; object = o } ∷ []
 rebound-new [] n o h = refl
 rebound-new (b ∷ bs) n o h = go (same_bytes b.name n) h (rebound-new bs n o)
   where
-    go : (s : Bool) → is_some (if s then Some b.object else object_of bs n) ≡ false → (is_bound bs n ≡ false → rebound bs n o ≡ bs ++ record { name = n; object = o } ∷ []) →
-        (if s then record { name = b.name; object = o } ∷ bs else b ∷ rebound bs n o) ≡ b ∷ (bs ++ record { name = n; object = o } ∷ [])
+    go : (s : Bool) → is_some (if s then Some b.object else object_of bs n) ≡ false → (is_bound bs n ≡ false → with_binding bs n o ≡ bs ++ record { name = n; object = o } ∷ []) →
+        (if s then record { name = b.name; object = o } ∷ bs else b ∷ with_binding bs n o) ≡ b ∷ (bs ++ record { name = n; object = o } ∷ [])
     go true h f = absurd (cc)
     go false h f = ap (λ l. b ∷ l) (f h)
 
@@ -104,17 +99,17 @@ registry-added bs n o r absent units room =
       few = omega arith;
     }
 
-length-rebound : (bs : List Binding) (n : List ℕ) (o : ObjId) → is_bound bs n ≡ true → length (rebound bs n o) ≡ length bs
+length-rebound : (bs : List Binding) (n : List ℕ) (o : ObjId) → is_bound bs n ≡ true → length (with_binding bs n o) ≡ length bs
 length-rebound [] n o h = absurd (cc)
 length-rebound (b ∷ bs) n o h = go (same_bytes b.name n) h (length-rebound bs n o)
   where
-    go : (s : Bool) → is_some (if s then Some b.object else object_of bs n) ≡ true → (is_bound bs n ≡ true → length (rebound bs n o) ≡ length bs) →
-        length (if s then record { name = b.name; object = o } ∷ bs else b ∷ rebound bs n o) ≡ suc (length bs)
+    go : (s : Bool) → is_some (if s then Some b.object else object_of bs n) ≡ true → (is_bound bs n ≡ true → length (with_binding bs n o) ≡ length bs) →
+        length (if s then record { name = b.name; object = o } ∷ bs else b ∷ with_binding bs n o) ≡ suc (length bs)
     go true h f = refl
     go false h f = ap suc (f h)
 
 -- Rebinding a name that is bound.
-pub registry-rebound : (bs : List Binding) (n : List ℕ) (o : ObjId) → IsRegistry bs → is_bound bs n ≡ true → IsRegistry (rebound bs n o)
+pub registry-rebound : (bs : List Binding) (n : List ℕ) (o : ObjId) → IsRegistry bs → is_bound bs n ≡ true → IsRegistry (with_binding bs n o)
 registry-rebound bs n o r bound =
     let names = names-rebound bs n o bound in
     let P : List (List ℕ) → Type 0 = λ l. AllOnce same_bytes l in
@@ -126,35 +121,27 @@ registry-rebound bs n o r bound =
     }
 
 -- Rebinding, if a name is bound.
-pub registry-replaced : (bs : List Binding) (n : List ℕ) (o : ObjId) → IsRegistry bs → IsRegistry (if is_bound bs n then rebound bs n o else bs)
+pub registry-replaced : (bs : List Binding) (n : List ℕ) (o : ObjId) → IsRegistry bs → IsRegistry (if is_bound bs n then with_binding bs n o else bs)
 registry-replaced bs n o r = go (is_bound bs n) refl
   where
-    go : (s : Bool) → is_bound bs n ≡ s → IsRegistry (if s then rebound bs n o else bs)
+    go : (s : Bool) → is_bound bs n ≡ s → IsRegistry (if s then with_binding bs n o else bs)
     go true h = registry-rebound bs n o r h
     go false h = r
 
-pub length-filter : {X : Type 0} (test : X → Bool) (xs : List X) → length (filter test xs) ≤ length xs
-length-filter test [] = omega arith
-length-filter test (x ∷ xs) = go (test x) (length-filter test xs)
-  where
-    go : (s : Bool) → length (filter test xs) ≤ length xs → length (cond s (x ∷ filter test xs) (filter test xs)) ≤ suc (length xs)
-    go true h = omega arith
-    go false h = omega arith
-
 -- Unbinding a name.
-pub registry-without : (bs : List Binding) (n : List ℕ) → IsRegistry bs → IsRegistry (without bs n)
+pub registry-without : (bs : List Binding) (n : List ℕ) → IsRegistry bs → IsRegistry (without_name bs n)
 registry-without bs n r =
     let names = names-without bs n in
     let P : List (List ℕ) → Type 0 = λ l. AllOnce same_bytes l in
     let Q : List (List ℕ) → Type 0 = λ l. AllByRecursion (λ k. length k ≤ MAX_NAME_UNITS) l in
-    let fewer = length-filter (λ (b : Binding). not (same_bytes b.name n)) bs in let few = r.few in record {
+    let fewer = filter-shorter (λ (b : Binding). not (same_bytes b.name n)) bs in let few = r.few in record {
       once = subst P (sym names) (AllOnce-filter same_bytes (λ k. not (same_bytes k n)) (names_in bs) r.once);
       short = subst Q (sym names) (every-filter (λ k. length k ≤ MAX_NAME_UNITS) (λ k. not (same_bytes k n)) (names_in bs) r.short);
       few = omega arith;
     }
 
 pub count-few : (bs : List Binding) (o : ObjId) → IsRegistry bs → count_of bs o ≤ MAX_NAMES
-count-few bs o r = let fewer = length-filter (λ (b : Binding). same_id b.object o) bs in let few = r.few in omega arith
+count-few bs o r = let fewer = filter-shorter (λ (b : Binding). same_id b.object o) bs in let few = r.few in omega arith
 
 -- What holds where nothing was found holds at the refusal.
 pub missing : {X E P : Type 0} (o : Option X) (e : E) (r : Result X E) → r ≡ ok_or o e → (o ≡ None → P) → OnErr r P

@@ -6,9 +6,10 @@ use Rattle.std.specs.Map.{keys_of, values_of, lookup, remove_entry, set_value}
 use Rattle.object_ids.specs.declared.ids.ObjId.{ObjId}
 use Rattle.object_ids.specs.Same.{same_id, same_bytes}
 use Rattle.history.specs.Lists.{AllOnce}
-use Rattle.rmi_registry.specs.Kept.{bindings_of}
-use Rattle.rmi_registry.specs.Named.{object_of, names_in, count_of, rebound, without}
-use Rattle.rmi_registry.proofs.BindingLaws.{turned, without-rest}
+use Rattle.history.proofs.NameLaws.{same_bytes-turned}
+use Rattle.rmi_registry.specs.MapEntries.{bindings_of}
+use Rattle.rmi_registry.specs.Bindings.{object_of, names_in, count_of, with_binding, without_name}
+use Rattle.rmi_registry.proofs.BindingLaws.{without-rest}
 
 same_shape : (a b : List ℕ) → pointwise nat_eq a b ≡ same_bytes a b
 same_shape [] [] = refl
@@ -18,7 +19,7 @@ same_shape (x ∷ xs) (y ∷ ys) = rw (same_shape xs ys) refl
 
 -- A key is found as its name is.
 pub key-same : (n k : List ℕ) → pointwise nat_eq n k ≡ same_bytes k n
-key-same n k = same_shape n k ∙ turned n k
+key-same n k = same_shape n k ∙ same_bytes-turned n k
 
 abbrev pub Entries : Type 0 → Type 0
 Entries Z = List (Vec ℕ Z × ObjId)
@@ -33,13 +34,13 @@ module _ {Z : Type 0} where
   object-looked_up (e ∷ es) n = rw (key-same n e.0.items, object-looked_up es n) refl
 
   pub bindings-set : (es : Entries Z) (n : List ℕ) (o : ObjId) → is_some (object_of (bindings_of es) n) ≡ true →
-      bindings_of (set_value (key_is n) es o) ≡ rebound (bindings_of es) n o
+      bindings_of (set_value (key_is n) es o) ≡ with_binding (bindings_of es) n o
   bindings-set [] n o h = absurd (cc)
   bindings-set (e ∷ es) n o h = rw (key-same n e.0.items) (go (same_bytes e.0.items n) h (bindings-set es n o))
     where
       go : (s : Bool) → is_some (if s then Some e.1 else object_of (bindings_of es) n) ≡ true →
-          (is_some (object_of (bindings_of es) n) ≡ true → bindings_of (set_value (key_is n) es o) ≡ rebound (bindings_of es) n o) →
-          bindings_of (cond s ((e.0, o) ∷ es) (e ∷ set_value (key_is n) es o)) ≡ (if s then record { name = e.0.items; object = o } ∷ bindings_of es else record { name = e.0.items; object = e.1 } ∷ rebound (bindings_of es) n o)
+          (is_some (object_of (bindings_of es) n) ≡ true → bindings_of (set_value (key_is n) es o) ≡ with_binding (bindings_of es) n o) →
+          bindings_of (cond s ((e.0, o) ∷ es) (e ∷ set_value (key_is n) es o)) ≡ (if s then record { name = e.0.items; object = o } ∷ bindings_of es else record { name = e.0.items; object = e.1 } ∷ with_binding (bindings_of es) n o)
       go true h f = refl
       go false h f = ap (λ l. record { name = e.0.items; object = e.1 } ∷ l) (f h)
 
@@ -48,12 +49,12 @@ module _ {Z : Type 0} where
   bindings-added (e ∷ es) fs = ap (λ l. record { name = e.0.items; object = e.1 } ∷ l) (bindings-added es fs)
 
   pub bindings-removed : (es : Entries Z) (n : List ℕ) → AllOnce same_bytes (names_in (bindings_of es)) →
-      bindings_of (remove_entry (key_is n) es) ≡ without (bindings_of es) n
+      bindings_of (remove_entry (key_is n) es) ≡ without_name (bindings_of es) n
   bindings-removed [] n once = refl
   bindings-removed (e ∷ es) n once = rw (key-same n e.0.items) (go (same_bytes e.0.items n) refl (bindings-removed es n once.1))
     where
-      go : (s : Bool) → same_bytes e.0.items n ≡ s → bindings_of (remove_entry (key_is n) es) ≡ without (bindings_of es) n →
-          bindings_of (cond s es (e ∷ remove_entry (key_is n) es)) ≡ cond (not s) (record { name = e.0.items; object = e.1 } ∷ without (bindings_of es) n) (without (bindings_of es) n)
+      go : (s : Bool) → same_bytes e.0.items n ≡ s → bindings_of (remove_entry (key_is n) es) ≡ without_name (bindings_of es) n →
+          bindings_of (cond s es (e ∷ remove_entry (key_is n) es)) ≡ cond (not s) (record { name = e.0.items; object = e.1 } ∷ without_name (bindings_of es) n) (without_name (bindings_of es) n)
       go true p ih = sym (without-rest (bindings_of es) e.0.items n p once.0)
       go false p ih = ap (λ l. record { name = e.0.items; object = e.1 } ∷ l) ih
 

@@ -4,6 +4,7 @@ use Rattle.std.specs.Prelude.{Bool, true, false, not, nat_lt, ◌&&◌, ◌||◌
 use Rattle.std.specs.List.{list_any}
 use Rattle.std.proofs.lemmas.Bool.{or_parts, and_parts}
 use Rattle.std.proofs.lemmas.List.{length-map}
+use Rattle.sequence.proofs.Lists.{all_stay}
 use Rattle.object_ids.specs.declared.ids.ObjId.{ObjId}
 use Rattle.object_ids.specs.Same.{same_id, same_bytes}
 use Rattle.history.specs.declared.asks.Ask.{Ask}
@@ -16,12 +17,12 @@ use Rattle.history.specs.Places.{History, has}
 use Rattle.history.specs.Table.{is_effective, table, place_of, places}
 use Rattle.history.specs.Lists.{AllOnce}
 use Rattle.history.proofs.ListLemmas.{list_any-length, or_false}
-use Rattle.history.proofs.NameLaws.{bytes-equality, names-push, stands_for-push, names-none, stands_for-none}
+use Rattle.history.proofs.NameLaws.{bytes-equality, names-push, stands_for-push, names-none, stands_for-none, same_bytes-turned}
 use Rattle.history.proofs.TableLaws.{IsNumbered, places-push, places-numbered}
 use Rattle.rmi_registry.specs.declared.binding.Binding.{Binding}
-use Rattle.rmi_registry.specs.Named.{object_of, is_bound, names_in, count_of, rebound, without, IsRegistry}
-use Rattle.rmi_registry.specs.Stands.{AreBindings, NoneBound, NamesCount, BindAdds, RebindChanges, UnbindTakes, OthersLeaveNames}
-use Rattle.rmi_registry.proofs.BindingLaws.{turned, names-added, names-rebound, names-without, rebound-new}
+use Rattle.rmi_registry.specs.Bindings.{object_of, is_bound, names_in, count_of, with_binding, without_name, IsRegistry}
+use Rattle.rmi_registry.specs.StandsForHistory.{AreBindings, NoneBound, NamesCount, BindAdds, RebindChanges, UnbindTakes, OthersLeaveNames}
+use Rattle.rmi_registry.proofs.BindingLaws.{names-added, names-rebound, names-without, rebound-new}
 
 -- ---- what names stand for
 
@@ -40,17 +41,17 @@ object-added (b ∷ bs) n o m absent = go (same_bytes b.name n) refl (same_bytes
         other : (u : Bool) → same_bytes n m ≡ u → Some b.object ≡ (if u then Some o else Some b.object)
         other true r = absurd (let P : List ℕ → Type 0 = λ l. same_bytes l n ≡ false in let Q : List ℕ → Type 0 = λ l. same_bytes n l ≡ true in
             let same : m ≡ b.name = sym (bytes-equality.equal b.name m q) in
-            let here : same_bytes n b.name ≡ true = subst Q same r in let turn = turned n b.name in cc)
+            let here : same_bytes n b.name ≡ true = subst Q same r in let turn = same_bytes-turned n b.name in cc)
         other false r = refl
     go false p false q h f = f h
 
 pub object-rebound : (bs : List Binding) (n : List ℕ) (o : ObjId) (m : List ℕ) →
-    object_of (rebound bs n o) m ≡ (if same_bytes n m then Some o else object_of bs m)
+    object_of (with_binding bs n o) m ≡ (if same_bytes n m then Some o else object_of bs m)
 object-rebound [] n o m = refl
 object-rebound (b ∷ bs) n o m = go (same_bytes b.name n) refl (object-rebound bs n o m)
   where
-    go : (s : Bool) → same_bytes b.name n ≡ s → object_of (rebound bs n o) m ≡ (if same_bytes n m then Some o else object_of bs m) →
-        object_of (if s then record { name = b.name; object = o } ∷ bs else b ∷ rebound bs n o) m ≡ (if same_bytes n m then Some o else (if same_bytes b.name m then Some b.object else object_of bs m))
+    go : (s : Bool) → same_bytes b.name n ≡ s → object_of (with_binding bs n o) m ≡ (if same_bytes n m then Some o else object_of bs m) →
+        object_of (if s then record { name = b.name; object = o } ∷ bs else b ∷ with_binding bs n o) m ≡ (if same_bytes n m then Some o else (if same_bytes b.name m then Some b.object else object_of bs m))
     go true p ih =
         let same : b.name ≡ n = bytes-equality.equal b.name n p in
         let P : List ℕ → Type 0 = λ l. (if same_bytes b.name m then Some o else object_of bs m) ≡ (if same_bytes l m then Some o else (if same_bytes b.name m then Some b.object else object_of bs m)) in
@@ -61,15 +62,15 @@ object-rebound (b ∷ bs) n o m = go (same_bytes b.name n) refl (object-rebound 
         both false = refl
     go false p ih = apart (same_bytes b.name m) refl (same_bytes n m) refl ih
       where
-        apart : (t : Bool) → same_bytes b.name m ≡ t → (u : Bool) → same_bytes n m ≡ u → object_of (rebound bs n o) m ≡ (if u then Some o else object_of bs m) →
-            (if t then Some b.object else object_of (rebound bs n o) m) ≡ (if u then Some o else (if t then Some b.object else object_of bs m))
+        apart : (t : Bool) → same_bytes b.name m ≡ t → (u : Bool) → same_bytes n m ≡ u → object_of (with_binding bs n o) m ≡ (if u then Some o else object_of bs m) →
+            (if t then Some b.object else object_of (with_binding bs n o) m) ≡ (if u then Some o else (if t then Some b.object else object_of bs m))
         apart true q true r h = absurd (let Q : List ℕ → Type 0 = λ l. same_bytes n l ≡ true in
             let same : m ≡ b.name = sym (bytes-equality.equal b.name m q) in
-            let here : same_bytes n b.name ≡ true = subst Q same r in let turn = turned n b.name in cc)
+            let here : same_bytes n b.name ≡ true = subst Q same r in let turn = same_bytes-turned n b.name in cc)
         apart true q false r h = refl
         apart false q u r h = h
 
-pub object-without : (bs : List Binding) (n m : List ℕ) → object_of (without bs n) m ≡ (if same_bytes n m then None else object_of bs m)
+pub object-without : (bs : List Binding) (n m : List ℕ) → object_of (without_name bs n) m ≡ (if same_bytes n m then None else object_of bs m)
 object-without [] n m = same (same_bytes n m)
   where
     nothing : Option ObjId
@@ -80,8 +81,8 @@ object-without [] n m = same (same_bytes n m)
     same false = refl
 object-without (b ∷ bs) n m = go (same_bytes b.name n) refl (object-without bs n m)
   where
-    go : (s : Bool) → same_bytes b.name n ≡ s → object_of (without bs n) m ≡ (if same_bytes n m then None else object_of bs m) →
-        object_of (cond (not s) (b ∷ without bs n) (without bs n)) m ≡ (if same_bytes n m then None else (if same_bytes b.name m then Some b.object else object_of bs m))
+    go : (s : Bool) → same_bytes b.name n ≡ s → object_of (without_name bs n) m ≡ (if same_bytes n m then None else object_of bs m) →
+        object_of (cond (not s) (b ∷ without_name bs n) (without_name bs n)) m ≡ (if same_bytes n m then None else (if same_bytes b.name m then Some b.object else object_of bs m))
     go true p ih =
         let same : b.name ≡ n = bytes-equality.equal b.name n p in
         let P : List ℕ → Type 0 = λ l. (if same_bytes n m then None else object_of bs m) ≡ (if same_bytes n m then None else (if same_bytes l m then Some b.object else object_of bs m)) in
@@ -92,11 +93,11 @@ object-without (b ∷ bs) n m = go (same_bytes b.name n) refl (object-without bs
         both false = refl
     go false p ih = apart (same_bytes b.name m) refl (same_bytes n m) refl ih
       where
-        apart : (t : Bool) → same_bytes b.name m ≡ t → (u : Bool) → same_bytes n m ≡ u → object_of (without bs n) m ≡ (if u then None else object_of bs m) →
-            (if t then Some b.object else object_of (without bs n) m) ≡ (if u then None else (if t then Some b.object else object_of bs m))
+        apart : (t : Bool) → same_bytes b.name m ≡ t → (u : Bool) → same_bytes n m ≡ u → object_of (without_name bs n) m ≡ (if u then None else object_of bs m) →
+            (if t then Some b.object else object_of (without_name bs n) m) ≡ (if u then None else (if t then Some b.object else object_of bs m))
         apart true q true r h = absurd (let Q : List ℕ → Type 0 = λ l. same_bytes n l ≡ true in
             let same : m ≡ b.name = sym (bytes-equality.equal b.name m q) in
-            let here : same_bytes n b.name ≡ true = subst Q same r in let turn = turned n b.name in cc)
+            let here : same_bytes n b.name ≡ true = subst Q same r in let turn = same_bytes-turned n b.name in cc)
         apart true q false r h = refl
         apart false q u r h = h
 
@@ -134,10 +135,6 @@ changed-next : (config : SpaceConfig) (events : List Event) (e : Event) (bs cs :
 unfolding place_of
 changed-next config events e bs cs a h = bound-next config events e bs cs a h
 
-all_stay : (ns : List (List ℕ)) → filter (λ n. not false) ns ≡ ns
-all_stay [] = refl
-all_stay (n ∷ ns) = ap (λ l. n ∷ l) (all_stay ns)
-
 absent : (o : Option ObjId) → is_none o ≡ true → is_some o ≡ false
 absent None h = refl
 absent (Some x) h = absurd (cc)
@@ -151,15 +148,15 @@ changed-bind stood bs n o none free = (
 )
 
 changed-rebind : (stood : Option ObjId) (bs : List Binding) (n : List ℕ) (o : ObjId) → object_of bs n ≡ stood →
-    Changed true stood (Rebind n o) bs (rebound bs n o)
+    Changed true stood (Rebind n o) bs (with_binding bs n o)
 changed-rebind stood bs n o h =
     (go stood h, λ m. object-rebound bs n o m ∙ ap (λ b. if b then Some o else object_of bs m) (sym (or_false (same_bytes n m))))
   where
-    go : (s : Option ObjId) → object_of bs n ≡ s → names_in (rebound bs n o) ≡ filter (λ k. not false) (names_in bs) ++ (if is_none s then n ∷ [] else [])
+    go : (s : Option ObjId) → object_of bs n ≡ s → names_in (with_binding bs n o) ≡ filter (λ k. not false) (names_in bs) ++ (if is_none s then n ∷ [] else [])
     go None e = ap names_in (rebound-new bs n o (ap is_some e)) ∙ names-added bs (record { name = n; object = o } ∷ []) ∙ ap (λ l. l ++ n ∷ []) (sym (all_stay (names_in bs)))
     go (Some x) e = names-rebound bs n o (ap is_some e) ∙ sym (all_stay (names_in bs)) ∙ sym (append-nil (filter (λ k. not false) (names_in bs)))
 
-changed-unbind : (stood : Option ObjId) (bs : List Binding) (n : List ℕ) → Changed true stood (Unbind n) bs (without bs n)
+changed-unbind : (stood : Option ObjId) (bs : List Binding) (n : List ℕ) → Changed true stood (Unbind n) bs (without_name bs n)
 changed-unbind stood bs n = (
   names-without bs n ∙ turned-filter (names_in bs) ∙ sym (append-nil (filter (λ k. not (same_bytes n k)) (names_in bs))) ∙ ap (λ l. filter (λ k. not (same_bytes n k)) (names_in bs) ++ l) (sym (same (is_none stood))),
   λ m. object-without bs n m,
@@ -171,7 +168,7 @@ changed-unbind stood bs n = (
 
     turned-filter : (ns : List (List ℕ)) → filter (λ k. not (same_bytes k n)) ns ≡ filter (λ k. not (same_bytes n k)) ns
     turned-filter [] = refl
-    turned-filter (k ∷ ns) = rw (turned k n, turned-filter ns) refl
+    turned-filter (k ∷ ns) = rw (same_bytes-turned k n, turned-filter ns) refl
 
 changed-other : (v : Bool) (stood : Option ObjId) (a : Ask) (bs : List Binding) → ((n : List ℕ) → (v && (is_bind_of n a || is_unbind_of n a)) ≡ false) →
     Changed v stood a bs bs
@@ -222,16 +219,16 @@ bind-adds config events e n o bs ask effective a =
 pub rebind-changes : RebindChanges
 rebind-changes config events e n o bs ask effective a =
     let h = places config events in
-    let P : Ask → Type 0 = λ q. Changed true (option_and_then (stands_for h) (name_in q)) q bs (rebound bs n o) in
-    let Q : Bool → Type 0 = λ v. Changed v (option_and_then (stands_for h) (name_in e.ask)) e.ask bs (rebound bs n o) in
-    changed-next config events e bs (rebound bs n o) a (subst Q (sym effective) (subst P (sym ask) (changed-rebind (stands_for h n) bs n o (a.objects n))))
+    let P : Ask → Type 0 = λ q. Changed true (option_and_then (stands_for h) (name_in q)) q bs (with_binding bs n o) in
+    let Q : Bool → Type 0 = λ v. Changed v (option_and_then (stands_for h) (name_in e.ask)) e.ask bs (with_binding bs n o) in
+    changed-next config events e bs (with_binding bs n o) a (subst Q (sym effective) (subst P (sym ask) (changed-rebind (stands_for h n) bs n o (a.objects n))))
 
 pub unbind-takes : UnbindTakes
 unbind-takes config events e n bs ask effective a =
     let h = places config events in
-    let P : Ask → Type 0 = λ q. Changed true (option_and_then (stands_for h) (name_in q)) q bs (without bs n) in
-    let Q : Bool → Type 0 = λ v. Changed v (option_and_then (stands_for h) (name_in e.ask)) e.ask bs (without bs n) in
-    changed-next config events e bs (without bs n) a (subst Q (sym effective) (subst P (sym ask) (changed-unbind (stands_for h n) bs n)))
+    let P : Ask → Type 0 = λ q. Changed true (option_and_then (stands_for h) (name_in q)) q bs (without_name bs n) in
+    let Q : Bool → Type 0 = λ v. Changed v (option_and_then (stands_for h) (name_in e.ask)) e.ask bs (without_name bs n) in
+    changed-next config events e bs (without_name bs n) a (subst Q (sym effective) (subst P (sym ask) (changed-unbind (stands_for h n) bs n)))
 
 pub others-leave-names : OthersLeaveNames
 unfolding place_of

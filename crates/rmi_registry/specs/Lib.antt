@@ -1,3 +1,3 @@
-pub mod Named
-pub mod Kept
-pub mod Stands
+pub mod Bindings
+pub mod MapEntries
+pub mod StandsForHistory

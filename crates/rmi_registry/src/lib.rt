@@ -2,7 +2,7 @@
 #![tactic(auto)]
 
 mod binding;
-mod bound;
+mod binding_map;
 pub mod laws;
 mod names;
 

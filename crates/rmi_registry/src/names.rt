@@ -3,10 +3,10 @@ ghost use Rattle.std.specs.Prelude.{◌≡◌, ◌⊎◌, ◌≤◌, ◌↔◌, 
 ghost use Rattle.std.specs.Result.{result_ok};
 ghost use Rattle.history.specs.declared.limits.TheConstants.{MAX_NAMES};
 ghost use Rattle.object_ids.specs.declared.ids.FullKind.TheVariants.{Names as FullNames};
-ghost use Rattle.rmi_registry.specs.Named.{object_of, is_bound, names_in, count_of, rebound, without, IsRegistry};
+ghost use Rattle.rmi_registry.specs.Bindings.{object_of, is_bound, names_in, count_of, with_binding, without_name, IsRegistry};
 
 use crate::binding::BindingList;
-use crate::bound::{self, Bound};
+use crate::binding_map::{self, BindingMap};
 use history::Name;
 use history::limits::MAX_NAMES;
 use object_ids::{FullKind, ObjId};
@@ -44,7 +44,7 @@ impl From<AllocError> for NameFault {
 #[derive(Debug)]
 pub struct Names {
     alloc: Global,
-    bound: Bound,
+    bound: BindingMap,
 }
 
 // Written out, so that whoever owns one has one call at each exit, and not the drop of each field.
@@ -58,8 +58,8 @@ impl Drop for Names {
 impl Model for Names {
     ghost use Rattle.std.specs.Prelude.{List};
     ghost use Rattle.rmi_registry.specs.declared.binding.Binding.{Binding};
-    ghost use Rattle.rmi_registry.specs.Kept.{bindings_of};
-    ghost use Rattle.rmi_registry.specs.Named.{IsRegistry};
+    ghost use Rattle.rmi_registry.specs.MapEntries.{bindings_of};
+    ghost use Rattle.rmi_registry.specs.Bindings.{IsRegistry};
 
     ghost Value = { List Binding };
 
@@ -75,7 +75,7 @@ impl Names {
     {
         Names {
             alloc,
-            bound: Bound::new(alloc),
+            bound: BindingMap::new(alloc),
         }
     }
 
@@ -99,7 +99,7 @@ impl Names {
     /// was.
     pub fn rebind(&mut self, name: Name, object: ObjId) -> Result<Option<ObjId>, NameFault>
         ensures stood { IfOk result (λ stood. stood ≡ object_of self.old name) }
-        ensures ok { OnOk result (self.new ≡ rebound self.old name object) }
+        ensures ok { OnOk result (self.new ≡ with_binding self.old name object) }
         ensures full { (result ≡ Err (NameFault.Full FullNames)) ↔ ((is_bound self.old name ≡ false) × (MAX_NAMES ≤ length self.old)) }
         ensures faults { IfErr result (λ fault. (fault ≡ NameFault.Full FullNames) ⊎ (fault ≡ NameFault.OutOfMemory)) }
         ensures memory { IsTrue (is_bound self.old name) → IsOk result }
@@ -118,38 +118,38 @@ impl Names {
     /// it stands for nothing, and then nothing changes. It takes no memory.
     pub fn unbind(&mut self, name: &Name) -> Result<ObjId, NotBound>
         ensures value { result_ok result ≡ object_of self.old name.now }
-        ensures bindings { self.new ≡ without self.old name.now }
+        ensures bindings { self.new ≡ without_name self.old name.now }
         ensures err { OnErr result (self.new ≡ self.old) }
     {
-        bound::remove(&mut self.bound, name.units().as_slice()).ok_or(NotBound)
+        binding_map::remove(&mut self.bound, name.units().as_slice()).ok_or(NotBound)
     }
 
     /// The object for which a name stands. NotBound comes exactly where it stands for nothing. It takes no memory.
     pub fn lookup(&self, name: &Name) -> Result<ObjId, NotBound>
         ensures { result_ok result ≡ object_of self.now name.now }
     {
-        bound::find(&self.bound, name.units().as_slice()).ok_or(NotBound)
+        binding_map::find(&self.bound, name.units().as_slice()).ok_or(NotBound)
     }
 
     /// The names, in the order in which they were first bound.
     pub fn list(&self, alloc: Global) -> Result<NameList, AllocError>
         ensures { IfOk result (λ names. names ≡ names_in self.now) }
     {
-        bound::names(alloc, &self.bound)
+        binding_map::names(alloc, &self.bound)
     }
 
     /// The bindings, in the order in which their names were first bound.
     pub fn bindings(&self, alloc: Global) -> Result<BindingList, AllocError>
         ensures { IfOk result (λ bindings. bindings ≡ self.now) }
     {
-        bound::bindings(alloc, &self.bound)
+        binding_map::bindings(alloc, &self.bound)
     }
 
     /// How many names stand for an object. It takes no memory.
     pub fn binds(&self, object: ObjId) -> u32
         ensures { result ≡ count_of self.now object }
     {
-        bound::count(&self.bound, &object) as u32
+        binding_map::count(&self.bound, &object) as u32
     }
 
     /// How many names are bound, at most 4,096. None of them stands twice or has more than 255 units.
@@ -177,9 +177,9 @@ impl Names {
     /// Binds a name that is there to another object, and answers the one that stood there; nothing changes where it is not there.
     fn replace(&mut self, name: &Name, object: ObjId) -> Option<ObjId>
         ensures stood { result ≡ object_of self.old name.now }
-        ensures bindings { self.new ≡ (if is_bound self.old name.now then rebound self.old name.now object else self.old) }
+        ensures bindings { self.new ≡ (if is_bound self.old name.now then with_binding self.old name.now object else self.old) }
     {
-        bound::replace(&mut self.bound, name.units().as_slice(), object)
+        binding_map::replace(&mut self.bound, name.units().as_slice(), object)
     }
 
     /// Binds a name that is not there, where there is room.
@@ -194,7 +194,7 @@ impl Names {
             return Err(NameFault::Full(FullKind::Names));
         }
         let units = name.units().as_slice();
-        bound::append(self.alloc, &mut self.bound, units, object)?;
+        binding_map::append(self.alloc, &mut self.bound, units, object)?;
         Ok(())
     }
 }

@@ -4,10 +4,10 @@ use Rattle.std.specs.List.{position}
 use Rattle.std.proofs.Math.Dec.{lit≤}
 use Rattle.std.proofs.lemmas.List.Elements.{All-from_recursion}
 use Rattle.mod_utf.specs.Utf.{utf}
-use Rattle.call_dispatch.specs.declared.book.Kind.{Kind}
-use Rattle.call_dispatch.specs.declared.book.BookFault.{BookFault}
-use Rattle.call_dispatch.specs.declared.book.BookFault.TheVariants.{FloatMethod}
-use Rattle.call_dispatch.specs.Book.{has_float, FaultsBook}
+use Rattle.system_objects.specs.declared.book.Kind.{Kind}
+use Rattle.system_objects.specs.declared.book.BookFault.{BookFault}
+use Rattle.system_objects.specs.declared.book.BookFault.TheVariants.{FloatMethod}
+use Rattle.system_objects.specs.Book.{has_float, FaultsBook}
 use Rattle.sample_app.specs.Kinds.{echo, counter, maker, sample_kinds}
 
 pub few_methods : (kinds : List Kind) → kinds ≡ sample_kinds → All (λ kind. length kind.methods < 2 ^ 32) kinds

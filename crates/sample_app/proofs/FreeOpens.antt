@@ -7,17 +7,17 @@ use Rattle.history.specs.declared.asks.Event.{Event}
 use Rattle.history.specs.declared.replies.Turn.{Turn}
 use Rattle.history.specs.declared.replies.Refused.{Refused}
 use Rattle.history.specs.declared.replies.Refused.TheVariants.{OutOfMemory}
-use Rattle.history.specs.Awaiting.{until_of, awaits, references, awaiting, is_awaited}
+use Rattle.history.specs.Awaiting.{until_of, awaits, references, awaiting_references, is_awaited}
 use Rattle.history.specs.LeaseCalls.{lease_calls}
 use Rattle.history.specs.Leases.{lease_end, tenure, counting_calls, highest_is_dirty, holds, is_remembered, calls_of, clients, clients_with_time_left, is_held, pairs_with, new_pairs}
-use Rattle.history.specs.Limits.{units, reserved, exports_with_event, awaiting_with_event, clients_with_event, pairs_with_event, names_with_event, is_full, limits, refusal}
+use Rattle.history.specs.Limits.{units, reserved_units, exports_with_event, awaiting_with_event, clients_with_event, pairs_with_event, names_with_event, is_full, limits, refusal}
 use Rattle.history.specs.Names.{stands_for, names, is_named}
-use Rattle.history.specs.Places.{now, added, next}
-use Rattle.history.specs.Running.{running, running_calls, is_running}
+use Rattle.history.specs.Places.{now, ever_exported, exported_count}
+use Rattle.history.specs.Running.{running_calls_by, running_calls, is_running}
 use Rattle.history.specs.Steps.{Step, answer_with, history_with}
-use Rattle.history.specs.Table.{is_pinned, is_kept, table, is_effective, exports, lists, place_of, places_back, places, withdrawn, withdrawals}
+use Rattle.history.specs.Table.{is_kept_locally, is_kept, table, is_effective, exports, returned_objects, place_of, places_back, places, withdrawn_objects, withdrawals}
 use Rattle.space.specs.Built.{SpaceHistory}
-use Rattle.sample_app.specs.Opened.{opened, bound}
+use Rattle.sample_app.specs.Opened.{open_event, bind_event}
 
 -- No limit refuses the event.
 abbrev pub IsFree : Event → SpaceHistory → Type 0
@@ -26,30 +26,30 @@ IsFree e s = refusal limits s.configuration (places s.configuration s.events) e 
 abbrev pub one_more : Event → SpaceHistory → SpaceHistory
 one_more e s = record { configuration = s.configuration; events = s.events ++ e ∷ [] }
 
-pub first_is_free : (config : SpaceConfig) → refusal limits config (places config []) (opened 0) ≡ None
-unfolding lease_end tenure counting_calls highest_is_dirty holds is_remembered calls_of clients clients_with_time_left is_held pairs_with new_pairs now added next running running_calls is_running until_of awaits references awaiting is_awaited stands_for names is_named lease_calls is_pinned is_kept table is_effective exports lists place_of places_back places withdrawn withdrawals units reserved exports_with_event awaiting_with_event clients_with_event pairs_with_event names_with_event is_full refusal
+pub first_is_free : (config : SpaceConfig) → refusal limits config (places config []) (open_event 0) ≡ None
+unfolding lease_end tenure counting_calls highest_is_dirty holds is_remembered calls_of clients clients_with_time_left is_held pairs_with new_pairs now ever_exported exported_count running_calls_by running_calls is_running until_of awaits references awaiting_references is_awaited stands_for names is_named lease_calls is_kept_locally is_kept table is_effective exports returned_objects place_of places_back places withdrawn_objects withdrawals units reserved_units exports_with_event awaiting_with_event clients_with_event pairs_with_event names_with_event is_full refusal
 first_is_free config = refl
 
-pub second_is_free : (config : SpaceConfig) → refusal limits config (places config (opened 0 ∷ [])) (opened 1) ≡ None
-unfolding lease_end tenure counting_calls highest_is_dirty holds is_remembered calls_of clients clients_with_time_left is_held pairs_with new_pairs now added next running running_calls is_running until_of awaits references awaiting is_awaited stands_for names is_named lease_calls is_pinned is_kept table is_effective exports lists place_of places_back places withdrawn withdrawals units reserved exports_with_event awaiting_with_event clients_with_event pairs_with_event names_with_event is_full refusal
+pub second_is_free : (config : SpaceConfig) → refusal limits config (places config (open_event 0 ∷ [])) (open_event 1) ≡ None
+unfolding lease_end tenure counting_calls highest_is_dirty holds is_remembered calls_of clients clients_with_time_left is_held pairs_with new_pairs now ever_exported exported_count running_calls_by running_calls is_running until_of awaits references awaiting_references is_awaited stands_for names is_named lease_calls is_kept_locally is_kept table is_effective exports returned_objects place_of places_back places withdrawn_objects withdrawals units reserved_units exports_with_event awaiting_with_event clients_with_event pairs_with_event names_with_event is_full refusal
 second_is_free config = refl
 
-pub third_is_free : (config : SpaceConfig) → refusal limits config (places config (opened 0 ∷ opened 1 ∷ [])) (opened 2) ≡ None
-unfolding lease_end tenure counting_calls highest_is_dirty holds is_remembered calls_of clients clients_with_time_left is_held pairs_with new_pairs now added next running running_calls is_running until_of awaits references awaiting is_awaited stands_for names is_named lease_calls is_pinned is_kept table is_effective exports lists place_of places_back places withdrawn withdrawals units reserved exports_with_event awaiting_with_event clients_with_event pairs_with_event names_with_event is_full refusal
+pub third_is_free : (config : SpaceConfig) → refusal limits config (places config (open_event 0 ∷ open_event 1 ∷ [])) (open_event 2) ≡ None
+unfolding lease_end tenure counting_calls highest_is_dirty holds is_remembered calls_of clients clients_with_time_left is_held pairs_with new_pairs now ever_exported exported_count running_calls_by running_calls is_running until_of awaits references awaiting_references is_awaited stands_for names is_named lease_calls is_kept_locally is_kept table is_effective exports returned_objects place_of places_back places withdrawn_objects withdrawals units reserved_units exports_with_event awaiting_with_event clients_with_event pairs_with_event names_with_event is_full refusal
 third_is_free config = refl
 
-pub first_name_is_free : (config : SpaceConfig) → refusal limits config (places config (opened 0 ∷ opened 1 ∷ opened 2 ∷ [])) (bound config (codes "echo") (pos 16)) ≡ None
-unfolding lease_end tenure counting_calls highest_is_dirty holds is_remembered calls_of clients clients_with_time_left is_held pairs_with new_pairs now added next running running_calls is_running until_of awaits references awaiting is_awaited stands_for names is_named lease_calls is_pinned is_kept table is_effective exports lists place_of places_back places withdrawn withdrawals units reserved exports_with_event awaiting_with_event clients_with_event pairs_with_event names_with_event is_full refusal
+pub first_name_is_free : (config : SpaceConfig) → refusal limits config (places config (open_event 0 ∷ open_event 1 ∷ open_event 2 ∷ [])) (bind_event config (codes "echo") (pos 16)) ≡ None
+unfolding lease_end tenure counting_calls highest_is_dirty holds is_remembered calls_of clients clients_with_time_left is_held pairs_with new_pairs now ever_exported exported_count running_calls_by running_calls is_running until_of awaits references awaiting_references is_awaited stands_for names is_named lease_calls is_kept_locally is_kept table is_effective exports returned_objects place_of places_back places withdrawn_objects withdrawals units reserved_units exports_with_event awaiting_with_event clients_with_event pairs_with_event names_with_event is_full refusal
 first_name_is_free config = rw (same_uid-self config.uid) refl
 
 pub second_name_is_free : (config : SpaceConfig)
-    → refusal limits config (places config (opened 0 ∷ opened 1 ∷ opened 2 ∷ bound config (codes "echo") (pos 16) ∷ [])) (bound config (codes "counter") (pos 17)) ≡ None
-unfolding lease_end tenure counting_calls highest_is_dirty holds is_remembered calls_of clients clients_with_time_left is_held pairs_with new_pairs now added next running running_calls is_running until_of awaits references awaiting is_awaited stands_for names is_named lease_calls is_pinned is_kept table is_effective exports lists place_of places_back places withdrawn withdrawals units reserved exports_with_event awaiting_with_event clients_with_event pairs_with_event names_with_event is_full refusal
+    → refusal limits config (places config (open_event 0 ∷ open_event 1 ∷ open_event 2 ∷ bind_event config (codes "echo") (pos 16) ∷ [])) (bind_event config (codes "counter") (pos 17)) ≡ None
+unfolding lease_end tenure counting_calls highest_is_dirty holds is_remembered calls_of clients clients_with_time_left is_held pairs_with new_pairs now ever_exported exported_count running_calls_by running_calls is_running until_of awaits references awaiting_references is_awaited stands_for names is_named lease_calls is_kept_locally is_kept table is_effective exports returned_objects place_of places_back places withdrawn_objects withdrawals units reserved_units exports_with_event awaiting_with_event clients_with_event pairs_with_event names_with_event is_full refusal
 second_name_is_free config = rw (same_uid-self config.uid) refl
 
 pub third_name_is_free : (config : SpaceConfig)
-    → refusal limits config (places config (opened 0 ∷ opened 1 ∷ opened 2 ∷ bound config (codes "echo") (pos 16) ∷ bound config (codes "counter") (pos 17) ∷ [])) (bound config (codes "maker") (pos 18)) ≡ None
-unfolding lease_end tenure counting_calls highest_is_dirty holds is_remembered calls_of clients clients_with_time_left is_held pairs_with new_pairs now added next running running_calls is_running until_of awaits references awaiting is_awaited stands_for names is_named lease_calls is_pinned is_kept table is_effective exports lists place_of places_back places withdrawn withdrawals units reserved exports_with_event awaiting_with_event clients_with_event pairs_with_event names_with_event is_full refusal
+    → refusal limits config (places config (open_event 0 ∷ open_event 1 ∷ open_event 2 ∷ bind_event config (codes "echo") (pos 16) ∷ bind_event config (codes "counter") (pos 17) ∷ [])) (bind_event config (codes "maker") (pos 18)) ≡ None
+unfolding lease_end tenure counting_calls highest_is_dirty holds is_remembered calls_of clients clients_with_time_left is_held pairs_with new_pairs now ever_exported exported_count running_calls_by running_calls is_running until_of awaits references awaiting_references is_awaited stands_for names is_named lease_calls is_kept_locally is_kept table is_effective exports returned_objects place_of places_back places withdrawn_objects withdrawals units reserved_units exports_with_event awaiting_with_event clients_with_event pairs_with_event names_with_event is_full refusal
 third_name_is_free config = rw (same_uid-self config.uid) refl
 
 -- A step that no limit refuses appends its event, or there was no memory.

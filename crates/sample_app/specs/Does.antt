@@ -37,7 +37,7 @@ echo_of a = echo_with a.values a.graph.items
 
 -- The arguments of add are one number of the type long.
 abbrev pub add_with : List Arg → Option SampleCall
-add_with (arguments.Prim (values.J number) ∷ []) = Some (Add number)
+add_with (arguments.Prim (values.Long number) ∷ []) = Some (Add number)
 add_with _ = None
 
 abbrev pub add_of : Arguments → Option SampleCall
@@ -75,7 +75,7 @@ overflow = Fault (codes "java.lang.ArithmeticException: overflow")
 
 -- The outcome is a number of the type long.
 abbrev pub IsNumber : Outcome → Type 0
-IsNumber outcome = (number : ℤ) × (outcome ≡ Prim (values.J number))
+IsNumber outcome = (number : ℤ) × (outcome ≡ Prim (values.Long number))
 
 -- Which outcomes there are of what is asked for with this graph.
 abbrev pub MayGive : Graph → Option SampleCall → Outcome → Type 0
@@ -96,13 +96,13 @@ May call outcome = (outcome ≡ OutOfMemory) ⊎ MayGive call.arguments.graph (c
 abbrev pub Adds : States → ObjId → ℤ → Outcome → States → Type 0
 Adds before object number outcome after =
     let sum = count_of before object +ℤ number in
-    (FitsSigned w64 sum × (outcome ≡ Prim (values.J sum)) × (after ≡ with_count before object sum))
+    (FitsSigned w64 sum × (outcome ≡ Prim (values.Long sum)) × (after ≡ with_count before object sum))
     ⊎ ((FitsSigned w64 sum → ⊥) × (outcome ≡ overflow) × (after ≡ before))
 
 -- How what is asked of an object changes the numbers, and what it gives of them.
 abbrev pub ChangesNumbers : States → ObjId → Option SampleCall → Outcome → States → Type 0
 ChangesNumbers before object (Some (Add number)) outcome after = Adds before object number outcome after
-ChangesNumbers before object (Some Get) outcome after = (outcome ≡ Prim (values.J (count_of before object))) × (after ≡ before)
+ChangesNumbers before object (Some Get) outcome after = (outcome ≡ Prim (values.Long (count_of before object))) × (after ≡ before)
 ChangesNumbers before object _ outcome after = after ≡ before
 
 -- How a call of the worker changes the numbers: an invocation for which there was no memory leaves them, and what is no longer exported has none.

@@ -5,10 +5,10 @@ use Rattle.std.proofs.Common.{refl}
 use Rattle.std.proofs.Math.Dec.{lit≤}
 use Rattle.std.proofs.lemmas.Bool.{and_parts}
 use Rattle.class_desc.specs.declared.field.TypeCode.{TypeCode}
-use Rattle.class_desc.specs.declared.field.TypeCode.TheVariants.{J, Object}
+use Rattle.class_desc.specs.declared.field.TypeCode.TheVariants.{Long, Object}
 use Rattle.method_hash.specs.declared.method.Method.{Method}
 use Rattle.method_hash.specs.MethodText.{is_class_byte, is_name_byte, HasType, IsMethod}
-use Rattle.call_dispatch.specs.declared.book.Kind.{Kind}
+use Rattle.system_objects.specs.declared.book.Kind.{Kind}
 
 -- ---- the texts are methods' texts
 
@@ -17,7 +17,7 @@ each : (test : ℕ → Bool) (xs : List ℕ) → list_all test xs ≡ true → A
 each test [] all = tt
 each test (x ∷ xs) all = let parts = and_parts (test x) (list_all test xs) all in (parts.0, each test xs parts.1)
 
-long_type : HasType J (codes "J")
+long_type : HasType Long (codes "J")
 long_type = ([], refl, refl)
 
 object_type : HasType Object (codes "Ljava/lang/Object;")
@@ -40,7 +40,7 @@ echo_is = record {
   short = lit≤ tt;
 }
 
-pub add_is : IsMethod (codes "add(J)J") (codes "add") (J ∷ []) (Some J)
+pub add_is : IsMethod (codes "add(J)J") (codes "add") (Long ∷ []) (Some Long)
 add_is = record {
   types = codes "J";
   last = codes "J";
@@ -54,7 +54,7 @@ add_is = record {
   short = lit≤ tt;
 }
 
-pub get_is : IsMethod (codes "get()J") (codes "get") [] (Some J)
+pub get_is : IsMethod (codes "get()J") (codes "get") [] (Some Long)
 get_is = record {
   types = [];
   last = codes "J";
@@ -99,7 +99,7 @@ echo = record {
 unfoldable pub counter : Kind
 counter = record {
   interface = codes "sample.Counter";
-  methods = method_of (codes "add(J)J") (codes "add") (J ∷ []) (Some J) add_is ∷ method_of (codes "get()J") (codes "get") [] (Some J) get_is ∷ [];
+  methods = method_of (codes "add(J)J") (codes "add") (Long ∷ []) (Some Long) add_is ∷ method_of (codes "get()J") (codes "get") [] (Some Long) get_is ∷ [];
 }
 
 -- the kind that makes counters

@@ -6,24 +6,24 @@ use Rattle.history.specs.declared.asks.SpaceConfig.{SpaceConfig}
 use Rattle.history.specs.declared.asks.Ask.TheVariants.{Open, Bind}
 
 -- an object of a kind that connection 0 opens at the moment 0 to be kept for good
-abbrev pub opened : ℕ → Event
-opened kind = record { by = 0; moment = 0; ask = Open kind true }
+abbrev pub open_event : ℕ → Event
+open_event kind = record { by = 0; moment = 0; ask = Open kind true }
 
 -- the object of the space with this number
 abbrev pub object_with : SpaceConfig → ℤ → ObjId
 object_with config number = record { number = number; space = config.uid }
 
 -- a name that connection 0 binds at the moment 0 to the object with this number
-abbrev pub bound : SpaceConfig → List ℕ → ℤ → Event
-bound config name number = record { by = 0; moment = 0; ask = Bind name (object_with config number) }
+abbrev pub bind_event : SpaceConfig → List ℕ → ℤ → Event
+bind_event config name number = record { by = 0; moment = 0; ask = Bind name (object_with config number) }
 
 -- One object of each kind is opened, and then a name of each is bound.
 abbrev pub sample_events : SpaceConfig → List Event
 sample_events config =
-    opened 0
-    ∷ opened 1
-    ∷ opened 2
-    ∷ bound config (codes "echo") (pos 16)
-    ∷ bound config (codes "counter") (pos 17)
-    ∷ bound config (codes "maker") (pos 18)
+    open_event 0
+    ∷ open_event 1
+    ∷ open_event 2
+    ∷ bind_event config (codes "echo") (pos 16)
+    ∷ bind_event config (codes "counter") (pos 17)
+    ∷ bind_event config (codes "maker") (pos 18)
     ∷ []

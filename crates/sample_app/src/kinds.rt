@@ -63,8 +63,8 @@ fn counter(alloc: Global) -> Result<Kind, AllocError>
     ensures { IfOk result (λ kind. kind ≡ counter) }
 {
     let mut methods = MethodList::new(alloc);
-    methods.push(method(alloc, b"add(J)J", b"add", &[TypeCode::J], TypeCode::J)?)?;
-    methods.push(method(alloc, b"get()J", b"get", &[], TypeCode::J)?)?;
+    methods.push(method(alloc, b"add(J)J", b"add", &[TypeCode::Long], TypeCode::Long)?)?;
+    methods.push(method(alloc, b"get()J", b"get", &[], TypeCode::Long)?)?;
     Ok(Kind {
         interface: units_of_ascii(alloc, b"sample.Counter")?,
         methods,

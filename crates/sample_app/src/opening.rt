@@ -3,8 +3,8 @@ ghost use Rattle.std.specs.Prelude.{◌≡◌, ◌≤◌, ◌++◌, ◌∷◌, [
 ghost use Rattle.history.specs.declared.replies.Refused.TheVariants.{OutOfMemory};
 ghost use Rattle.history.specs.Limits.{limits, refusal};
 ghost use Rattle.history.specs.Table.{places};
-ghost use Rattle.history.specs.declared.limits.TheConstants.{MAX_DURATION, MAX_NAME_UNITS};
-ghost use Rattle.sample_app.specs.Opened.{opened, bound, sample_events};
+ghost use Rattle.history.specs.declared.limits.TheConstants.{MAX_DURATION_MS, MAX_NAME_UNITS};
+ghost use Rattle.sample_app.specs.Opened.{open_event, bind_event, sample_events};
 
 use history::{Ask, Name, Refused, SpaceConfig};
 use mod_utf::utf::units_of_ascii;
@@ -23,9 +23,9 @@ use std::alloc::{AllocError, Global};
 /// It is refused only for want of memory.
 pub fn sample_space(alloc: Global, config: &SpaceConfig) -> Result<Space, Refused>
     requires some_lease { 1 ≤ config.now.lease_ms }
-    requires short_lease { config.now.lease_ms ≤ MAX_DURATION }
+    requires short_lease { config.now.lease_ms ≤ MAX_DURATION_MS }
     requires some_ack { 1 ≤ config.now.ack_ms }
-    requires short_ack { config.now.ack_ms ≤ MAX_DURATION }
+    requires short_ack { config.now.ack_ms ≤ MAX_DURATION_MS }
     ensures ok { IfOk result (λ space. space ≡ record { configuration = config.now; events = sample_events config.now }) }
     ensures err { IfErr result (λ refused. refused ≡ OutOfMemory) }
 {
@@ -52,8 +52,8 @@ fn furnish(alloc: Global, space: &mut Space, config: &SpaceConfig) -> Result<(),
 
 /// Opens an object of a kind, which is kept for good. It is refused only for want of memory, where no limit is met.
 fn open(space: &mut Space, kind: u32) -> Result<(), Refused>
-    requires free { refusal limits space.old.configuration (places space.old.configuration space.old.events) (opened kind) ≡ None }
-    ensures ok { OnOk result (space.new ≡ record space.old { events = space.old.events ++ opened kind ∷ [] }) }
+    requires free { refusal limits space.old.configuration (places space.old.configuration space.old.events) (open_event kind) ≡ None }
+    ensures ok { OnOk result (space.new ≡ record space.old { events = space.old.events ++ open_event kind ∷ [] }) }
     ensures err { IfErr result (λ refused. refused ≡ OutOfMemory) }
 {
     let ask = Ask::Open { kind, pinned: true };
@@ -78,7 +78,7 @@ fn name_of(alloc: Global, name: &[u8]) -> Result<Name, AllocError>
 /// What binds a name to the object of the space with this number.
 fn binding(alloc: Global, config: &SpaceConfig, name: &[u8], number: i64) -> Result<Ask, AllocError>
     requires { length name.now ≤ MAX_NAME_UNITS }
-    ensures { IfOk result (λ ask. ask ≡ (bound config.now name.now number).ask) }
+    ensures { IfOk result (λ ask. ask ≡ (bind_event config.now name.now number).ask) }
 {
     Ok(Ask::Bind {
         name: name_of(alloc, name)?,
@@ -98,8 +98,8 @@ fn bind(
     number: i64,
 ) -> Result<(), Refused>
     requires short { length name.now ≤ MAX_NAME_UNITS }
-    requires free { refusal limits space.old.configuration (places space.old.configuration space.old.events) (bound config.now name.now number) ≡ None }
-    ensures ok { OnOk result (space.new ≡ record space.old { events = space.old.events ++ bound config.now name.now number ∷ [] }) }
+    requires free { refusal limits space.old.configuration (places space.old.configuration space.old.events) (bind_event config.now name.now number) ≡ None }
+    ensures ok { OnOk result (space.new ≡ record space.old { events = space.old.events ++ bind_event config.now name.now number ∷ [] }) }
     ensures err { IfErr result (λ refused. refused ≡ OutOfMemory) }
 {
     let ask = binding(alloc, config, name, number)?;

@@ -55,7 +55,7 @@ fn add_of(arguments: &Arguments) -> Option<SampleCall>
     ensures { result ≡ add_of arguments.now }
 {
     match arguments.values.as_slice() {
-        [Arg::Prim(Value::J(number))] => Some(SampleCall::Add(*number)),
+        [Arg::Prim(Value::Long(number))] => Some(SampleCall::Add(*number)),
         _ => None,
     }
 }

@@ -48,7 +48,7 @@ impl SampleWorker {
         match sample_call(&call) {
             Some(SampleCall::Echo) => Outcome::Tree(graph_of(call)),
             Some(SampleCall::Add(number)) => self.add(call.object, number),
-            Some(SampleCall::Get) => Outcome::Prim(Value::J(self.counters.count(&call.object))),
+            Some(SampleCall::Get) => Outcome::Prim(Value::Long(self.counters.count(&call.object))),
             Some(SampleCall::Make) => Outcome::NewRemote(COUNTER_KIND),
             None => Outcome::Void,
         }
@@ -65,7 +65,7 @@ impl SampleWorker {
             return overflow(self.alloc);
         };
         match self.counters.put(object, sum) {
-            Ok(()) => Outcome::Prim(Value::J(sum)),
+            Ok(()) => Outcome::Prim(Value::Long(sum)),
             Err(_refused) => Outcome::OutOfMemory,
         }
     }

@@ -6,7 +6,7 @@ use Rattle.class_desc.specs.declared.slot.Item.TheVariants as items
 use Rattle.ser_values.specs.declared.node.Node.{Node}
 use Rattle.ser_values.specs.declared.node.SlotPlace.TheVariants as places
 use Rattle.ser_values.specs.Node.{Want, inside}
-use Rattle.ser_values.specs.Spelled.{Token, raw, truth, want, note, One, SpellsBlocks, SpellsToken, SpellsAll, Spelling, Spell, a_null, again, fresh, never, Spells}
+use Rattle.stream_grammar.specs.Spelled.{Token, raw, truth, want, note, One, SpellsBlocks, SpellsToken, SpellsAll, Spelling, Spell, a_null, again, fresh, never, Spells}
 
 -- The bytes are a front and the rest, and the same is said of that front with whatever else stands behind it.
 pub record Behind (P : List ℕ → List ℕ → Type 0) (bs rest : List ℕ) : Type 0 where

@@ -4,8 +4,8 @@ use Rattle.class_desc.specs.declared.slot.Slot.{Slot}
 use Rattle.class_desc.specs.declared.slot.Item.{Item}
 use Rattle.class_desc.specs.declared.slot.Item.TheVariants as items
 use Rattle.wire_io.specs.Pulled.{PullState, Takes}
-use Rattle.ser_values.specs.Reading.{◌>>=◌, Fault, short, Progress, Plain, Step, take_at, size_at, byte_at, blocks_at, items_at}
-use Rattle.ser_values.specs.Spelled.{joined}
+use Rattle.stream_grammar.specs.Reading.{◌>>=◌, Fault, short, Progress, Plain, Step, take_at, size_at, byte_at, blocks_at, items_at}
+use Rattle.stream_grammar.specs.Spelled.{joined}
 use Rattle.std.proofs.lemmas.List.{append-nil}
 use Rattle.std.specs.Int.{w32}
 use Rattle.wire_io.proofs.Pulling.{takes_nothing, takes_more}

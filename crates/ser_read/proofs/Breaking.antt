@@ -7,13 +7,13 @@ use Rattle.wire_io.specs.declared.pull.Pull.{Pull}
 use Rattle.wire_io.specs.declared.pull.PullEnd.{PullEnd}
 use Rattle.wire_io.specs.declared.pull.PullEnd.TheVariants as ends
 use Rattle.wire_io.proofs.Pulling.{takes_nothing, takes_more, takes_stop}
-use Rattle.ser_values.specs.Reading.{◌>>=◌, Fault, short, bad, too_many, too_deep, byte_at, take_at}
+use Rattle.stream_grammar.specs.Reading.{◌>>=◌, Fault, short, bad, too_many, too_deep, byte_at, take_at}
 use Rattle.ser_read.specs.declared.fault.StreamKind.{StreamKind}
 use Rattle.ser_read.specs.declared.fault.StreamFault.{StreamFault}
 use Rattle.ser_read.specs.declared.fault.StreamFault.TheVariants as faults
 use Rattle.ser_read.specs.declared.fault.Large.TheVariants as larges
 use Rattle.ser_read.specs.Here.{Env, IsBad, IsInBytes, kind_of, fault_of, FailsBy, Fails, GivesBy, Caused, env_at, coming_at, env, coming, IsTold, Reads, Decides, FallsShort, TakesNeeded, BreaksBy, Breaks}
-use Rattle.ser_read.specs.Wants.{WantFault, inside, ◌▸◌, lifted, fault_at, WantIsBad, WantFails, GivesWant, WantBreaks}
+use Rattle.ser_read.specs.Wants.{WantFault, inside, ◌▸◌, lift_fault, fault_at, WantIsBad, WantFails, WantGivesTold, WantBreaks}
 use Rattle.ser_read.proofs.Wants.{inside_is}
 use Rattle.ser_read.proofs.Steps.{Goes, Leads, goes, no_next, least_two, bytes_more, leads_read, end_is, reads_gives}
 use Rattle.ser_read.proofs.Pulling.{takes_told, takes_env, byte_ends, byte_passes}
@@ -212,7 +212,7 @@ breaks_said_last p q (Err e) same h = breaks_said same h
 pub want_first : {A Y : Type 0} {p q : PullState} {e : StreamFault} {one : ℕ → List ℕ → Result A WantFault} (k : ℕ → A → Result Y WantFault) → WantBreaks p q e one → WantBreaks p q e (λ end bs. one end bs ▸ k end)
 want_first k h = want_breaks_as (λ end bs f here is. rw is refl) h
 
-pub inside_first : {A Y : Type 0} {p q : PullState} {e : StreamFault} {one : ℕ → List ℕ → Result A Fault} (k : ℕ → A → Result Y WantFault) → Breaks p q e one → WantBreaks p q e (λ end bs. lifted (one end bs) ▸ k end)
+pub inside_first : {A Y : Type 0} {p q : PullState} {e : StreamFault} {one : ℕ → List ℕ → Result A Fault} (k : ℕ → A → Result Y WantFault) → Breaks p q e one → WantBreaks p q e (λ end bs. lift_fault (one end bs) ▸ k end)
 inside_first k h = lifted_breaks (λ end bs f here is. rw is refl) h
 
 pub want_later : {A Y : Type 0} {p q r : PullState} {e : StreamFault} {one : ℕ → List ℕ → Result A WantFault} {mid : List ℕ → A} (k : ℕ → A → Result Y WantFault)
@@ -220,7 +220,7 @@ pub want_later : {A Y : Type 0} {p q r : PullState} {e : StreamFault} {one : ℕ
 want_later {A} {Y} {p} {q} {r} {e} {one} {mid} k a b = want_breaks_two (leads_read (λ end bs. k end (mid bs)) a (λ end bs rest here is. rw is refl) (λ end bs here is. rw is refl)) b
 
 pub inside_later : {A Y : Type 0} {p q r : PullState} {e : StreamFault} {one : ℕ → List ℕ → Result A Fault} {mid : List ℕ → A} (k : ℕ → A → Result Y WantFault)
-    → Reads short p q one mid → WantBreaks q r e (λ end bs. k end (mid bs)) → WantBreaks p r e (λ end bs. lifted (one end bs) ▸ k end)
+    → Reads short p q one mid → WantBreaks q r e (λ end bs. k end (mid bs)) → WantBreaks p r e (λ end bs. lift_fault (one end bs) ▸ k end)
 inside_later {A} {Y} {p} {q} {r} {e} {one} {mid} k a b = want_breaks_two (leads_read (λ end bs. k end (mid bs)) a (λ end bs rest here is. rw is refl) (λ end bs here is. rw is refl)) b
 
 pub want_said : {Y : Type 0} {p q : PullState} {e : StreamFault} {a b : ℕ → List ℕ → Result Y WantFault} → ((end : ℕ) (bs : List ℕ) → end ≡ p.at + length bs → b end bs ≡ a end bs) → WantBreaks p q e a → WantBreaks p q e b
@@ -325,7 +325,7 @@ want_caused_of p q read (Ok x) out a b = a.takes.faults
 want_caused_of {X} p q read (Err e) out a b = want_breaks_caused X b
 
 pub want_gives_of : {S X Y : Type 0} (left : S → Option (List ℕ)) (faults : S → ℕ) (p q : Pull S) (result : Result X StreamFault) (read : ℕ → List ℕ → Result Y WantFault) (out : X → List ℕ → Y) → q.at ≤ q.stop
-    → IfOk result (λ x. Reads (inside short) (pull_state left faults p) (pull_state left faults q) read (out x)) → IfErr result (λ e. WantBreaks (pull_state left faults p) (pull_state left faults q) e read) → GivesWant left p q result read out
+    → IfOk result (λ x. Reads (inside short) (pull_state left faults p) (pull_state left faults q) read (out x)) → IfErr result (λ e. WantBreaks (pull_state left faults p) (pull_state left faults q) e read) → WantGivesTold left p q result read out
 want_gives_of left faults p q (Ok x) read out le a b = λ told. reads_gives left faults p q a le told
 want_gives_of left faults p q (Err e) read out le a b = λ told. want_breaks_fails left faults p q e b le told
 
@@ -361,7 +361,7 @@ inside_loop_stops l errs h = want_breaks_two l (lifted_breaks errs h)
 
 -- a call's last step inside a want
 pub want_last_stops : {X A Y : Type 0} {p q : PullState} (r : PullState) {one : ℕ → List ℕ → Result A Fault} {mid : List ℕ → A} (k : ℕ → A → Result Y WantFault) (inner : ℕ → List ℕ → Result Y Fault) (result : Result X StreamFault)
-    → Reads short p q one mid → ((end : ℕ) (bs : List ℕ) → k end (mid bs) ≡ lifted (inner end bs)) → IfErr result (λ e. Breaks q r e inner) → IfErr result (λ e. WantBreaks p r e (λ end bs. lifted (one end bs) ▸ k end))
+    → Reads short p q one mid → ((end : ℕ) (bs : List ℕ) → k end (mid bs) ≡ lift_fault (inner end bs)) → IfErr result (λ e. Breaks q r e inner) → IfErr result (λ e. WantBreaks p r e (λ end bs. lift_fault (one end bs) ▸ k end))
 want_last_stops r k inner (Ok x) a same b = tt
 want_last_stops r k inner (Err e) a same b = inside_later k a (lifted_breaks (λ end bs f here is. same end bs ∙ rw is refl) b)
 

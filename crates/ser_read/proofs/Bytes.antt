@@ -1,7 +1,6 @@
 -- Bytes, and those that are left.
 use Rattle.std.proofs.Common.{◌≡◌, ◌-◌, ◌++◌, inl, inr, sym, ◌∙◌, append_assoc, length-append, ℕ, [], ◌∷◌, ◌+◌, ◌<◌, ◌≤◌, ap, List, length, take, drop, true, false, nat_lt, Result, Ok, Err, refl, arith}
-use Rattle.std.proofs.lemmas.Bool.{lt-ltb, le-ltb}
-use Rattle.std.proofs.lemmas.Bool.{cases_lt}
+use Rattle.std.proofs.lemmas.Bool.{lt-ltb, le-ltb, cases_lt}
 use Rattle.std.proofs.lemmas.List.{length-take, take-append-drop, append-nil}
 use Rattle.std.proofs.lemmas.List as lists
 use Rattle.std.proofs.Math.Seq.{take-append-add, drop-append-add, drop-append_seam}
@@ -10,7 +9,7 @@ use Rattle.ser_read.specs.declared.fault.Large.TheVariants as larges
 use Rattle.ser_read.specs.declared.fault.StreamFault.{StreamFault}
 use Rattle.ser_read.specs.Here.{Fails}
 use Rattle.std.specs.Int.{w16, from_be_bytes}
-use Rattle.ser_values.specs.Reading.{◌>>=◌, Fault, byte_at, take_at, number_at, short}
+use Rattle.stream_grammar.specs.Reading.{◌>>=◌, Fault, byte_at, take_at, number_at, short}
 
 pub takes_all : (n : ℕ) (bs : List ℕ) → n ≤ length bs → take_at n bs ≡ Ok (take n bs, drop n bs)
 takes_all n bs le = let k : nat_lt (length bs) n ≡ false = le-ltb _ _ le in rw k refl

@@ -2,8 +2,8 @@
 use Rattle.std.proofs.Common.{◌≡◌, ◌≢◌, ◌⊎◌, ℕ, zero, suc, ◌-◌, ◌^◌, ◌<◌, true, eqb, List, [], ◌∷◌, ◌++◌, length, Ok, refl, ap, subst, ◌∙◌, inl, inr}
 use Rattle.std.proofs.lemmas.Bool.{eqb-true, eqb-false}
 use Rattle.std.specs.Int.{w32, to_be_bytes}
-use Rattle.ser_values.specs.Reading.{byte_at, size_at}
-use Rattle.ser_values.proofs.PlainSound.{AreBytes, bind_ok, chosen, ok_is, byte_sound, size_sound, number_sound_32}
+use Rattle.stream_grammar.specs.Reading.{byte_at, size_at}
+use Rattle.stream_grammar.proofs.PlainSound.{AreBytes, bind_ok, chosen, ok_is, byte_sound, size_sound, number_sound_32}
 use Rattle.ser_read.specs.declared.block.Head.{Head}
 use Rattle.ser_read.specs.declared.block.Head.TheVariants.{Block, Code}
 use Rattle.ser_read.specs.Heads.{one_head, any_head, is_empty, head_within}

@@ -3,7 +3,8 @@ use Rattle.std.proofs.Common.{◌≡◌, ℕ, List, [], ◌∷◌, ◌++◌, ref
 use Rattle.class_desc.specs.declared.slot.Slot.{Slot}
 use Rattle.class_desc.specs.declared.slot.Item.{Item}
 use Rattle.class_desc.specs.declared.slot.Item.TheVariants as items
-use Rattle.ser_values.specs.Spelled.{put_block, joined}
+use Rattle.stream_grammar.specs.Spelled.{joined}
+use Rattle.ser_values.specs.Fronts.{put_block}
 
 pub data Piece : Type 0 where
   a_byte : ℕ → Piece

@@ -4,7 +4,7 @@ use Rattle.std.proofs.lemmas.Bool.{cases_lt}
 use Rattle.std.specs.Int.{w16, w64, from_be_bytes}
 use Rattle.class_desc.specs.declared.slot.Slot.TheVariants as slots
 use Rattle.ser_values.specs.declared.node.Node.TheVariants as nodes
-use Rattle.ser_values.specs.Reading.{◌>>=◌, Fault, short, bad, negative_length, Plain, Progress, Slots, push, fill, blank, byte_at, take_at, number_at, size_at, short_at, desc_at, desc_after}
+use Rattle.stream_grammar.specs.Reading.{◌>>=◌, Fault, short, bad, negative_length, Plain, Progress, Slots, push, fill, blank, byte_at, take_at, number_at, size_at, short_at, desc_at, desc_after}
 use Rattle.ser_read.specs.declared.front.DescFront.{DescFront}
 use Rattle.ser_read.specs.Fronts.{front_at, desc_behind}
 use Rattle.ser_read.proofs.Bytes.{takes_all, takes_short}

@@ -9,28 +9,28 @@ use Rattle.ser_values.specs.declared.node.Node.{Node}
 use Rattle.ser_values.specs.declared.node.SlotPlace.TheVariants as places
 use Rattle.ser_values.specs.Node.{has}
 use Rattle.ser_values.specs.Shape.{parts_in}
-use Rattle.ser_values.specs.Spelled.{joined, One, IsBlock, Spells, SpellsBlocks, IsStream}
-use Rattle.ser_values.specs.Reading.{Fault, Progress, slot_at, coded}
-use Rattle.ser_values.proofs.Mirror.{Ready, After, after_none, after_two}
-use Rattle.ser_values.proofs.Plains.{size_back, number_back_32}
-use Rattle.ser_values.proofs.SameTokens.{spells_begin}
-use Rattle.ser_values.proofs.OneReading.{same_list}
-use Rattle.ser_values.proofs.Shrinks.{stream_few}
-use Rattle.ser_values.proofs.Complete.{Given, slots_complete}
+use Rattle.stream_grammar.specs.Spelled.{joined, One, IsBlock, Spells, SpellsBlocks, IsStream}
+use Rattle.stream_grammar.specs.Reading.{Fault, Progress, slot_at, coded}
+use Rattle.stream_grammar.proofs.Mirror.{Ready, After, after_none, after_two}
+use Rattle.stream_grammar.proofs.Plains.{size_back, number_back_32}
+use Rattle.stream_grammar.proofs.SameTokens.{spells_begin}
+use Rattle.stream_grammar.proofs.OneReading.{same_list}
+use Rattle.stream_grammar.proofs.Shrinks.{stream_few}
+use Rattle.stream_grammar.proofs.Complete.{Given, slots_complete}
 use Rattle.ser_read.specs.declared.block.Head.{Head}
 use Rattle.ser_read.specs.declared.block.Head.TheVariants.{Block, Code}
 use Rattle.ser_read.specs.Heads.{one_head, any_head, head_at}
 use Rattle.ser_read.specs.Named.{add_bytes}
 use Rattle.ser_read.specs.declared.serving.Want.{Want}
 use Rattle.ser_read.specs.declared.serving.Want.TheVariants as wanted
-use Rattle.ser_read.specs.Wants.{◌▸◌, lifted, Stand, nothing_read, opened_at, run_at, only_slot, reference_at, bytes_at, slot_next, close_at, want_at, serve, serve_to_close}
-use Rattle.ser_read.specs.Asked.{Fits, EndsFull, IsAsked}
+use Rattle.ser_read.specs.Wants.{◌▸◌, lift_fault, Stand, nothing_read, opened_at, run_at, only_slot, reference_at, bytes_at, slot_next, close_at, want_at, serve, serve_to_close}
+use Rattle.ser_read.specs.SpelledWants.{Fits, EndsFull, SpellsWants}
 use Rattle.ser_read.proofs.Heads.{head_goes, head_stops}
 use Rattle.ser_read.proofs.Slots.{slot_is}
 use Rattle.ser_read.proofs.Empties.{Header}
 use Rattle.ser_read.proofs.Runs.{Run}
 use Rattle.ser_read.proofs.Flat.{Piece, a_byte, a_slot, bytes_of, flat, flat_by}
-use Rattle.ser_read.proofs.Asked.{serve_items}
+use Rattle.ser_read.proofs.SpelledWants.{serve_items}
 use Rattle.ser_read.proofs.Behind.{blocks_front, spells_front}
 
 -- ---- heads
@@ -141,15 +141,15 @@ reference_back F given end now s rest m tail [] bs h full e ready = absurd cc
 reference_back F given end now s rest m tail (items.Bytes (b ∷ p) ∷ is) bs h full e ready = absurd cc
 reference_back F given end now s rest m tail (items.Bytes [] ∷ is) bs h full e ready =
     let r = reference_back F given end now s rest m tail is h.1 h.4 (full_rest (items.Bytes []) is full) e ready in
-    record { later = r.later; mid = r.mid; blocks = r.blocks; full = r.full; same = r.same; spelled = r.spelled; is = ap (λ (x : Result (Head × List ℕ) Fault). lifted x ▸ only_slot end now) (empty_head end bs h.1 (header_of [] h.0 bs h.1 h.2 h.3)) ∙ r.is; after = r.after }
+    record { later = r.later; mid = r.mid; blocks = r.blocks; full = r.full; same = r.same; spelled = r.spelled; is = ap (λ (x : Result (Head × List ℕ) Fault). lift_fault x ▸ only_slot end now) (empty_head end bs h.1 (header_of [] h.0 bs h.1 h.2 h.3)) ∙ r.is; after = r.after }
 reference_back F given end now s rest m tail (items.Ref t ∷ is) bs h full e ready =
     let same = slot_first t s (flat is) tail e in
     let b = spells_begin F 200 [] (places.Reference, t) (length now.nodes) bs h.0 h.1 h.2 in
     let r = (slots_complete F given end 200 [] places.Reference t now bs h.0 h.1 h.2 ready).reads in
     let code_at : slot_at end 200 places.Reference [] now (b.code ∷ b.after) ≡ coded end 200 (slot_at end 199) places.Reference [] (end - length (b.code ∷ b.after)) b.code now b.after = slot_is end 200 places.Reference [] now (b.code ∷ b.after) in
     let read : slot_at end 200 places.Reference [] now (b.code ∷ b.after) ≡ Ok (t, r.later, h.0) = ap (slot_at end 200 places.Reference [] now) (sym b.is) ∙ r.is in
-    let whole : (lifted (head_at end (b.code ∷ b.after)) ▸ only_slot end now) ≡ Ok (t, r.later, h.0) =
-    ap (λ (x : Result (Head × List ℕ) Fault). lifted x ▸ only_slot end now) (code_head end b.code b.after b.not_block b.not_long_block) ∙ ap (λ (x : Result (Slot × Progress × List ℕ) Fault). lifted x) (sym code_at ∙ read) in
+    let whole : (lift_fault (head_at end (b.code ∷ b.after)) ▸ only_slot end now) ≡ Ok (t, r.later, h.0) =
+    ap (λ (x : Result (Head × List ℕ) Fault). lift_fault x ▸ only_slot end now) (code_head end b.code b.after b.not_block b.not_long_block) ∙ ap (λ (x : Result (Slot × Progress × List ℕ) Fault). lift_fault x) (sym code_at ∙ read) in
     record {
       later = r.later;
       mid = h.0;
@@ -157,7 +157,7 @@ reference_back F given end now s rest m tail (items.Ref t ∷ is) bs h full e re
       full = full_rest (items.Ref t) is full;
       same = same.1;
       spelled = subst (λ j. SpellsBlocks (Spells F 200 []) is j h.0 rest m) (sym r.len) h.3;
-      is = ap (λ (l : List ℕ). lifted (head_at end l) ▸ only_slot end now) b.is ∙ whole ∙ ap (λ (s : Slot). Ok (s, r.later, h.0)) same.0;
+      is = ap (λ (l : List ℕ). lift_fault (head_at end l) ▸ only_slot end now) b.is ∙ whole ∙ ap (λ (s : Slot). Ok (s, r.later, h.0)) same.0;
       after = r.after;
     }
 
@@ -205,14 +205,14 @@ serve_back F given end rest m (wanted.Slot ∷ ws) (items.Ref t ∷ is) s [] mid
 
 -- ---- the law, in the other direction
 
-pub asked_stream : (ws : List Want) (answers : List Item) (F : List Node) (bs : List ℕ) → IsAsked ws answers F bs → IsStream F (joined answers) (0xAC ∷ 0xED ∷ 0x00 ∷ 0x05 ∷ bs)
+pub asked_stream : (ws : List Want) (answers : List Item) (F : List Node) (bs : List ℕ) → SpellsWants ws answers F bs → IsStream F (joined answers) (0xAC ∷ 0xED ∷ 0x00 ∷ 0x05 ∷ bs)
 asked_stream ws answers F bs h = record { contents = bs; headed = refl; spelled = (h.blocks, h.spelled, h.same); numbers = h.numbers; units = h.units; few_parts = h.few_parts; are_bytes = (omega arith, (omega arith, (omega arith, (omega arith, h.are_bytes)))) }
 
-given_of : (ws : List Want) (answers : List Item) (F : List Node) (bs : List ℕ) → IsAsked ws answers F bs → Given F
+given_of : (ws : List Want) (answers : List Item) (F : List Node) (bs : List ℕ) → SpellsWants ws answers F bs → Given F
 given_of ws answers F bs h = record { few = stream_few F (joined answers) (0xAC ∷ 0xED ∷ 0x00 ∷ 0x05 ∷ bs) (asked_stream ws answers F bs h); parts = h.few_parts; numbers = h.numbers; units = h.units }
 
 -- What is spelled is what the list of wants answers, whatever stands behind it.
-pub asked_complete : (end : ℕ) (ws : List Want) (answers : List Item) (F : List Node) (bs rest : List ℕ) → IsAsked ws answers F bs → serve_to_close end ws nothing_read (bs ++ rest) ≡ Ok (answers, F, joined answers, rest)
+pub asked_complete : (end : ℕ) (ws : List Want) (answers : List Item) (F : List Node) (bs rest : List ℕ) → SpellsWants ws answers F bs → serve_to_close end ws nothing_read (bs ++ rest) ≡ Ok (answers, F, joined answers, rest)
 unfolding serve_to_close close_at has parts_in
 asked_complete end ws answers F bs rest h =
     let given = given_of ws answers F bs h in

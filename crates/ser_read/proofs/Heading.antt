@@ -6,10 +6,10 @@ use Rattle.std.specs.Int.{w32, to_be_bytes}
 use Rattle.class_desc.specs.declared.slot.Item.{Item}
 use Rattle.class_desc.specs.declared.slot.Item.TheVariants as items
 use Rattle.ser_values.specs.declared.node.Node.{Node}
-use Rattle.ser_values.specs.Spelled.{joined}
+use Rattle.stream_grammar.specs.Spelled.{joined}
 use Rattle.wire_io.specs.Pulled.{PullState}
-use Rattle.ser_values.specs.Reading.{short, byte_at}
-use Rattle.ser_values.proofs.PlainSound.{AreBytes}
+use Rattle.stream_grammar.specs.Reading.{short, byte_at}
+use Rattle.stream_grammar.proofs.PlainSound.{AreBytes, byte_sound}
 use Rattle.ser_read.specs.declared.block.Head.{Head}
 use Rattle.ser_read.specs.declared.block.Head.TheVariants.{Block, Code}
 use Rattle.ser_read.specs.Heads.{head_at}
@@ -17,16 +17,15 @@ use Rattle.ser_read.specs.Here.{Reads}
 use Rattle.ser_read.specs.Named.{add_bytes}
 use Rattle.ser_read.specs.declared.serving.Want.{Want}
 use Rattle.ser_read.specs.declared.serving.Want.TheVariants as wanted
-use Rattle.ser_read.specs.Wants.{WantFault, inside, ◌▸◌, lifted, Stand, nothing_read, only_block, opened_at, run_at, bytes_at, close_at, want_at, serve, serve_to_close}
-use Rattle.ser_read.specs.Asked.{IsAsked}
+use Rattle.ser_read.specs.Wants.{WantFault, inside, ◌▸◌, lift_fault, Stand, nothing_read, only_block, opened_at, run_at, bytes_at, close_at, want_at, serve, serve_to_close}
+use Rattle.ser_read.specs.SpelledWants.{SpellsWants}
 use Rattle.ser_read.specs.Heading.{IsBlockHeader, AreBlocks, EndsInBlock, inside_block}
-use Rattle.ser_read.specs.Laws.{HeadEndsInBlock, HeadGoesOn, AskedIsHeaded}
+use Rattle.ser_read.specs.WantLaws.{HeadEndsInBlock, HeadGoesOn, SpelledIsHeaded}
 use Rattle.ser_read.proofs.Steps.{bytes_more}
-use Rattle.ser_read.proofs.Heads.{byte_is}
 use Rattle.ser_read.proofs.Empties.{Header, Empties, found}
 use Rattle.ser_read.proofs.Runs.{Run, behind, behind_none, behind_two, opened_here, opened_some, run_piece}
 use Rattle.ser_read.proofs.Served.{want_ok, lifted_ok, given_is, are}
-use Rattle.ser_read.proofs.Asked.{RunOk, ServeOk, AllOk, more_of, block_is, run_length, bytes_front, asked_sound}
+use Rattle.ser_read.proofs.SpelledWants.{RunOk, ServeOk, AllOk, more_of, block_is, run_length, bytes_front, asked_sound}
 use Rattle.ser_read.proofs.Given.{cons, header_of, run_skips, run_begins, asked_complete}
 use Rattle.ser_read.proofs.InOrder.{Serving}
 use Rattle.ser_read.proofs.WantLaws.{served}
@@ -52,7 +51,7 @@ run_step end n k bs y e bytes =
     let r = want_ok (run_at end n (o.0.0 - 1) c.0.1) (λ r. Ok (c.0.0 ∷ r.0, r.1, r.2)) y c.2 in
     go k o.0 o.1 c.0 c.1 r.0 r.1 (given_is (c.0.0 ∷ r.0.0, r.0.1, r.0.2) y r.2)
   where
-    found_block : (o : ℕ × List ℕ) → (lifted (head_at end bs) ▸ only_block) ≡ Ok o → head_at end bs ≡ Ok (Block o.0, o.1)
+    found_block : (o : ℕ × List ℕ) → (lift_fault (head_at end bs) ▸ only_block) ≡ Ok o → head_at end bs ≡ Ok (Block o.0, o.1)
     found_block o h =
         let a = lifted_ok (head_at end bs) only_block o h in
         by a.0 a.1 a.2
@@ -64,13 +63,13 @@ run_step end n k bs y e bytes =
     go : (k : ℕ) (o : ℕ × List ℕ) → opened_at end k bs ≡ Ok o → (c : ℕ × List ℕ) → byte_at o.1 ≡ Ok c → (r : RunOk) → run_at end n (o.0 - 1) c.1 ≡ Ok r → (c.0 ∷ r.0, r.1, r.2) ≡ y → Step end n k bs y
     go (suc j) o is c read r run same =
         let s : (suc j, bs) ≡ o = given_is (suc j, bs) o (sym (opened_here end (suc j) bs (omega arith)) ∙ is) in
-        let begins : bs ≡ c.0 ∷ c.1 = ap (λ (x : ℕ × List ℕ). x.1) s ∙ byte_is o.1 c read in
+        let begins : bs ≡ c.0 ∷ c.1 = ap (λ (x : ℕ × List ℕ). x.1) s ∙ byte_sound o.1 c read in
         let less : o.0 - 1 ≡ j = let t : suc j ≡ o.0 = ap (λ (x : ℕ × List ℕ). x.0) s in omega arith in
         record { byte = c.0; block = j; others = c.1; later = r; from = inl (refl, begins); run = subst (λ i. run_at end n i c.1 ≡ Ok r) less run; is = same; bytes = (subst AreBytes begins bytes).1 }
     go zero o is c read r run same =
         let f = found end (suc (length bs)) bs (Block o.0, o.1) (found_block o is) bytes in
         let some : 0 < o.0 = opened_some end 0 bs o.0 o.1 is in
-        let begins : o.1 ≡ c.0 ∷ c.1 = byte_is o.1 c read in
+        let begins : o.1 ≡ c.0 ∷ c.1 = byte_sound o.1 c read in
         let more : o.0 ≡ suc (o.0 - 1) = omega arith in
         let head : Header (suc (o.0 - 1)) f.mid (c.0 ∷ c.1) = subst (λ j. Header j f.mid (c.0 ∷ c.1)) more (subst (λ (l : List ℕ). Header o.0 f.mid l) begins f.is) in
         record { byte = c.0; block = o.0 - 1; others = c.1; later = r; from = inr (refl, f.count, f.mid, f.empties, head); run = run; is = same; bytes = (subst AreBytes begins f.left).1 }
@@ -259,7 +258,7 @@ last_runs end (c ∷ q) header rest left h lt =
     run_begins end (length q) (length q + left) c (header ++ (c ∷ (q ++ rest))) (q ++ rest) head
     ∙ ap (λ n. cons c (run_at end n (length q + left) (q ++ rest))) all ∙ ap (cons c) (run_piece end q rest 0 left) ∙ ap (λ (l : List ℕ). run_ok (c ∷ l, left, rest)) (append-nil q)
 
-head_runs : (end n : ℕ) (head bytes : List ℕ) (left : ℕ) (rest : List ℕ) → EndsInBlock n head bytes left → run_at end n 0 (head ++ rest) ≡ Ok (bytes, left, rest)
+pub head_runs : (end n : ℕ) (head bytes : List ℕ) (left : ℕ) (rest : List ℕ) → EndsInBlock n head bytes left → run_at end n 0 (head ++ rest) ≡ Ok (bytes, left, rest)
 head_runs end n head bytes left rest h =
     let m = length h.front - 1 in
     let front : suc m ≡ length h.front = omega (arith, h.some) in
@@ -271,12 +270,12 @@ head_runs end n head bytes left rest h =
     ∙ ap (behind (concat h.payloads)) (ap (λ k. run_at end k 0 (h.header ++ (h.front ++ rest))) front ∙ last_runs end h.front h.header rest left h.head h.some)
     ∙ ap (λ (l : List ℕ). run_ok (l, left, rest)) (sym h.bytes_are)
 
-added_some : (p : List ℕ) → 0 < length p → add_bytes [] p ≡ items.Bytes p ∷ []
+pub added_some : (p : List ℕ) → 0 < length p → add_bytes [] p ≡ items.Bytes p ∷ []
 unfolding add_bytes
 added_some [] lt = absurd (omega arith)
 added_some (b ∷ p) lt = refl
 
-some_wanted : (n : ℕ) (head bytes : List ℕ) (left : ℕ) → EndsInBlock n head bytes left → 0 < length bytes
+pub some_wanted : (n : ℕ) (head bytes : List ℕ) (left : ℕ) → EndsInBlock n head bytes left → 0 < length bytes
 some_wanted n head bytes left h = omega (arith, h.some, ap (λ (l : List ℕ). length l) h.bytes_are, length-append (concat h.payloads) h.front)
 
 -- The bytes in front were taken, and the other wants are served.
@@ -378,11 +377,11 @@ head_goes_on end n head bytes left ws answers nodes contents more h all e =
     let read : serve_to_close end (wanted.Bytes n ∷ ws) nothing_read (head ++ more) ≡ Ok y = head_closes end n head bytes left more ws h ∙ ap (closed_with (items.Bytes bytes)) e in
     let s = asked_sound end (wanted.Bytes n ∷ ws) (head ++ more) y read (are (head ++ more) (bytes_more head more h.are_bytes all)) in
     let whole : s.front ≡ head ++ more = sym (s.is ∙ append-nil s.front) in
-    (subst (λ (l : List ℕ). IsAsked (wanted.Bytes n ∷ ws) (items.Bytes bytes ∷ answers) nodes l) whole s.asked, s.contents)
+    (subst (λ (l : List ℕ). SpellsWants (wanted.Bytes n ∷ ws) (items.Bytes bytes ∷ answers) nodes l) whole s.asked, s.contents)
 
 -- the same, from what calls took
 pub goes_on_taken : {p q : PullState} (n : ℕ) (head bytes : List ℕ) (left : ℕ) (ws : List Want) (answers : List Item) (nodes : List Node) (contents : List Item) → EndsInBlock n head bytes left
-    → (r : Reads (inside short) p q (λ end. serve_to_close end ws (inside_block bytes left)) (λ rest. (answers, nodes, contents, rest))) → IsAsked (wanted.Bytes n ∷ ws) (items.Bytes bytes ∷ answers) nodes (head ++ r.taken) × (contents ≡ joined (items.Bytes bytes ∷ answers))
+    → (r : Reads (inside short) p q (λ end. serve_to_close end ws (inside_block bytes left)) (λ rest. (answers, nodes, contents, rest))) → SpellsWants (wanted.Bytes n ∷ ws) (items.Bytes bytes ∷ answers) nodes (head ++ r.taken) × (contents ≡ joined (items.Bytes bytes ∷ answers))
 goes_on_taken {p} {q} n head bytes left ws answers nodes contents h r =
     head_goes_on (q.at + 0) n head bytes left ws answers nodes contents r.taken h r.bytes (ap (λ (l : List ℕ). serve_to_close (q.at + 0) ws (inside_block bytes left) l) (sym (append-nil r.taken)) ∙ r.is [])
 
@@ -413,9 +412,9 @@ head_taken {p} {q} n bytes later lt r =
 abbrev all_ok : AllOk → Closing
 all_ok t = Ok t
 
-pub asked_is_headed : AskedIsHeaded
+pub spelled_is_headed : SpelledIsHeaded
 unfolding serve_to_close
-asked_is_headed end n whole bytes ws answers nodes lt h =
+spelled_is_headed end n whole bytes ws answers nodes lt h =
     let y : AllOk = (items.Bytes bytes ∷ answers, nodes, joined (items.Bytes bytes ∷ answers), []) in
     let all : serve_to_close end (wanted.Bytes n ∷ ws) nothing_read whole ≡ Ok y = ap (λ (l : List ℕ). serve_to_close end (wanted.Bytes n ∷ ws) nothing_read l) (sym (append-nil whole)) ∙ asked_complete end (wanted.Bytes n ∷ ws) (items.Bytes bytes ∷ answers) nodes whole [] h in
     let a = want_ok (serve end (wanted.Bytes n ∷ ws) nothing_read whole) (λ x. close_at (end - length x.2) x.1 ▸ λ g. Ok (x.0, g.0, g.1, x.2)) y all in

@@ -3,8 +3,8 @@ use Rattle.std.proofs.Common.{◌≡◌, ℕ, zero, suc, ◌+◌, ◌-◌, ◌^�
 use Rattle.std.proofs.lemmas.Bool.{cases_lt}
 use Rattle.std.proofs.Math.Path.{fun_ext}
 use Rattle.std.specs.Int.{Width, w32, byte_len}
-use Rattle.ser_values.specs.Reading.{short, ◌>>=◌, Fault, Plain, bad, bad_magic, byte_at, take_at, number_at, size_at, magic_at}
-use Rattle.ser_values.proofs.PlainSound.{bind_ok, chosen, passed, ok_is}
+use Rattle.stream_grammar.specs.Reading.{short, ◌>>=◌, Fault, Plain, bad, bad_magic, byte_at, take_at, number_at, size_at, magic_at}
+use Rattle.stream_grammar.proofs.PlainSound.{bind_ok, chosen, passed, ok_is, byte_sound}
 use Rattle.ser_read.specs.declared.block.Head.{Head}
 use Rattle.wire_io.specs.Pulled.{PullState}
 use Rattle.ser_read.specs.declared.block.Head.TheVariants.{Block}
@@ -24,12 +24,8 @@ any_here end bs at e = let h : end - length bs ≡ at = omega arith in ap (λ a.
 
 -- ---- what is read is shorter
 
-pub byte_is : (bs : List ℕ) (y : ℕ × List ℕ) → byte_at bs ≡ Ok y → bs ≡ y.0 ∷ y.1
-byte_is [] y e = absurd cc
-byte_is (b ∷ bs) y e = let s : (b, bs) ≡ y = ok_is (b, bs) y e in ap (λ (y : ℕ × List ℕ). y.0 ∷ y.1) s
-
 byte_less : (bs : List ℕ) (y : ℕ × List ℕ) → byte_at bs ≡ Ok y → length y.1 < length bs
-byte_less bs y e = let h : length bs ≡ length (y.0 ∷ y.1) = ap (λ (l : List ℕ). length l) (byte_is bs y e) in omega (arith, h)
+byte_less bs y e = let h : length bs ≡ length (y.0 ∷ y.1) = ap (λ (l : List ℕ). length l) (byte_sound bs y e) in omega (arith, h)
 
 take_less : (n : ℕ) (bs : List ℕ) (y : List ℕ × List ℕ) → take_at n bs ≡ Ok y → length y.1 ≤ length bs
 take_less n bs y e = elim (cases_lt (length bs) n) [

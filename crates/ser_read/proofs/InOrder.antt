@@ -6,10 +6,10 @@ use Rattle.wire_io.specs.Pulled.{PullState, Takes}
 use Rattle.class_desc.specs.declared.slot.Item.{Item}
 use Rattle.ser_values.specs.declared.node.Node.{Node}
 use Rattle.ser_values.specs.declared.graph.Graph.{Graph}
-use Rattle.ser_values.specs.Spelled.{joined}
-use Rattle.ser_values.specs.Reading.{short, bad, bad_magic, byte_at, magic_at}
-use Rattle.ser_values.proofs.PlainSound as plain
-use Rattle.ser_values.proofs.PlainSound.{bind_ok, passed, ok_is}
+use Rattle.stream_grammar.specs.Spelled.{joined}
+use Rattle.stream_grammar.specs.Reading.{short, bad, bad_magic, byte_at, magic_at}
+use Rattle.stream_grammar.proofs.PlainSound as plain
+use Rattle.stream_grammar.proofs.PlainSound.{bind_ok, passed, ok_is, byte_sound}
 use Rattle.ser_read.specs.declared.fault.StreamFault.{StreamFault}
 use Rattle.ser_read.specs.declared.serving.Want.{Want}
 use Rattle.ser_read.specs.declared.fault.StreamFault.TheVariants as faults
@@ -17,12 +17,11 @@ use Rattle.ser_read.specs.declared.fault.StreamKind.TheVariants as kinds
 use Rattle.ser_read.proofs.Breaking.{inside_later, want_later, want_here}
 use Rattle.ser_read.specs.Here.{Reads}
 use Rattle.ser_read.specs.Wants.{WantFault, inside, block_left, WantBreaks, ◌▸◌, Stand, nothing_read, close_at, want_at, serve, serve_to_close, wants_at, WantIsBad, WantGives}
-use Rattle.ser_read.specs.Asked.{IsAsked, TakesAsked, AnswersAsked}
-use Rattle.ser_read.proofs.Heads.{byte_is}
+use Rattle.ser_read.specs.SpelledWants.{SpellsWants, TakesWants, AnswersWants}
 use Rattle.ser_read.proofs.Steps.{fails_outside}
 use Rattle.ser_read.proofs.Wants.{want_then}
 use Rattle.ser_read.proofs.Served.{lifted_ok, given_is, are}
-use Rattle.ser_read.proofs.Asked.{asked_sound}
+use Rattle.ser_read.proofs.SpelledWants.{asked_sound}
 use Rattle.ser_read.proofs.Given.{asked_complete}
 
 abbrev pub Serving : Type 0
@@ -88,16 +87,16 @@ close_stops {p} {q} {r} ws answers s e a b is some =
     rw is (inside_later (λ end. serve_to_close end ws nothing_read) a (want_later _ b (want_here kinds.BlockLeft r.at (λ end bs here.
     let k : end - length bs ≡ r.at = omega (arith, here) in rw open_block (ap (λ n. Err (block_left n)) k)))))
 
-magic_is : (end : ℕ) (ws bs rest : List ℕ) → magic_at end ws bs ≡ Ok rest → bs ≡ ws ++ rest
+pub magic_is : (end : ℕ) (ws bs rest : List ℕ) → magic_at end ws bs ≡ Ok rest → bs ≡ ws ++ rest
 unfolding magic_at
 magic_is end [] bs rest e = ok_is bs rest e
 magic_is end (w ∷ ws) bs rest e =
     let a = bind_ok (byte_at bs) (λ b. cond (eqb b.0 w) (magic_at end ws b.1) (Err (bad bad_magic (end - length bs)))) rest e in
     let p = passed (eqb a.0.0 w) (magic_at end ws a.0.1) (bad bad_magic (end - length bs)) rest a.2 in
-    byte_is bs a.0 a.1 ∙ (ap (λ z. z ∷ a.0.1) (eqb-true a.0.0 w p.0) ∙ ap (λ (l : List ℕ). w ∷ l) (magic_is end ws a.0.1 rest p.1))
+    byte_sound bs a.0 a.1 ∙ (ap (λ z. z ∷ a.0.1) (eqb-true a.0.0 w p.0) ∙ ap (λ (l : List ℕ). w ∷ l) (magic_is end ws a.0.1 rest p.1))
 
 -- what was read is what was asked
-pub takes_asked : {p q : PullState} (ws : List Want) (answers : List Item) (nodes : List Node) (is : List Item) → Reads (inside short) p q (λ end. wants_at end ws) (λ rest. (answers, nodes, is, rest)) → TakesAsked p q ws answers nodes is
+pub takes_asked : {p q : PullState} (ws : List Want) (answers : List Item) (nodes : List Node) (is : List Item) → Reads (inside short) p q (λ end. wants_at end ws) (λ rest. (answers, nodes, is, rest)) → TakesWants p q ws answers nodes is
 unfolding wants_at
 takes_asked {p} {q} ws answers nodes is r =
     let end = q.at + 0 in
@@ -108,26 +107,26 @@ takes_asked {p} {q} ws answers nodes is r =
     let left = plain.bytes_left r.taken head a.0 m (are r.taken r.bytes) in
     let s = asked_sound end ws a.0 (answers, nodes, is, []) a.2 left in
     let all : s.front ≡ a.0 = sym (s.is ∙ append-nil s.front) in
-    record { bytes = a.0; takes = subst (λ (l : List ℕ). Takes p q l) m r.takes; asked = subst (λ (l : List ℕ). IsAsked ws answers nodes l) all s.asked; contents_are = s.contents }
+    record { bytes = a.0; takes = subst (λ (l : List ℕ). Takes p q l) m r.takes; asked = subst (λ (l : List ℕ). SpellsWants ws answers nodes l) all s.asked; contents_are = s.contents }
 
 abbrev Whole : Type 0
 Whole = List Item × List Node × List Item × List ℕ
 
 -- what is asked is read, unless the outside fails
 pub gives_asked : (after : StreamFault) (end : ℕ) (ws : List Want) (answers : List Item) (nodes : List Node) (bytes rest now coming : List ℕ) (result : Result (List Item × Graph) StreamFault)
-    → WantGives {Y = Whole} after (λ x. (x.0, x.1.nodes, x.1.items, now)) result (wants_at end ws coming) → coming ≡ 0xAC ∷ 0xED ∷ 0x00 ∷ 0x05 ∷ (bytes ++ rest) → IsAsked ws answers nodes bytes → AnswersAsked answers nodes rest now result
+    → WantGives {Y = Whole} after (λ x. (x.0, x.1.nodes, x.1.items, now)) result (wants_at end ws coming) → coming ≡ 0xAC ∷ 0xED ∷ 0x00 ∷ 0x05 ∷ (bytes ++ rest) → SpellsWants ws answers nodes bytes → AnswersWants answers nodes rest now result
 unfolding wants_at magic_at
 gives_asked after end ws answers nodes bytes rest now coming result h here asked =
     let read : wants_at end ws coming ≡ Ok (answers, nodes, joined answers, rest) = ap (λ (l : List ℕ). wants_at end ws l) here ∙ asked_complete end ws answers nodes bytes rest asked in
     go result h read
   where
-    go : (result : Result (List Item × Graph) StreamFault) → WantGives {Y = Whole} after (λ x. (x.0, x.1.nodes, x.1.items, now)) result (wants_at end ws coming) → wants_at end ws coming ≡ Ok (answers, nodes, joined answers, rest) → AnswersAsked answers nodes rest now result
+    go : (result : Result (List Item × Graph) StreamFault) → WantGives {Y = Whole} after (λ x. (x.0, x.1.nodes, x.1.items, now)) result (wants_at end ws coming) → wants_at end ws coming ≡ Ok (answers, nodes, joined answers, rest) → AnswersWants answers nodes rest now result
     go (Ok x) h read =
         let same = given_is (x.0, x.1.nodes, x.1.items, now) (answers, nodes, joined answers, rest) (sym h ∙ read) in
         (ap (λ (t : Whole). t.0) same, ap (λ (t : Whole). t.1) same, ap (λ (t : Whole). t.2) same, ap (λ (t : Whole). t.3) same)
     go (Err e) h read = fails_outside inside WantIsBad after e (wants_at end ws coming) (answers, nodes, joined answers, rest) read (λ kind at is. absurd (let same = sym is ∙ read in cc)) h
 
 pub taken_asked : (p q : PullState) (ws : List Want) (result : Result (List Item × Graph) StreamFault) → IfOk result (λ x. Reads {Y = Whole} (inside short) p q (λ end. wants_at end ws) (λ rest. (x.0, x.1.nodes, x.1.items, rest)))
-    → IfOk result (λ x. TakesAsked p q ws x.0 x.1.nodes x.1.items)
+    → IfOk result (λ x. TakesWants p q ws x.0 x.1.nodes x.1.items)
 taken_asked p q ws (Ok x) h = takes_asked ws x.0 x.1.nodes x.1.items h
 taken_asked p q ws (Err e) h = tt

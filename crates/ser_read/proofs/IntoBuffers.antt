@@ -3,7 +3,7 @@ use Rattle.std.proofs.Common.{◌≡◌, ℕ, ◌+◌, ◌-◌, ◌≤◌, List,
 use Rattle.std.proofs.lemmas.List.{length-take-le, append-nil}
 use Rattle.std.proofs.lemmas.List as lists
 use Rattle.wire_io.proofs.Pulling.{front_put, part_length}
-use Rattle.ser_values.specs.Reading.{Fault, take_at}
+use Rattle.stream_grammar.specs.Reading.{Fault, take_at}
 use Rattle.ser_read.specs.Wants.{run_at, inside}
 use Rattle.ser_read.proofs.Runs.{behind, piece_next, piece_err}
 

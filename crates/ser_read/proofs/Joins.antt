@@ -3,7 +3,8 @@ use Rattle.std.proofs.Common.{◌≡◌, ◌≢◌, ℕ, List, [], ◌∷◌, �
 use Rattle.class_desc.specs.declared.slot.Slot.{Slot}
 use Rattle.class_desc.specs.declared.slot.Item.{Item}
 use Rattle.class_desc.specs.declared.slot.Item.TheVariants as items
-use Rattle.ser_values.specs.Spelled.{put_block, joined}
+use Rattle.stream_grammar.specs.Spelled.{joined}
+use Rattle.ser_values.specs.Fronts.{put_block}
 use Rattle.ser_read.specs.Named.{add_bytes, added}
 
 behind_one : (x : Item) (is : List Item) (y : Item) (b : ℕ) (p : List ℕ) → add_bytes (x ∷ (is ++ y ∷ [])) (b ∷ p) ≡ x ∷ add_bytes (is ++ y ∷ []) (b ∷ p)

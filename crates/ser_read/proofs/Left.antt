@@ -2,13 +2,13 @@
 use Rattle.std.proofs.Common.{◌≡◌, ◌≢◌, inl, inr, ℕ, zero, suc, ◌<◌, false, List, [], ◌∷◌, ◌++◌, length, Result, Ok, Err, refl, ap, ◌∙◌, arith, eqb}
 use Rattle.std.proofs.lemmas.Bool.{eqb-true, eqb-false}
 use Rattle.class_desc.specs.declared.slot.Item.TheVariants as items
-use Rattle.ser_values.specs.Reading.{Fault, Progress}
-use Rattle.ser_values.proofs.PlainSound.{AreBytes, chosen}
+use Rattle.stream_grammar.specs.Reading.{Fault, Progress}
+use Rattle.stream_grammar.proofs.PlainSound.{AreBytes, chosen}
 use Rattle.ser_read.specs.declared.block.Head.{Head}
 use Rattle.ser_read.specs.declared.block.Head.TheVariants.{Block, Code}
 use Rattle.ser_read.specs.Heads.{is_empty, head_at}
-use Rattle.ser_read.specs.Wants.{block_left, lifted, Stand, only_slot, reference_at, slot_next}
-use Rattle.ser_read.specs.Laws.{BeginsBlock, LeavesBlock}
+use Rattle.ser_read.specs.Wants.{block_left, lift_fault, Stand, only_slot, reference_at, slot_next}
+use Rattle.ser_read.specs.WantLaws.{BeginsBlock, LeavesBlock}
 use Rattle.ser_read.proofs.Heads.{head_full}
 use Rattle.ser_read.proofs.Empties.{found}
 use Rattle.ser_read.proofs.Heading.{header_is}
@@ -22,7 +22,7 @@ full : (k : ℕ) → is_empty (Block k) ≡ false → 0 < k
 full zero e = absurd cc
 full (suc k) e = omega arith
 
-lifted_inside : {A : Type 0} (r : Result A Fault) (at : ℕ) → lifted r ≢ Err (block_left at)
+lifted_inside : {A : Type 0} (r : Result A Fault) (at : ℕ) → lift_fault r ≢ Err (block_left at)
 lifted_inside (Ok x) at = λ e. cc
 lifted_inside (Err d) at = λ e. cc
 

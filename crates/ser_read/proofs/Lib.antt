@@ -11,7 +11,7 @@ pub mod Stopping
 pub mod Parts
 pub mod Bytes
 pub mod Breaking
-pub mod Does
+pub mod NodeReading
 pub mod Wants
 pub mod Heads
 pub mod Runs
@@ -20,14 +20,14 @@ pub mod Empties
 pub mod Served
 pub mod Flat
 pub mod Behind
-pub mod Asked
+pub mod SpelledWants
 pub mod Given
 pub mod InOrder
 pub mod WantLaws
 pub mod Heading
 pub mod Streams
 pub mod ToEnd
-pub mod Rows
+pub mod WorkedFaults
 pub mod Fronts
 pub mod Missing
 pub mod Left

@@ -9,23 +9,23 @@ use Rattle.class_desc.specs.declared.field.TypeCode.{TypeCode}
 use Rattle.class_desc.specs.ClassDesc.{has_flag}
 use Rattle.ser_values.specs.declared.node.Node.{Node}
 use Rattle.ser_values.specs.declared.node.Node.TheVariants.{Desc, Proxy}
-use Rattle.ser_values.specs.Reading.{Row, chain_above, chain_of}
+use Rattle.stream_grammar.specs.Reading.{Row, chain_above, chain_of}
 use Rattle.ser_read.specs.declared.row.ClassRow.{ClassRow}
 use Rattle.ser_read.specs.declared.shape.Climb.{Climb}
 use Rattle.ser_read.specs.declared.shape.Climb.TheVariants.{Class}
 use Rattle.ser_read.specs.Codes.{codes_of}
-use Rattle.ser_read.specs.Rows.{row_of, class_rows}
-use Rattle.ser_read.specs.Chains.{shown, climbed}
+use Rattle.ser_read.specs.ObjectRows.{row_of, class_rows}
+use Rattle.ser_read.specs.Chains.{shown, climb_by}
 
 and_true : (a : Bool) → a ≡ a && true
 and_true true = refl
 and_true false = refl
 
 pub desc_link : (above : Slot → List Row × Bool) (d : ClassDesc) (i : Node) (codes : List TypeCode) (note serial : Bool) → i ≡ Desc d → codes ≡ codes_of d.fields → note ≡ has_flag d.flags 1 → serial ≡ has_flag d.flags 2
-    → shown (chain_above above (Some i)) ≡ climbed above (Class (record { codes = codes; note = note }) serial d.parent)
+    → shown (chain_above above (Some i)) ≡ climb_by above (Class (record { codes = codes; note = note }) serial d.parent)
 desc_link above d i codes note serial h a b e = rw (h, a, b, e) (ap (λ (rows : List ClassRow). (rows, (above d.parent).1 && has_flag d.flags 2)) (map_push row_of (above d.parent).0 (d.fields, has_flag d.flags 1)))
 
-pub proxy_link : (above : Slot → List Row × Bool) (p : ProxyDesc) (i : Node) (codes : List TypeCode) → i ≡ Proxy p → codes ≡ [] → shown (chain_above above (Some i)) ≡ climbed above (Class (record { codes = codes; note = false }) true p.parent)
+pub proxy_link : (above : Slot → List Row × Bool) (p : ProxyDesc) (i : Node) (codes : List TypeCode) → i ≡ Proxy p → codes ≡ [] → shown (chain_above above (Some i)) ≡ climb_by above (Class (record { codes = codes; note = false }) true p.parent)
 proxy_link above p i codes h a = rw (h, a) (ap (λ (rows : List ClassRow). (rows, (above p.parent).1)) (map_push row_of (above p.parent).0 ([], false)) ∙ ap (λ (b : Bool). (class_rows (above p.parent).0 ++ row_of ([], false) ∷ [], b)) (and_true (above p.parent).1))
 
 and_assoc : (a b c : Bool) → (a && b) && c ≡ a && (b && c)
@@ -39,19 +39,19 @@ rows_more above row up = append_assoc above (row ∷ []) (reverse up) ∙ ap (λ
 abbrev pub Up : Type 0
 Up = List ClassRow × Bool
 
-pub up_rows : (nodes : List Node) (n : ℕ) (s : Slot) (row : ClassRow) (serial : Bool) (parent : Slot) (up : List ClassRow) → 0 < n → ((n : ℕ) → shown (chain_of (suc n) nodes s) ≡ climbed (chain_of n nodes) (Class row serial parent))
+pub up_rows : (nodes : List Node) (n : ℕ) (s : Slot) (row : ClassRow) (serial : Bool) (parent : Slot) (up : List ClassRow) → 0 < n → ((n : ℕ) → shown (chain_of (suc n) nodes s) ≡ climb_by (chain_of n nodes) (Class row serial parent))
     → (shown (chain_of n nodes s)).0 ++ reverse up ≡ (shown (chain_of (n - 1) nodes parent)).0 ++ reverse (up ++ row ∷ [])
 up_rows nodes n s row serial parent up lt h =
     let e : n ≡ suc (n - 1) = omega arith in
     ap (λ m. (shown (chain_of m nodes s)).0 ++ reverse up) e ∙ ap (λ (x : Up). x.0 ++ reverse up) (h (n - 1)) ∙ rows_more (shown (chain_of (n - 1) nodes parent)).0 row up
 
-pub up_serial : (nodes : List Node) (n : ℕ) (s : Slot) (row : ClassRow) (serial : Bool) (parent : Slot) (acc : Bool) → 0 < n → ((n : ℕ) → shown (chain_of (suc n) nodes s) ≡ climbed (chain_of n nodes) (Class row serial parent))
+pub up_serial : (nodes : List Node) (n : ℕ) (s : Slot) (row : ClassRow) (serial : Bool) (parent : Slot) (acc : Bool) → 0 < n → ((n : ℕ) → shown (chain_of (suc n) nodes s) ≡ climb_by (chain_of n nodes) (Class row serial parent))
     → (chain_of n nodes s).1 && acc ≡ (chain_of (n - 1) nodes parent).1 && (serial && acc)
 up_serial nodes n s row serial parent acc lt h =
     let e : n ≡ suc (n - 1) = omega arith in
     ap (λ m. (shown (chain_of m nodes s)).1 && acc) e ∙ ap (λ (x : Up). x.1 && acc) (h (n - 1)) ∙ and_assoc (chain_of (n - 1) nodes parent).1 serial acc
 
-pub up_end : (nodes : List Node) (n : ℕ) (s : Slot) (c : Climb) (rows : List ClassRow) (serial : Bool) → 0 < n → ((n : ℕ) → shown (chain_of (suc n) nodes s) ≡ climbed (chain_of n nodes) c) → ((above : Slot → List Row × Bool) → climbed above c ≡ (rows, serial))
+pub up_end : (nodes : List Node) (n : ℕ) (s : Slot) (c : Climb) (rows : List ClassRow) (serial : Bool) → 0 < n → ((n : ℕ) → shown (chain_of (suc n) nodes s) ≡ climb_by (chain_of n nodes) c) → ((above : Slot → List Row × Bool) → climb_by above c ≡ (rows, serial))
     → shown (chain_of n nodes s) ≡ (rows, serial)
 up_end nodes n s c rows serial lt h g = let e : n ≡ suc (n - 1) = omega arith in ap (λ m. shown (chain_of m nodes s)) e ∙ h (n - 1) ∙ g (chain_of (n - 1) nodes)
 

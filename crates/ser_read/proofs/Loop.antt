@@ -1,7 +1,7 @@
 -- Loops that read one thing after the other.
 use Rattle.std.proofs.Common.{◌≡◌, ℕ, zero, suc, inl, inr, ◌+◌, ◌-◌, ◌<◌, ◌≤◌, List, [], ◌∷◌, ◌++◌, length, drop, get_or, Result, Ok, Err, refl, sym, ap, subst, append_assoc, arith, drop-cons, add-one, length-drop}
 use Rattle.std.proofs.lemmas.List.{append-nil, nil_from_length}
-use Rattle.ser_values.specs.Reading.{◌>>=◌, Fault, Progress, Step, many_at, plain, byte_at, take_at}
+use Rattle.stream_grammar.specs.Reading.{◌>>=◌, Fault, Progress, Step, many_at, plain, byte_at, take_at}
 use Rattle.ser_read.specs.Lists.{all_at}
 use Rattle.ser_read.proofs.Bytes.{takes_all, takes_short}
 use Rattle.std.proofs.lemmas.Bool.{cases_lt}

@@ -1,21 +1,21 @@
 -- Where a block is missing.
 use Rattle.std.proofs.Common.{◌≡◌, ◌≢◌, inl, inr, ℕ, zero, suc, ◌-◌, ◌≤◌, ◌&&◌, List, [], ◌∷◌, ◌++◌, length, Result, Ok, Err, refl, ap, sym, subst, ◌∙◌, arith, leb, leb-true, eqb, append_assoc}
 use Rattle.std.proofs.lemmas.Bool.{and_parts, eqb-false}
-use Rattle.ser_values.specs.Reading.{Fault, byte_at}
-use Rattle.ser_values.proofs.PlainSound.{AreBytes, chosen, byte_sound}
+use Rattle.stream_grammar.specs.Reading.{Fault, byte_at}
+use Rattle.stream_grammar.proofs.PlainSound.{AreBytes, chosen, byte_sound}
 use Rattle.ser_read.specs.declared.block.Head.{Head}
 use Rattle.ser_read.specs.declared.block.Head.TheVariants.{Block, Code}
 use Rattle.ser_read.specs.Heads.{head_at}
-use Rattle.ser_read.specs.Wants.{WantFault, inside, missing_block, ◌▸◌, lifted, no_block, only_block, opened_at, run_at}
-use Rattle.ser_read.specs.Laws.{AreEmptyBlocks, MissesBlock}
+use Rattle.ser_read.specs.Wants.{WantFault, inside, missing_block, ◌▸◌, lift_fault, no_block, only_block, opened_at, run_at}
+use Rattle.ser_read.specs.WantLaws.{AreEmptyBlocks, MissesBlock}
 use Rattle.ser_read.proofs.Empties.{Empties, found}
-use Rattle.ser_read.proofs.Asked.{more_of}
+use Rattle.ser_read.proofs.SpelledWants.{more_of}
 use Rattle.ser_read.proofs.Heading.{header_is}
 use Rattle.ser_read.proofs.Runs.{opened_here}
 
 -- ---- faults
 
-pub lifted_err : {A B : Type 0} (r : Result A Fault) (f : A → Result B WantFault) (fault : WantFault) → ((d : Fault) → inside d ≢ fault) → (lifted r ▸ f) ≡ Err fault → (x : A) × (r ≡ Ok x) × (f x ≡ Err fault)
+pub lifted_err : {A B : Type 0} (r : Result A Fault) (f : A → Result B WantFault) (fault : WantFault) → ((d : Fault) → inside d ≢ fault) → (lift_fault r ▸ f) ≡ Err fault → (x : A) × (r ≡ Ok x) × (f x ≡ Err fault)
 lifted_err (Ok x) f fault outer e = (x, refl, e)
 lifted_err (Err d) f fault outer e = absurd (outer d (let same = e in cc))
 
@@ -63,7 +63,7 @@ one_more end n block at bytes o b opened read m = record {
   fewer = omega (arith, m.fewer);
   given = b.0 ∷ m.given;
   rest = m.rest;
-  read = ap (λ x. x ▸ more_of end m.count) opened ∙ ap (λ x. lifted x ▸ λ b. run_at end m.count (o.0 - 1) b.1 ▸ λ r. Ok (b.0 ∷ r.0, r.1, r.2)) read ∙ ap (λ x. x ▸ λ r. Ok (b.0 ∷ r.0, r.1, r.2)) m.read;
+  read = ap (λ x. x ▸ more_of end m.count) opened ∙ ap (λ x. lift_fault x ▸ λ b. run_at end m.count (o.0 - 1) b.1 ▸ λ r. Ok (b.0 ∷ r.0, r.1, r.2)) read ∙ ap (λ x. x ▸ λ r. Ok (b.0 ∷ r.0, r.1, r.2)) m.read;
   code = m.code;
   more = m.more;
   next = m.next;
@@ -106,11 +106,11 @@ misses_block end (suc n) block at bytes whole e = go (λ k bs w i. misses_block 
         let bytes_left = subst AreBytes (byte_sound o.1 b.0 b.1) left in
         one_more end n block at bytes o b.0 opened b.1 (rec (o.0 - 1) b.0.1 bytes_left.1 inner)
 
-    heads : ((k : ℕ) (bs : List ℕ) → AreBytes bs → run_at end n k bs ≡ Err (missing_block at) → MissesBlock end n k at bs) → (h : Result (Head × List ℕ) Fault) → head_at end bytes ≡ h → ((lifted h ▸ only_block) ▸ more_of end n) ≡ Err (missing_block at) → MissesBlock end (suc n) 0 at bytes
+    heads : ((k : ℕ) (bs : List ℕ) → AreBytes bs → run_at end n k bs ≡ Err (missing_block at) → MissesBlock end n k at bs) → (h : Result (Head × List ℕ) Fault) → head_at end bytes ≡ h → ((lift_fault h ▸ only_block) ▸ more_of end n) ≡ Err (missing_block at) → MissesBlock end (suc n) 0 at bytes
     heads rec (Err d) is e = absurd cc
     heads rec (Ok (Block m, bs)) is e =
         let f = found end (suc (length bytes)) bytes (Block m, bs) is whole in
-        after rec 0 (m, bs) (ap (λ h. lifted h ▸ only_block) is) f.left e
+        after rec 0 (m, bs) (ap (λ h. lift_fault h ▸ only_block) is) f.left e
     heads rec (Ok (Code code p, more)) is e = none end n at bytes code p more whole is (missed code p at (let same = e in cc))
 
     go : ((k : ℕ) (bs : List ℕ) → AreBytes bs → run_at end n k bs ≡ Err (missing_block at) → MissesBlock end n k at bs) → (k : ℕ) → k ≡ block → run_at end (suc n) k bytes ≡ Err (missing_block at) → MissesBlock end (suc n) block at bytes

@@ -2,7 +2,7 @@
 use Rattle.std.proofs.Common.{◌≡◌, ℕ, zero, suc, inl, inr, ◌+◌, ◌-◌, ◌*◌, ◌<◌, ◌≤◌, List, [], ◌∷◌, ◌++◌, length, take, drop, Result, Ok, Err, refl, sym, ap, ◌∙◌, append_assoc, arith, length-drop, length-append}
 use Rattle.std.proofs.lemmas.Bool.{cases_lt}
 use Rattle.std.proofs.lemmas.List.{append-nil, nil_from_length, take-append-le, drop-append-le, drop-drop}
-use Rattle.ser_values.specs.Reading.{Fault, Progress, Step, many_at, take_at, short}
+use Rattle.stream_grammar.specs.Reading.{Fault, Progress, Step, many_at, take_at, short}
 use Rattle.wire_io.specs.Pulled.{PullState}
 use Rattle.ser_read.specs.Here.{Reads}
 use Rattle.ser_read.specs.NumberRuns.{of_front, run_of}

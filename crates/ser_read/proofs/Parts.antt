@@ -8,11 +8,11 @@ use Rattle.class_desc.specs.declared.field.FieldDesc.{FieldDesc}
 use Rattle.ser_values.specs.declared.value.Value.{Value}
 use Rattle.ser_values.specs.declared.value.Part.{Part}
 use Rattle.ser_values.specs.declared.node.SlotPlace.TheVariants as places
-use Rattle.ser_values.specs.Reading.{◌>>=◌, Fault, FaultKind, bad, too_many, Progress, Step, Slots, Row, part, unless, value_at, values_at, note_at, parts_at, chain_of, rows_of, class_fault, object_after, object_at, with_class, on_class}
+use Rattle.stream_grammar.specs.Reading.{◌>>=◌, Fault, FaultKind, bad, too_many, Progress, Step, Slots, Row, part, unless, value_at, values_at, note_at, parts_at, chain_of, rows_of, class_fault, object_after, object_at, with_class, on_class}
 use Rattle.ser_read.specs.declared.row.ClassRow.{ClassRow}
 use Rattle.ser_read.specs.Codes.{codes_of}
 use Rattle.ser_read.specs.Lists.{all_at}
-use Rattle.ser_read.specs.Rows.{class_rows, values_by, part_by, parts_by, object_by}
+use Rattle.ser_read.specs.ObjectRows.{class_rows, values_by, part_by, parts_by, object_by}
 use Rattle.ser_read.specs.Named.{only_class, class_named}
 
 values_same : (inner : Step Slot) (fs : List FieldDesc) (now : Progress) (bs : List ℕ) → values_by inner (codes_of fs) now bs ≡ values_at inner fs now bs

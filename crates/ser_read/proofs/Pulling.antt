@@ -3,7 +3,7 @@ use Rattle.std.proofs.Common.{◌≡◌, ℕ, zero, suc, ◌+◌, ◌-◌, ◌�
 use Rattle.std.proofs.Math.Seq.{take-append-add, drop-append-add}
 use Rattle.wire_io.specs.Wire.{with_front, NothingLeft}
 use Rattle.wire_io.specs.Pulled.{PullState, Takes, Passes}
-use Rattle.ser_values.specs.Reading.{byte_at}
+use Rattle.stream_grammar.specs.Reading.{byte_at}
 use Rattle.ser_read.specs.declared.fault.StreamFault.TheVariants.{Truncated, TooLarge}
 use Rattle.ser_read.specs.declared.fault.Large.TheVariants.{Bytes}
 use Rattle.ser_read.specs.Here.{Fails, fault_after, coming_at, env_at}

@@ -3,11 +3,11 @@ use Rattle.std.proofs.Common.{◌≡◌, ℕ, zero, suc, ◌+◌, ◌-◌, ◌�
 use Rattle.std.proofs.Math.Dec.{eqb-suc-zero}
 use Rattle.std.proofs.lemmas.Bool.{cases_lt}
 use Rattle.std.proofs.lemmas.List.{length-take, take-append-drop, append-nil}
-use Rattle.ser_values.specs.Reading.{Fault, take_at, short}
+use Rattle.stream_grammar.specs.Reading.{Fault, take_at, short}
 use Rattle.ser_read.specs.declared.block.Head.{Head}
 use Rattle.ser_read.specs.declared.block.Head.TheVariants.{Block, Code}
 use Rattle.ser_read.specs.Heads.{head_at}
-use Rattle.ser_read.specs.Wants.{WantFault, inside, ◌▸◌, lifted, only_block, opened_at, run_at}
+use Rattle.ser_read.specs.Wants.{WantFault, inside, ◌▸◌, lift_fault, only_block, opened_at, run_at}
 use Rattle.ser_read.proofs.Heads.{head_full}
 use Rattle.ser_read.proofs.Bytes.{takes_all, takes_short}
 
@@ -44,7 +44,7 @@ unfolding opened_at
 opened_some end (suc block) bs k rest e = let s = kept (suc block, bs) (k, rest) (sym (opened_here end (suc block) bs (omega arith)) ∙ e) in omega (arith, s)
 opened_some end zero bs k rest e = go (head_at end bs) refl e
   where
-    go : (r : Result (Head × List ℕ) Fault) → head_at end bs ≡ r → (lifted r ▸ only_block) ≡ Ok (k, rest) → 0 < k
+    go : (r : Result (Head × List ℕ) Fault) → head_at end bs ≡ r → (lift_fault r ▸ only_block) ≡ Ok (k, rest) → 0 < k
     go (Err f) is e = absurd cc
     go (Ok (Code code at, b)) is e = absurd cc
     go (Ok (Block zero, b)) is e = absurd (let h = head_full end (suc (length bs)) bs (Block zero, b) is in cc)
@@ -61,7 +61,7 @@ unfolding run_at
 run_unopened front end zero block bs f lt h = absurd (omega arith)
 run_unopened front end (suc n) block bs f lt h = rw h refl
 
-pub opened_none : (end block : ℕ) (bs : List ℕ) → block ≡ 0 → opened_at end block bs ≡ (lifted (head_at end bs) ▸ only_block)
+pub opened_none : (end block : ℕ) (bs : List ℕ) → block ≡ 0 → opened_at end block bs ≡ (lift_fault (head_at end bs) ▸ only_block)
 unfolding opened_at
 opened_none end block bs h = rw h refl
 
@@ -92,7 +92,7 @@ run_short end (suc more) zero k bs few a b = absurd (omega arith)
 run_short end (suc more) (suc n) k [] few a b = rw (opened_here end k [] (omega arith)) refl
 run_short end (suc more) (suc n) k (c ∷ bs) few a b = rw (opened_here end k (c ∷ bs) (omega arith)) (rw (run_short end more n (k - 1) bs (omega arith) (omega arith) (omega arith)) refl)
 
-pub run_split : (end more n k : ℕ) (bs : List ℕ) → more ≤ n → more ≤ k → run_at end n k bs ≡ (lifted (take_at more bs) ▸ λ t. behind t.0 (run_at end (n - more) (k - more) t.1))
+pub run_split : (end more n k : ℕ) (bs : List ℕ) → more ≤ n → more ≤ k → run_at end n k bs ≡ (lift_fault (take_at more bs) ▸ λ t. behind t.0 (run_at end (n - more) (k - more) t.1))
 run_split end more n k bs a b = elim (cases_lt (length bs) more) [
   | inl lt ↦ rw (takes_short more bs lt) (run_short end more n k bs lt a b)
   | inr le ↦ rw (takes_all more bs le) (

@@ -9,16 +9,16 @@ use Rattle.ser_values.specs.Node as node
 use Rattle.ser_values.specs.Node.{has, item_wants}
 use Rattle.ser_values.specs.Shape.{is_joined, parts_in}
 use Rattle.ser_values.specs.Numbered.{NumberAll, Numbered, IsGraph}
-use Rattle.ser_values.specs.Spelled.{joined, Spells}
-use Rattle.ser_values.specs.Reading.{short, byte_at, Fault, Progress, slot_at, coded}
+use Rattle.stream_grammar.specs.Spelled.{joined, Spells}
+use Rattle.stream_grammar.specs.Reading.{short, byte_at, Fault, Progress, slot_at, coded}
 use Rattle.std.specs.Prelude.{All}
 use Rattle.std.proofs.lemmas.List.Elements.{All-nil, All-cons, All-push}
 use Rattle.ser_values.specs.Ranges.{ItemFits, ItemsFit, InRange}
-use Rattle.ser_values.proofs.Ranged.{numbers_of, units_of, joined_fit}
-use Rattle.ser_values.proofs.PlainSound as plain
-use Rattle.ser_values.proofs.Solid.{Solid, Got, got_none, got_map, got_two}
-use Rattle.ser_values.proofs.Sound.{slots_sound}
-use Rattle.ser_values.proofs.Spelling.{spells_numbered, joined_joined}
+use Rattle.ser_values.proofs.Ranged.{numbers_of, units_of}
+use Rattle.stream_grammar.proofs.Spelling.{joined_fit, spells_numbered, joined_joined}
+use Rattle.stream_grammar.proofs.PlainSound as plain
+use Rattle.stream_grammar.proofs.Solid.{Solid, Got, got_none, got_map, got_two}
+use Rattle.stream_grammar.proofs.Sound.{slots_sound}
 use Rattle.ser_read.specs.declared.block.Head.{Head}
 use Rattle.ser_read.specs.declared.block.Head.TheVariants.{Block, Code}
 use Rattle.ser_read.specs.Here.{AreBytes, Reads}
@@ -26,7 +26,7 @@ use Rattle.ser_read.specs.Heads.{head_at}
 use Rattle.ser_read.specs.Named.{add_bytes}
 use Rattle.ser_read.specs.declared.serving.Want.{Want}
 use Rattle.ser_read.specs.declared.serving.Want.TheVariants as wanted
-use Rattle.ser_read.specs.Wants.{WantFault, inside, ◌▸◌, lifted, Stand, nothing_read, only_block, opened_at, run_at, only_slot, reference_at, bytes_at, slot_next, want_at, Served, AreServed, IsServed}
+use Rattle.ser_read.specs.Wants.{WantFault, inside, ◌▸◌, lift_fault, Stand, nothing_read, only_block, opened_at, run_at, only_slot, reference_at, bytes_at, slot_next, want_at, ServedWant, HaveLedTo, IsReached}
 use Rattle.ser_read.proofs.Joins.{added_is}
 use Rattle.ser_read.proofs.Runs.{opened_here}
 use Rattle.ser_read.proofs.Slots.{slot_is}
@@ -38,7 +38,7 @@ pub want_ok : {A B : Type 0} (r : Result A WantFault) (f : A → Result B WantFa
 want_ok (Ok x) f y e = (x, refl, e)
 want_ok (Err d) f y e = absurd cc
 
-pub lifted_ok : {A B : Type 0} (r : Result A Fault) (f : A → Result B WantFault) (y : B) → (lifted r ▸ f) ≡ Ok y → (x : A) × (r ≡ Ok x) × (f x ≡ Ok y)
+pub lifted_ok : {A B : Type 0} (r : Result A Fault) (f : A → Result B WantFault) (y : B) → (lift_fault r ▸ f) ≡ Ok y → (x : A) × (r ≡ Ok x) × (f x ≡ Ok y)
 lifted_ok (Ok x) f y e = (x, refl, e)
 lifted_ok (Err d) f y e = absurd cc
 
@@ -48,7 +48,7 @@ given x = Ok x
 pub given_is : {A : Type 0} (x y : A) → given x ≡ given y → x ≡ y
 given_is x y e = cc
 
-pub lifted_is : {A : Type 0} (r : Result A Fault) (x : A) → lifted r ≡ Ok x → r ≡ Ok x
+pub lifted_is : {A : Type 0} (r : Result A Fault) (x : A) → lift_fault r ≡ Ok x → r ≡ Ok x
 lifted_is (Ok y) x e = let s : y ≡ x = given_is y x e in ap Ok s
 lifted_is (Err d) x e = absurd cc
 
@@ -151,7 +151,7 @@ run_fits : (end n k : ℕ) (bs : List ℕ) (y : List ℕ × ℕ × List ℕ) →
 unfolding run_at
 run_fits end zero k bs y e bytes = subst (λ (y : List ℕ × ℕ × List ℕ). All (λ x. x < 2 ^ 8) y.0) (given_is ([], k, bs) y e) (All-nil (λ x. x < 2 ^ 8))
 run_fits end (suc n) k bs y e bytes =
-    let o = want_ok (opened_at end k bs) (λ o. lifted (byte_at o.1) ▸ λ b. run_at end n (o.0 - 1) b.1 ▸ λ r. Ok (b.0 ∷ r.0, r.1, r.2)) y e in
+    let o = want_ok (opened_at end k bs) (λ o. lift_fault (byte_at o.1) ▸ λ b. run_at end n (o.0 - 1) b.1 ▸ λ r. Ok (b.0 ∷ r.0, r.1, r.2)) y e in
     let c = lifted_ok (byte_at o.0.1) (λ b. run_at end n (o.0.0 - 1) b.1 ▸ λ r. Ok (b.0 ∷ r.0, r.1, r.2)) y o.2 in
     let r = want_ok (run_at end n (o.0.0 - 1) c.0.1) (λ r. Ok (c.0.0 ∷ r.0, r.1, r.2)) y c.2 in
     let read = subst plain.AreBytes (plain.byte_sound o.0.1 c.0 c.1) (opened_bytes end k bs o.0 o.1 bytes) in
@@ -206,12 +206,12 @@ want_so_far end wanted.Slot before after bs answer e bytes h =
     let here : slot_next end before bs ≡ Ok (a.0.0, a.0.1, []) = a.1 ∙ ap (λ (r : List ℕ). given (a.0.0, a.0.1, r)) none in
     subst SoFar (ap (λ (t : Item × Stand × List ℕ). t.1) s) (slot_so_far end before a.0.1 bs a.0.0 here bytes h)
 
-so_far : (served : List Served) (s : Stand) → AreServed served s → SoFar s
+so_far : (served : List ServedWant) (s : Stand) → HaveLedTo served s → SoFar s
 so_far [] s h = subst SoFar (sym h) at_start
 so_far (w ∷ earlier) s h = want_so_far w.end w.want h.0 s w.bytes w.answer h.2 (are w.bytes h.1) (so_far earlier h.0 h.3)
 
 -- They are a graph, with at most so many nodes.
-pub served_graph : (s : Stand) → IsServed s → length s.progress.nodes ≤ 65536 → IsGraph s.progress.nodes s.items
+pub served_graph : (s : Stand) → IsReached s → length s.progress.nodes ≤ 65536 → IsGraph s.progress.nodes s.items
 unfolding has parts_in
 served_graph s h few =
     let f = so_far h.0 s h.1 in
@@ -231,13 +231,13 @@ served_graph s h few =
 
 -- ---- one want more
 
-pub bytes_served : {p q : PullState} (n : ℕ) (before after : Stand) (x : List ℕ) → Reads (inside short) p q (λ end. bytes_at end n before) (λ rest. (x, after, rest)) → IsServed before → IsServed after
+pub bytes_served : {p q : PullState} (n : ℕ) (before after : Stand) (x : List ℕ) → Reads (inside short) p q (λ end. bytes_at end n before) (λ rest. (x, after, rest)) → IsReached before → IsReached after
 unfolding want_at
 bytes_served {p} {q} n before after x r h =
     let one : bytes_at (q.at + 0) n before r.taken ≡ Ok (x, after, []) = ap (λ (bs : List ℕ). bytes_at (q.at + 0) n before bs) (sym (append-nil r.taken)) ∙ r.is [] in
     (record { want = wanted.Bytes n; end = q.at + 0; bytes = r.taken; answer = items.Bytes x } ∷ h.0, (before, r.bytes, rw one refl, h.1))
 
-pub slot_served : {p q : PullState} (before after : Stand) (x : Slot) → Reads (inside short) p q (λ end. slot_next end before) (λ rest. (x, after, rest)) → IsServed before → IsServed after
+pub slot_served : {p q : PullState} (before after : Stand) (x : Slot) → Reads (inside short) p q (λ end. slot_next end before) (λ rest. (x, after, rest)) → IsReached before → IsReached after
 unfolding want_at
 slot_served {p} {q} before after x r h =
     let one : slot_next (q.at + 0) before r.taken ≡ Ok (x, after, []) = ap (λ (bs : List ℕ). slot_next (q.at + 0) before bs) (sym (append-nil r.taken)) ∙ r.is [] in

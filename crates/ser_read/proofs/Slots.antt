@@ -8,7 +8,7 @@ use Rattle.class_desc.specs.TypeCode.{is_primitive}
 use Rattle.ser_values.specs.declared.node.Node.{Node}
 use Rattle.ser_values.specs.declared.node.SlotPlace.{SlotPlace}
 use Rattle.wire_io.specs.Pulled.{PullState}
-use Rattle.ser_values.specs.Reading.{◌>>=◌, Fault, short, Progress, Step, Slots, fill, byte_at, take_at, size_at, value_at, elements_at, null_at, coded, slot_at, bad, too_many, too_deep, admits_code, code_fault}
+use Rattle.stream_grammar.specs.Reading.{◌>>=◌, Fault, short, Progress, Step, Slots, fill, byte_at, take_at, size_at, value_at, elements_at, null_at, coded, slot_at, bad, too_many, too_deep, admits_code, code_fault}
 use Rattle.ser_read.specs.declared.fault.StreamFault.{StreamFault}
 use Rattle.ser_read.specs.declared.fault.StreamFault.TheVariants as faults
 use Rattle.ser_read.specs.declared.fault.Large.TheVariants as larges
@@ -61,27 +61,27 @@ null_stops q left inner p unread at code now (Err faults.OutOfMemory) h g cause 
 -- values and elements of primitive types have no references
 pub value_any : (code : TypeCode) (a b : Step Slot) (now : Progress) (bs : List ℕ) → is_primitive code ≡ true → value_at a code now bs ≡ value_at b code now bs
 unfolding value_at
-value_any codes.B a b now bs h = refl
-value_any codes.C a b now bs h = refl
-value_any codes.D a b now bs h = refl
-value_any codes.F a b now bs h = refl
-value_any codes.I a b now bs h = refl
-value_any codes.J a b now bs h = refl
-value_any codes.S a b now bs h = refl
-value_any codes.Z a b now bs h = refl
+value_any codes.Byte a b now bs h = refl
+value_any codes.Char a b now bs h = refl
+value_any codes.Double a b now bs h = refl
+value_any codes.Float a b now bs h = refl
+value_any codes.Int a b now bs h = refl
+value_any codes.Long a b now bs h = refl
+value_any codes.Short a b now bs h = refl
+value_any codes.Boolean a b now bs h = refl
 value_any codes.Array a b now bs h = absurd cc
 value_any codes.Object a b now bs h = absurd cc
 
 pub elements_any : (code : TypeCode) (n : ℕ) (a b : Step Slot) (now : Progress) (bs : List ℕ) → is_primitive code ≡ true → elements_at a code n now bs ≡ elements_at b code n now bs
 unfolding elements_at
-elements_any codes.B n a b now bs h = refl
-elements_any codes.C n a b now bs h = refl
-elements_any codes.D n a b now bs h = refl
-elements_any codes.F n a b now bs h = refl
-elements_any codes.I n a b now bs h = refl
-elements_any codes.J n a b now bs h = refl
-elements_any codes.S n a b now bs h = refl
-elements_any codes.Z n a b now bs h = refl
+elements_any codes.Byte n a b now bs h = refl
+elements_any codes.Char n a b now bs h = refl
+elements_any codes.Double n a b now bs h = refl
+elements_any codes.Float n a b now bs h = refl
+elements_any codes.Int n a b now bs h = refl
+elements_any codes.Long n a b now bs h = refl
+elements_any codes.Short n a b now bs h = refl
+elements_any codes.Boolean n a b now bs h = refl
 elements_any codes.Array n a b now bs h = absurd cc
 elements_any codes.Object n a b now bs h = absurd cc
 

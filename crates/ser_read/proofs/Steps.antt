@@ -4,7 +4,7 @@ use Rattle.std.proofs.Common.{◌≡◌, ℕ, ◌+◌, List, [], ◌∷◌, ◌+
 use Rattle.wire_io.specs.Pulled.{PullState, Takes, pull_state}
 use Rattle.wire_io.specs.declared.pull.Pull.{Pull}
 use Rattle.wire_io.proofs.Pulling.{takes_nothing, takes_more}
-use Rattle.ser_values.specs.Reading.{◌>>=◌, Fault, short, Plain, Progress, plain}
+use Rattle.stream_grammar.specs.Reading.{◌>>=◌, Fault, short, Plain, Progress, plain}
 use Rattle.ser_read.specs.declared.fault.StreamKind.{StreamKind}
 use Rattle.ser_read.specs.declared.fault.StreamFault.{StreamFault}
 use Rattle.ser_read.specs.declared.fault.StreamFault.TheVariants as faults

@@ -3,9 +3,9 @@ use Rattle.std.proofs.Common.{◌≡◌, if◌then◌else◌, ℕ, suc, ◌+◌,
 use Rattle.std.proofs.lemmas.Bool.{cases_lt, le-ltb}
 use Rattle.std.proofs.lemmas.List.{length-take-le}
 use Rattle.std.specs.Int.{Width}
-use Rattle.mod_utf.specs.Decoding.{decoded}
+use Rattle.mod_utf.specs.Decoding.{decoded_units}
 use Rattle.wire_io.specs.Pulled.{PullState}
-use Rattle.ser_values.specs.Reading.{◌>>=◌, value_at, elements_at, items_at, blocks_at, Fault, short, bad, negative_length, Progress, Step, mapped, byte_at, take_at, number_at, size_at, units_at, units_of, many_at}
+use Rattle.stream_grammar.specs.Reading.{◌>>=◌, value_at, elements_at, items_at, blocks_at, Fault, short, bad, negative_length, Progress, Step, map_step, byte_at, take_at, number_at, size_at, units_at, units_of, many_at}
 use Rattle.ser_read.specs.declared.fault.StreamFault.{StreamFault}
 use Rattle.ser_read.specs.declared.fault.StreamFault.TheVariants as faults
 use Rattle.ser_read.specs.declared.fault.StreamKind.TheVariants as kinds
@@ -42,9 +42,9 @@ size_negative {p} {q} {n} w bound le h =
 
 -- ---- texts
 
-units_here : (end n at : ℕ) (bs : List ℕ) → end ≡ at + length bs → units_at end n bs ≡ (take_at n bs >>= λ t. units_of at (decoded t.0) >>= λ units. Ok (units, t.1))
+units_here : (end n at : ℕ) (bs : List ℕ) → end ≡ at + length bs → units_at end n bs ≡ (take_at n bs >>= λ t. units_of at (decoded_units t.0) >>= λ units. Ok (units, t.1))
 unfolding units_at
-units_here end n at bs e = let h : end - length bs ≡ at = omega arith in ap (λ a. take_at n bs >>= λ t. units_of a (decoded t.0) >>= λ units. Ok (units, t.1)) h
+units_here end n at bs e = let h : end - length bs ≡ at = omega arith in ap (λ a. take_at n bs >>= λ t. units_of a (decoded_units t.0) >>= λ units. Ok (units, t.1)) h
 
 pub units_stop : {p q : PullState} {e : StreamFault} (n : ℕ) → Breaks p q e (λ end. take_at n) → Breaks p q e (λ end. units_at end n)
 units_stop {p} n h = breaks_said (λ end bs here. units_here end n p.at bs here) (first _ h)
@@ -56,7 +56,7 @@ units_stop_by {p} {q} {e} n h is = units_stop n (subst (λ (k : ℕ). Breaks p q
 pub front_long : (n k : ℕ) (bytes : List ℕ) → k ≡ n → n ≤ length bytes → length (take k bytes) ≡ n
 front_long n k bytes same within = rw same (length-take-le n bytes within)
 
-pub units_bad : {p q : PullState} {bytes : List ℕ} {at : ℕ} (n : ℕ) → decoded bytes ≡ Err at → Reads short p q (λ end. take_at n) (λ rest. (bytes, rest)) → Breaks p q (faults.Bad kinds.BadUtf (p.at + at)) (λ end. units_at end n)
+pub units_bad : {p q : PullState} {bytes : List ℕ} {at : ℕ} (n : ℕ) → decoded_units bytes ≡ Err at → Reads short p q (λ end. take_at n) (λ rest. (bytes, rest)) → Breaks p q (faults.Bad kinds.BadUtf (p.at + at)) (λ end. units_at end n)
 units_bad {p} {q} {bytes} {at} n is h = breaks_said (λ end bs here. units_here end n p.at bs here) (later _ h (bad_here kinds.BadUtf (p.at + at) tt (λ end bs here. rw is refl)))
 
 -- ---- bytes, piece by piece
@@ -122,28 +122,28 @@ item_other end ref code now bs a b = rw (a, b) refl
 
 -- ---- values and elements that are references
 
-pub value_refs : (code : TypeCode) (inner : Step Slot) (now : Progress) (bs : List ℕ) → is_primitive code ≡ false → value_at inner code now bs ≡ mapped values.Ref inner now bs
+pub value_refs : (code : TypeCode) (inner : Step Slot) (now : Progress) (bs : List ℕ) → is_primitive code ≡ false → value_at inner code now bs ≡ map_step values.Ref inner now bs
 unfolding value_at
-value_refs codes.B inner now bs h = absurd cc
-value_refs codes.C inner now bs h = absurd cc
-value_refs codes.D inner now bs h = absurd cc
-value_refs codes.F inner now bs h = absurd cc
-value_refs codes.I inner now bs h = absurd cc
-value_refs codes.J inner now bs h = absurd cc
-value_refs codes.S inner now bs h = absurd cc
-value_refs codes.Z inner now bs h = absurd cc
+value_refs codes.Byte inner now bs h = absurd cc
+value_refs codes.Char inner now bs h = absurd cc
+value_refs codes.Double inner now bs h = absurd cc
+value_refs codes.Float inner now bs h = absurd cc
+value_refs codes.Int inner now bs h = absurd cc
+value_refs codes.Long inner now bs h = absurd cc
+value_refs codes.Short inner now bs h = absurd cc
+value_refs codes.Boolean inner now bs h = absurd cc
 value_refs codes.Array inner now bs h = refl
 value_refs codes.Object inner now bs h = refl
 
-pub elements_refs : (code : TypeCode) (n : ℕ) (inner : Step Slot) (now : Progress) (bs : List ℕ) → is_primitive code ≡ false → elements_at inner code n now bs ≡ mapped kinds_of.Refs (many_at inner n) now bs
+pub elements_refs : (code : TypeCode) (n : ℕ) (inner : Step Slot) (now : Progress) (bs : List ℕ) → is_primitive code ≡ false → elements_at inner code n now bs ≡ map_step kinds_of.Refs (many_at inner n) now bs
 unfolding elements_at
-elements_refs codes.B n inner now bs h = absurd cc
-elements_refs codes.C n inner now bs h = absurd cc
-elements_refs codes.D n inner now bs h = absurd cc
-elements_refs codes.F n inner now bs h = absurd cc
-elements_refs codes.I n inner now bs h = absurd cc
-elements_refs codes.J n inner now bs h = absurd cc
-elements_refs codes.S n inner now bs h = absurd cc
-elements_refs codes.Z n inner now bs h = absurd cc
+elements_refs codes.Byte n inner now bs h = absurd cc
+elements_refs codes.Char n inner now bs h = absurd cc
+elements_refs codes.Double n inner now bs h = absurd cc
+elements_refs codes.Float n inner now bs h = absurd cc
+elements_refs codes.Int n inner now bs h = absurd cc
+elements_refs codes.Long n inner now bs h = absurd cc
+elements_refs codes.Short n inner now bs h = absurd cc
+elements_refs codes.Boolean n inner now bs h = absurd cc
 elements_refs codes.Array n inner now bs h = refl
 elements_refs codes.Object n inner now bs h = refl

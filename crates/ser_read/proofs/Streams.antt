@@ -1,5 +1,5 @@
 -- Streams whose bytes end at any position: what is read is a stream of a graph, and each stream is read.
-use Rattle.std.proofs.Common.{◌≡◌, ℕ, ◌+◌, ◌-◌, ◌≤◌, false, cond, eqb, List, [], ◌∷◌, ◌++◌, length, Result, Ok, Err, refl, sym, ap, subst, ◌∙◌, arith}
+use Rattle.std.proofs.Common.{◌≡◌, ℕ, ◌+◌, ◌-◌, ◌≤◌, false, cond, eqb, List, [], ◌∷◌, ◌++◌, length, Ok, Err, refl, sym, ap, subst, ◌∙◌, arith}
 use Rattle.std.proofs.lemmas.Bool.{eqb-true}
 use Rattle.class_desc.specs.declared.slot.Item.{Item}
 use Rattle.ser_values.specs.declared.node.Node.{Node}
@@ -10,23 +10,23 @@ use Rattle.std.proofs.lemmas.List.Elements.{All-nil}
 use Rattle.ser_values.specs.Ranges.{ItemsFit, InRange}
 use Rattle.ser_values.proofs.Ranged.{numbers_of, units_of}
 use Rattle.ser_values.specs.Shape.{parts_in}
-use Rattle.ser_values.specs.Spelled.{Spells, SpellsItems, IsStream}
-use Rattle.ser_values.specs.Reading.{◌>>=◌, Fault, bad, bad_magic, byte_at, magic_at, items_at, slot_at, stream_of}
-use Rattle.ser_values.proofs.PlainSound as plain_sound
-use Rattle.ser_values.proofs.PlainSound.{bind_ok, passed, ok_is}
-use Rattle.ser_values.proofs.StepSound.{byte_spells}
-use Rattle.ser_values.proofs.Solid.{Solid}
-use Rattle.ser_values.specs.Faults.{FaultStands}
-use Rattle.ser_values.proofs.Standing.{stream_from, stands_from}
-use Rattle.ser_values.proofs.NoteSound.{items_sound}
-use Rattle.ser_values.proofs.Sound.{slots_sound}
-use Rattle.ser_values.proofs.Spelling.{stream_graph}
-use Rattle.ser_values.proofs.Shrinks.{spells_shrink, stream_few}
-use Rattle.ser_values.proofs.Mirror.{Ready}
-use Rattle.ser_values.proofs.SameTokens.{spells_begin}
-use Rattle.ser_values.proofs.OneReading.{same_list}
-use Rattle.ser_values.proofs.Notes.{items_reads}
-use Rattle.ser_values.proofs.Complete.{Given, slots_complete}
+use Rattle.stream_grammar.specs.Spelled.{Spells, SpellsItems, IsStream}
+use Rattle.stream_grammar.specs.Reading.{◌>>=◌, Fault, bad, bad_magic, byte_at, magic_at, items_at, slot_at, stream_of}
+use Rattle.stream_grammar.proofs.PlainSound as plain_sound
+use Rattle.stream_grammar.proofs.PlainSound.{bind_ok, passed, ok_is}
+use Rattle.stream_grammar.proofs.StepSound.{byte_spells}
+use Rattle.stream_grammar.proofs.Solid.{Solid}
+use Rattle.stream_grammar.specs.Faults.{FaultStands}
+use Rattle.stream_grammar.proofs.Standing.{stream_from, stands_from}
+use Rattle.stream_grammar.proofs.NoteSound.{items_sound}
+use Rattle.stream_grammar.proofs.Sound.{slots_sound}
+use Rattle.stream_grammar.proofs.Spelling.{stream_graph}
+use Rattle.stream_grammar.proofs.Shrinks.{spells_shrink, stream_few}
+use Rattle.stream_grammar.proofs.Mirror.{Ready}
+use Rattle.stream_grammar.proofs.SameTokens.{spells_begin}
+use Rattle.stream_grammar.proofs.OneReading.{same_list}
+use Rattle.stream_grammar.proofs.Notes.{items_reads}
+use Rattle.stream_grammar.proofs.Complete.{Given, slots_complete, answer, magic_read}
 use Rattle.ser_read.specs.Here.{AreBytes}
 use Rattle.ser_read.specs.Whole.{nothing_read, stream_at}
 
@@ -88,13 +88,6 @@ stream_at_sound end bytes x are e = (stream_at_got end bytes x are e).0
 -- What is read is a graph.
 pub graph_at : (end : ℕ) (bytes : List ℕ) (x : Answer) → AreBytes bytes → stream_at end bytes ≡ Ok x → IsGraph x.0 x.1
 graph_at end bytes x are e = let s = stream_at_got end bytes x are e in stream_graph x.0 x.1 bytes s.0 (stream_few x.0 x.1 bytes s.0) s.1
-
-abbrev answer : List Node → List Item → Result (List Node × List Item) Fault
-answer nodes is = Ok (nodes, is)
-
-magic_read : (end : ℕ) (contents : List ℕ) → magic_at end (0xAC ∷ 0xED ∷ 0x00 ∷ 0x05 ∷ []) (0xAC ∷ 0xED ∷ 0x00 ∷ 0x05 ∷ contents) ≡ Ok contents
-unfolding magic_at
-magic_read end contents = refl
 
 -- Each stream is read.
 pub stream_at_complete : (end : ℕ) (nodes : List Node) (items : List Item) (bytes : List ℕ) → IsStream nodes items bytes → stream_at end bytes ≡ Ok (nodes, items)

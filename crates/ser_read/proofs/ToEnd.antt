@@ -11,7 +11,7 @@ use Rattle.ser_values.specs.declared.graph.Graph.{Graph}
 use Rattle.ser_values.specs.declared.node.Node.{Node}
 use Rattle.ser_values.specs.declared.node.SlotPlace.TheVariants as places
 use Rattle.ser_values.specs.Numbered.{IsGraph}
-use Rattle.ser_values.specs.Reading.{◌>>=◌, Fault, FaultKind, short, bad, too_many, too_deep, Progress, Step, magic_at, blocks_at, items_at, slot_at}
+use Rattle.stream_grammar.specs.Reading.{◌>>=◌, Fault, FaultKind, short, bad, too_many, too_deep, Progress, Step, magic_at, blocks_at, items_at, slot_at}
 use Rattle.ser_read.specs.declared.fault.StreamFault.{StreamFault}
 use Rattle.ser_read.specs.declared.fault.StreamFault.TheVariants.{Bad, TooLarge, Truncated, ReadFault}
 use Rattle.ser_read.specs.declared.fault.StreamFault.TheVariants as faults

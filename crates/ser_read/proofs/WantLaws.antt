@@ -3,30 +3,30 @@ use Rattle.std.proofs.Common.{◌≡◌, ℕ, List, [], ◌∷◌, ◌++◌, Res
 use Rattle.std.proofs.lemmas.List.{append_cancel_right}
 use Rattle.class_desc.specs.declared.slot.Item.{Item}
 use Rattle.ser_values.specs.declared.node.Node.{Node}
-use Rattle.ser_values.specs.Spelled.{joined}
+use Rattle.stream_grammar.specs.Spelled.{joined}
 use Rattle.ser_read.specs.Here.{AreBytes}
 use Rattle.ser_read.specs.declared.serving.Want.{Want}
 use Rattle.ser_read.specs.Wants.{WantFault, ◌▸◌, Stand, nothing_read, want_at, serve, serve_to_close}
-use Rattle.ser_read.specs.Asked.{IsAsked}
-use Rattle.ser_read.specs.Laws.{WantsAreAsked, AskedIsServed, AskedIsOne, AskedAreStreams, ServedOneAfterTheOther}
+use Rattle.ser_read.specs.SpelledWants.{SpellsWants}
+use Rattle.ser_read.specs.WantLaws.{WantsAreSpelled, SpelledIsServed, SpelledIsOne, SpelledAreStreams, ServedOneAfterTheOther}
 use Rattle.ser_read.proofs.Served.{given_is, are}
-use Rattle.ser_read.proofs.Asked.{AllOk, asked_sound}
+use Rattle.ser_read.proofs.SpelledWants.{AllOk, asked_sound}
 use Rattle.ser_read.proofs.Given.{asked_stream, asked_complete}
 use Rattle.ser_read.proofs.InOrder.{Serving, given_before}
 
-asked_of : (end : ℕ) (ws : List Want) (answers : List Item) (nodes : List Node) (bytes rest : List ℕ) → AreBytes (bytes ++ rest) → serve_to_close end ws nothing_read (bytes ++ rest) ≡ Ok (answers, nodes, joined answers, rest) → IsAsked ws answers nodes bytes
+asked_of : (end : ℕ) (ws : List Want) (answers : List Item) (nodes : List Node) (bytes rest : List ℕ) → AreBytes (bytes ++ rest) → serve_to_close end ws nothing_read (bytes ++ rest) ≡ Ok (answers, nodes, joined answers, rest) → SpellsWants ws answers nodes bytes
 asked_of end ws answers nodes bytes rest all e =
     let s = asked_sound end ws (bytes ++ rest) (answers, nodes, joined answers, rest) e (are (bytes ++ rest) all) in
-    subst (λ (l : List ℕ). IsAsked ws answers nodes l) (append_cancel_right s.front bytes rest (sym s.is)) s.asked
+    subst (λ (l : List ℕ). SpellsWants ws answers nodes l) (append_cancel_right s.front bytes rest (sym s.is)) s.asked
 
-pub wants_are_asked : WantsAreAsked
-wants_are_asked end ws answers nodes bytes rest all = (λ e. asked_of end ws answers nodes bytes rest all e, λ h. asked_complete end ws answers nodes bytes rest h)
+pub wants_are_spelled : WantsAreSpelled
+wants_are_spelled end ws answers nodes bytes rest all = (λ e. asked_of end ws answers nodes bytes rest all e, λ h. asked_complete end ws answers nodes bytes rest h)
 
-pub asked_is_served : AskedIsServed
-asked_is_served end ws answers nodes bytes rest h = asked_complete end ws answers nodes bytes rest h
+pub spelled_is_served : SpelledIsServed
+spelled_is_served end ws answers nodes bytes rest h = asked_complete end ws answers nodes bytes rest h
 
-pub asked_is_one : AskedIsOne
-asked_is_one ws answers others nodes more one other after behind a b e =
+pub spelled_is_one : SpelledIsOne
+spelled_is_one ws answers others nodes more one other after behind a b e =
     let x = asked_complete 0 ws answers nodes one after a in
     let y = asked_complete 0 ws others more other behind b in
     let same : (answers, nodes, joined answers, after) ≡ (others, more, joined others, behind) =
@@ -34,8 +34,8 @@ asked_is_one ws answers others nodes more one other after behind a b e =
     let left : after ≡ behind = ap (λ (t : AllOk). t.3) same in
     (ap (λ (t : AllOk). t.0) same, ap (λ (t : AllOk). t.1) same, append_cancel_right one other after (e ∙ ap (λ (l : List ℕ). other ++ l) (sym left)))
 
-pub asked_are_streams : AskedAreStreams
-asked_are_streams ws answers nodes bytes h = asked_stream ws answers nodes bytes h
+pub spelled_are_streams : SpelledAreStreams
+spelled_are_streams ws answers nodes bytes h = asked_stream ws answers nodes bytes h
 
 -- ---- lists one after the other
 

@@ -5,7 +5,7 @@ use Rattle.class_desc.specs.ClassDesc.{is_good_desc}
 use Rattle.class_desc.specs.declared.desc.ClassDesc.{ClassDesc}
 use Rattle.class_desc.specs.declared.slot.Slot.TheVariants as slots
 use Rattle.ser_values.specs.declared.node.SlotPlace.TheVariants as places
-use Rattle.ser_values.specs.Reading.{◌>>=◌, bad, bad_desc, Plain, Step, Slots, byte_at, number_at, size_at, many_at, field_at, items_at}
+use Rattle.stream_grammar.specs.Reading.{◌>>=◌, bad, bad_desc, Plain, Step, Slots, byte_at, number_at, size_at, many_at, field_at, items_at}
 use Rattle.ser_read.specs.declared.front.DescFront.{DescFront}
 
 -- the number, the flags, and how many fields there are

@@ -3,7 +3,7 @@ use Rattle.std.specs.Prelude.{ℕ, zero, suc, ◌-◌, ◌^◌, Bool, true, fals
 use Rattle.std.specs.Int.{w32}
 use Rattle.ser_read.specs.declared.block.Head.{Head}
 use Rattle.ser_read.specs.declared.block.Head.TheVariants.{Block, Code}
-use Rattle.ser_values.specs.Reading.{◌>>=◌, Plain, byte_at, size_at, short}
+use Rattle.stream_grammar.specs.Reading.{◌>>=◌, Plain, byte_at, size_at, short}
 
 -- behind its code, which stands at this position
 unfoldable pub one_head : ℕ → ℕ → ℕ → List ℕ → Plain Head

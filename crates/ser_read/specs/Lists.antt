@@ -1,6 +1,6 @@
 -- One step for each thing of a list, one after the other.
 use Rattle.std.specs.Prelude.{List, [], ◌∷◌, Ok}
-use Rattle.ser_values.specs.Reading.{◌>>=◌, Step}
+use Rattle.stream_grammar.specs.Reading.{◌>>=◌, Step}
 
 unfoldable pub all_at : {A B : Type 0} → (B → Step A) → List B → Step (List A)
 all_at step [] now bs = Ok ([], now, bs)

@@ -6,7 +6,7 @@ use Rattle.class_desc.specs.declared.slot.Slot.TheVariants as slots
 use Rattle.class_desc.specs.declared.slot.Item.{Item}
 use Rattle.class_desc.specs.declared.slot.Item.TheVariants as items
 use Rattle.ser_values.specs.declared.node.SlotPlace.TheVariants as places
-use Rattle.ser_values.specs.Reading.{◌>>=◌, Fault, bad, bad_code, Progress, Step, Slots, byte_at, take_at, size_at, roomy}
+use Rattle.stream_grammar.specs.Reading.{◌>>=◌, Fault, bad, bad_code, Progress, Step, Slots, byte_at, take_at, size_at, roomy}
 
 -- the class of a construct that begins with it
 abbrev pub only_class : ℕ → Slot × Progress × List ℕ → Result (ℕ × Progress × List ℕ) Fault

@@ -3,7 +3,7 @@ use Rattle.std.specs.Prelude.{◌≡◌, ℕ, zero, suc, ℤ, Bool, false, nat_l
 use Rattle.std.proofs.Common.{refl, arith}
 use Rattle.std.proofs.lemmas.Bool.{le-ltb}
 use Rattle.std.specs.Int.{Width, byte_len, from_be_bytes, cast_signed}
-use Rattle.ser_values.specs.Reading.{◌>>=◌, Fault, Plain, Progress, Step, plain, byte_at, take_at, number_at, is_true}
+use Rattle.stream_grammar.specs.Reading.{◌>>=◌, Fault, Plain, Progress, Step, plain, byte_at, take_at, number_at, is_true}
 use Rattle.ser_read.specs.Signed.{signed_at, truth_at}
 
 -- ---- what bytes spell

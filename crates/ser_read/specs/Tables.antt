@@ -1,5 +1,5 @@
 -- The nodes that are being read.
-use Rattle.ser_values.specs.Reading.{Progress}
+use Rattle.stream_grammar.specs.Reading.{Progress}
 use Rattle.ser_read.specs.declared.table.Table.{Table}
 
 -- how far reading has come

@@ -6,7 +6,7 @@ use Rattle.class_desc.specs.declared.slot.Item.TheVariants as items
 use Rattle.ser_values.specs.declared.node.Node.{Node}
 use Rattle.ser_values.specs.declared.node.SlotPlace.TheVariants as places
 use Rattle.ser_values.specs.declared.limits.TheConstants.{LEVELS}
-use Rattle.ser_values.specs.Reading.{Fault, short, bad, bad_code, reset, inner_exception, Progress, byte_at, slot_at, coded, magic_at}
+use Rattle.stream_grammar.specs.Reading.{Fault, short, bad, bad_code, reset, inner_exception, Progress, byte_at, slot_at, coded, magic_at}
 use Rattle.wire_io.specs.Pulled.{PullState, pull_state}
 use Rattle.wire_io.specs.declared.pull.Pull.{Pull}
 use Rattle.ser_read.specs.declared.fault.StreamKind.{StreamKind}
@@ -34,9 +34,9 @@ abbrev pub ◌▸◌ : {A B : Type 0} → Result A WantFault → (A → Result B
 (Err e) ▸ f = Err e
 
 -- what is read inside
-abbrev pub lifted : {A : Type 0} → Result A Fault → Result A WantFault
-lifted (Ok x) = Ok x
-lifted (Err e) = Err (inside e)
+abbrev pub lift_fault : {A : Type 0} → Result A Fault → Result A WantFault
+lift_fault (Ok x) = Ok x
+lift_fault (Err e) = Err (inside e)
 
 -- ---- wants
 
@@ -62,12 +62,12 @@ only_block (Code code at, bs) = Err (no_block code at)
 
 -- how many bytes of a block are next, of the present block or a later one
 unfoldable pub opened_at : ℕ → ℕ → List ℕ → Result (ℕ × List ℕ) WantFault
-opened_at end block bs = if nat_eq block 0 then (lifted (head_at end bs) ▸ only_block) else Ok (block, bs)
+opened_at end block bs = if nat_eq block 0 then (lift_fault (head_at end bs) ▸ only_block) else Ok (block, bs)
 
 -- so many bytes of block data, one after the other
 unfoldable pub run_at : ℕ → ℕ → ℕ → List ℕ → Result (List ℕ × ℕ × List ℕ) WantFault
 run_at end zero block bs = Ok ([], block, bs)
-run_at end (suc n) block bs = opened_at end block bs ▸ λ o. lifted (byte_at o.1) ▸ λ b. run_at end n (o.0 - 1) b.1 ▸ λ r. Ok (b.0 ∷ r.0, r.1, r.2)
+run_at end (suc n) block bs = opened_at end block bs ▸ λ o. lift_fault (byte_at o.1) ▸ λ b. run_at end n (o.0 - 1) b.1 ▸ λ r. Ok (b.0 ∷ r.0, r.1, r.2)
 
 -- so many bytes are wanted
 unfoldable pub bytes_at : ℕ → ℕ → Stand → List ℕ → Result (List ℕ × Stand × List ℕ) WantFault
@@ -75,10 +75,10 @@ bytes_at end n s bs = run_at end n s.block bs ▸ λ r. Ok (r.0, record { progre
 
 abbrev pub only_slot : ℕ → Progress → Head × List ℕ → Result (Slot × Progress × List ℕ) WantFault
 only_slot end now (Block n, bs) = Err (block_left (end - length bs))
-only_slot end now (Code code at, bs) = lifted (coded end LEVELS (slot_at end (LEVELS - 1)) places.Reference [] at code now bs)
+only_slot end now (Code code at, bs) = lift_fault (coded end LEVELS (slot_at end (LEVELS - 1)) places.Reference [] at code now bs)
 
 unfoldable pub reference_at : ℕ → Progress → List ℕ → Result (Slot × Progress × List ℕ) WantFault
-reference_at end now bs = lifted (head_at end bs) ▸ only_slot end now
+reference_at end now bs = lift_fault (head_at end bs) ▸ only_slot end now
 
 -- a reference is wanted
 unfoldable pub slot_next : ℕ → Stand → List ℕ → Result (Slot × Stand × List ℕ) WantFault
@@ -97,19 +97,19 @@ want_at end (wanted.Bytes n) s bs = bytes_at end n s bs ▸ λ x. Ok (items.Byte
 want_at end wanted.Slot s bs = slot_next end s bs ▸ λ x. Ok (items.Ref x.0, x.1, x.2)
 
 -- A want, the position at which its bytes end, those bytes, and what they gave.
-pub record Served : Type 0 where
+pub record ServedWant : Type 0 where
   pub want : Want
   pub end : ℕ
   pub bytes : List ℕ
   pub answer : Item
 
 -- Wants that were served, the last one first, lead to this stand.
-abbrev pub AreServed : List Served → Stand → Type 0
-AreServed [] s = s ≡ nothing_read
-AreServed (w ∷ earlier) s = (before : Stand) × AreBytes w.bytes × (want_at w.end w.want before w.bytes ≡ Ok (w.answer, s, [])) × AreServed earlier before
+abbrev pub HaveLedTo : List ServedWant → Stand → Type 0
+HaveLedTo [] s = s ≡ nothing_read
+HaveLedTo (w ∷ earlier) s = (before : Stand) × AreBytes w.bytes × (want_at w.end w.want before w.bytes ≡ Ok (w.answer, s, [])) × HaveLedTo earlier before
 
-abbrev pub IsServed : Stand → Type 0
-IsServed s = (served : List Served) × AreServed served s
+abbrev pub IsReached : Stand → Type 0
+IsReached s = (served : List ServedWant) × HaveLedTo served s
 
 -- A reader: how far it has come, and why it was refused. Then how far it has come says nothing.
 pub record ReaderState : Type 0 where
@@ -136,20 +136,20 @@ abbrev pub WantGives : {X Y : Type 0} → StreamFault → (X → Y) → Result X
 WantGives after view result read = GivesBy (WantFails after) view result read
 
 -- Where the bytes are told, a call answers what reading gives of those to come.
-abbrev pub GivesWant : {S X Y : Type 0} → (S → Option (List ℕ)) → Pull S → Pull S → Result X StreamFault → (ℕ → List ℕ → Result Y WantFault) → (X → List ℕ → Y) → Type 0
-GivesWant left old new result read out = GivesToldBy WantFails left old new result read out
+abbrev pub WantGivesTold : {S X Y : Type 0} → (S → Option (List ℕ)) → Pull S → Pull S → Result X StreamFault → (ℕ → List ℕ → Result Y WantFault) → (X → List ℕ → Y) → Type 0
+WantGivesTold left old new result read out = GivesToldBy WantFails left old new result read out
 
 -- What was taken where a call answers this fault, and why reading ends there.
 pub record WantBreaks {Y : Type 0} (old new : PullState) (fault : StreamFault) (read : ℕ → List ℕ → Result Y WantFault) : Type 0 where
   pub is : BreaksBy inside WantIsBad old new fault read
 
 -- Whether the bytes are told or not, what a call answers is read from those that it took.
-abbrev pub WantTaken : {S X Y : Type 0} → (S → Option (List ℕ)) → (S → ℕ) → Pull S → Pull S → Result X StreamFault → (ℕ → List ℕ → Result Y WantFault) → (X → List ℕ → Y) → Type 0
-WantTaken left faults old new result read out = IfOk result (λ x. Reads (inside short) (pull_state left faults old) (pull_state left faults new) read (out x))
+abbrev pub WantReadsTaken : {S X Y : Type 0} → (S → Option (List ℕ)) → (S → ℕ) → Pull S → Pull S → Result X StreamFault → (ℕ → List ℕ → Result Y WantFault) → (X → List ℕ → Y) → Type 0
+WantReadsTaken left faults old new result read out = IfOk result (λ x. Reads (inside short) (pull_state left faults old) (pull_state left faults new) read (out x))
 
 -- Whether the bytes are told or not, a fault that a call answers is what the bytes that it took come to.
-abbrev pub StopsWant : {S X Y : Type 0} → (S → Option (List ℕ)) → (S → ℕ) → Pull S → Pull S → Result X StreamFault → (ℕ → List ℕ → Result Y WantFault) → Type 0
-StopsWant left faults old new result read = IfErr result (λ e. WantBreaks (pull_state left faults old) (pull_state left faults new) e read)
+abbrev pub WantStopsTaken : {S X Y : Type 0} → (S → Option (List ℕ)) → (S → ℕ) → Pull S → Pull S → Result X StreamFault → (ℕ → List ℕ → Result Y WantFault) → Type 0
+WantStopsTaken left faults old new result read = IfErr result (λ e. WantBreaks (pull_state left faults old) (pull_state left faults new) e read)
 
 -- ---- lists of wants
 
@@ -164,4 +164,4 @@ serve_to_close end ws s bs = serve end ws s bs ▸ λ x. close_at (end - length 
 
 -- the magic number and the version in front
 unfoldable pub wants_at : ℕ → List Want → List ℕ → Result (List Item × List Node × List Item × List ℕ) WantFault
-wants_at end ws bs = lifted (magic_at end (0xAC ∷ 0xED ∷ 0x00 ∷ 0x05 ∷ []) bs) ▸ serve_to_close end ws nothing_read
+wants_at end ws bs = lift_fault (magic_at end (0xAC ∷ 0xED ∷ 0x00 ∷ 0x05 ∷ []) bs) ▸ serve_to_close end ws nothing_read

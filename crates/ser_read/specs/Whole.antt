@@ -8,9 +8,9 @@ use Rattle.ser_values.specs.declared.node.Node.{Node}
 use Rattle.ser_values.specs.declared.node.SlotPlace.TheVariants as places
 use Rattle.ser_values.specs.declared.limits.TheConstants.{LEVELS, PARTS}
 use Rattle.ser_values.specs.Shape.{parts_in}
-use Rattle.ser_values.specs.Spelled.{IsStream}
-use Rattle.ser_values.specs.Reading.{◌>>=◌, Fault, short, Progress, magic_at, items_at, slot_at}
-use Rattle.ser_values.specs.Faults.{FaultStands}
+use Rattle.stream_grammar.specs.Spelled.{IsStream}
+use Rattle.stream_grammar.specs.Reading.{◌>>=◌, Fault, short, Progress, magic_at, items_at, slot_at}
+use Rattle.stream_grammar.specs.Faults.{FaultStands}
 use Rattle.ser_read.specs.declared.fault.StreamFault.{StreamFault}
 use Rattle.ser_read.specs.declared.fault.StreamFault.TheVariants.{Truncated, TooLarge, ReadFault}
 use Rattle.ser_read.specs.declared.fault.Large.TheVariants.{Bytes}

@@ -2,7 +2,7 @@
 ghost use Rattle.std.specs.Prelude.{◌≡◌, ℕ, [], length};
 ghost use Rattle.ser_read.specs.Here.{ReadsTaken, StopsTaken};
 ghost use Rattle.ser_read.specs.Heads.{one_head, any_head, is_empty, head_at};
-ghost use Rattle.ser_read.specs.Wants.{StopsWant, WantTaken, fault_at, no_block, opened_at, run_at};
+ghost use Rattle.ser_read.specs.Wants.{WantStopsTaken, WantReadsTaken, fault_at, no_block, opened_at, run_at};
 
 use crate::fault::{StreamFault, StreamKind};
 use crate::pieces::bad;
@@ -95,8 +95,8 @@ fn no_block(code: u8) -> StreamKind
 #[tactic(auto, unfolding(crate::specs::Wants::opened_at))]
 fn opened<S: Source>(pull: &mut Pull<'_, S>, block: u32) -> Result<u32, StreamFault>
     ensures lent { pull.new.source.ghost_name ≡ pull.old.source.ghost_name }
-    ensures reads { WantTaken S.left S.faults pull.old pull.new result (λ end. opened_at end block) (λ x rest. (x, rest)) }
-    ensures stops { StopsWant S.left S.faults pull.old pull.new result (λ end. opened_at end block) }
+    ensures reads { WantReadsTaken S.left S.faults pull.old pull.new result (λ end. opened_at end block) (λ x rest. (x, rest)) }
+    ensures stops { WantStopsTaken S.left S.faults pull.old pull.new result (λ end. opened_at end block) }
 {
     if block > 0 {
         return Ok(block);
@@ -117,8 +117,8 @@ fn run_onto<S: Source>(
 ) -> Result<(), StreamFault>
     requires empty { bytes.old ≡ [] }
     ensures lent { pull.new.source.ghost_name ≡ pull.old.source.ghost_name }
-    ensures reads { WantTaken S.left S.faults pull.old pull.new result (λ end. run_at end n block.old) (λ x rest. (bytes.new, block.new, rest)) }
-    ensures stops { StopsWant S.left S.faults pull.old pull.new result (λ end. run_at end n block.old) }
+    ensures reads { WantReadsTaken S.left S.faults pull.old pull.new result (λ end. run_at end n block.old) (λ x rest. (bytes.new, block.new, rest)) }
+    ensures stops { WantStopsTaken S.left S.faults pull.old pull.new result (λ end. run_at end n block.old) }
 {
     let mut left = n;
     while left > 0 {
@@ -140,8 +140,8 @@ pub(crate) fn run<S: Source>(
     n: u32,
 ) -> Result<ByteList, StreamFault>
     ensures lent { pull.new.source.ghost_name ≡ pull.old.source.ghost_name }
-    ensures reads { WantTaken S.left S.faults pull.old pull.new result (λ end. run_at end n block.old) (λ x rest. (x, block.new, rest)) }
-    ensures stops { StopsWant S.left S.faults pull.old pull.new result (λ end. run_at end n block.old) }
+    ensures reads { WantReadsTaken S.left S.faults pull.old pull.new result (λ end. run_at end n block.old) (λ x rest. (x, block.new, rest)) }
+    ensures stops { WantStopsTaken S.left S.faults pull.old pull.new result (λ end. run_at end n block.old) }
 {
     let mut bytes = ByteList::new(alloc);
     run_onto(alloc, pull, block, n, &mut bytes)?;
@@ -155,8 +155,8 @@ pub(crate) fn run_into<S: Source>(
     buf: &mut [u8],
 ) -> Result<(), StreamFault>
     ensures lent { pull.new.source.ghost_name ≡ pull.old.source.ghost_name }
-    ensures reads { WantTaken S.left S.faults pull.old pull.new result (λ end. run_at end (length buf.old) block.old) (λ x rest. (buf.new, block.new, rest)) }
-    ensures stops { StopsWant S.left S.faults pull.old pull.new result (λ end. run_at end (length buf.old) block.old) }
+    ensures reads { WantReadsTaken S.left S.faults pull.old pull.new result (λ end. run_at end (length buf.old) block.old) (λ x rest. (buf.new, block.new, rest)) }
+    ensures stops { WantStopsTaken S.left S.faults pull.old pull.new result (λ end. run_at end (length buf.old) block.old) }
 {
     let mut done = 0;
     while done < buf.len() {

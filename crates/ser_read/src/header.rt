@@ -1,6 +1,6 @@
 //! The header of a stream: the magic number and the version.
 ghost use Rattle.std.specs.Prelude.{◌≡◌, ◌∷◌, []};
-ghost use Rattle.ser_values.specs.Reading.{magic_at};
+ghost use Rattle.stream_grammar.specs.Reading.{magic_at};
 ghost use Rattle.ser_read.specs.Here.{ReadsTaken, StopsTaken};
 
 use crate::fault::{StreamFault, StreamKind};
@@ -10,7 +10,7 @@ use wire_io::pull::Pull;
 use wire_io::source::Source;
 
 /// One byte of the magic number and the version.
-#[tactic(auto, unfolding(ser_values::specs::Reading::magic_at))]
+#[tactic(auto, unfolding(stream_grammar::specs::Reading::magic_at))]
 fn magic_byte<S: Source>(pull: &mut Pull<'_, S>, want: u8) -> Result<(), StreamFault>
     ensures lent { pull.new.source.ghost_name ≡ pull.old.source.ghost_name }
     ensures reads { ReadsTaken S.left S.faults pull.old pull.new result (λ end. magic_at end (want ∷ [])) (λ x rest. rest) }
@@ -26,7 +26,7 @@ fn magic_byte<S: Source>(pull: &mut Pull<'_, S>, want: u8) -> Result<(), StreamF
 }
 
 /// The magic number and the version.
-#[tactic(auto, unfolding(ser_values::specs::Reading::magic_at))]
+#[tactic(auto, unfolding(stream_grammar::specs::Reading::magic_at))]
 pub(crate) fn magic<S: Source>(pull: &mut Pull<'_, S>) -> Result<(), StreamFault>
     ensures lent { pull.new.source.ghost_name ≡ pull.old.source.ghost_name }
     ensures reads { ReadsTaken S.left S.faults pull.old pull.new result (λ end. magic_at end (0xAC ∷ 0xED ∷ 0x00 ∷ 0x05 ∷ [])) (λ x rest. rest) }

@@ -1,25 +1,25 @@
 //! Laws of reading, for those who read contracts: these functions do nothing.
-ghost use Rattle.ser_read.specs.Laws.{WantsAreAsked, AskedIsServed, AskedIsOne, AskedAreStreams, ServedOneAfterTheOther, HeadEndsInBlock, HeadGoesOn, AskedIsHeaded, MissingBlocksStand, LeftBlocksStand};
+ghost use Rattle.ser_read.specs.WantLaws.{WantsAreSpelled, SpelledIsServed, SpelledIsOne, SpelledAreStreams, ServedOneAfterTheOther, HeadEndsInBlock, HeadGoesOn, SpelledIsHeaded, MissingBlocksStand, LeftBlocksStand};
 ghost use Rattle.ser_read.specs.Whole.{FaultsStandInBytes};
 
 /// Reading want by want, from left to right, answers exactly what a front of the bytes spells.
-pub fn wants_are_asked()
-    ensures { WantsAreAsked }
+pub fn wants_are_spelled()
+    ensures { WantsAreSpelled }
 {}
 
 /// What is spelled is read, whatever comes behind it.
-pub fn asked_is_served()
-    ensures { AskedIsServed }
+pub fn spelled_is_served()
+    ensures { SpelledIsServed }
 {}
 
 /// Nothing that the same wants ask for is a proper front of another.
-pub fn asked_is_one()
-    ensures { AskedIsOne }
+pub fn spelled_is_one()
+    ensures { SpelledIsOne }
 {}
 
 /// What wants ask for is a stream of the answers, joined.
-pub fn asked_are_streams()
-    ensures { AskedAreStreams }
+pub fn spelled_are_streams()
+    ensures { SpelledAreStreams }
 {}
 
 /// Lists of wants that are served one after the other are served as one list.
@@ -38,8 +38,8 @@ pub fn head_goes_on()
 {}
 
 /// What begins with a want of bytes has such a head.
-pub fn asked_is_headed()
-    ensures { AskedIsHeaded }
+pub fn spelled_is_headed()
+    ensures { SpelledIsHeaded }
 {}
 
 /// Where reading bytes that end at a position answers a fault, as `read_to_end` does, the bytes show it at the fault's position.

@@ -3,7 +3,7 @@ ghost use Rattle.std.specs.Prelude.{◌≡◌, ◌*◌, ◌≤◌, ◌++◌, ℕ
 ghost use Rattle.std.specs.Int.{w16, w32, w64};
 ghost use Rattle.class_desc.specs.declared.slot.Slot.{Slot};
 ghost use Rattle.class_desc.specs.TypeCode.{is_primitive};
-ghost use Rattle.ser_values.specs.Reading.{Progress, Step, plain, byte_at, number_at, many_at, value_at, elements_at};
+ghost use Rattle.stream_grammar.specs.Reading.{Progress, Step, plain, byte_at, number_at, many_at, value_at, elements_at};
 ghost use Rattle.ser_read.specs.Signed.{signed_at, truth_at};
 ghost use Rattle.ser_read.specs.Here.{ReadsTaken, StopsTaken};
 ghost use Rattle.std.proofs.Common.{rules};
@@ -279,7 +279,7 @@ fn bytes<S: Source>(alloc: Global, pull: &mut Pull<'_, S>, n: u32) -> Result<Byt
 }
 
 /// The value of a field of a primitive type.
-#[tactic(auto, unfolding(ser_values::specs::Reading::value_at))]
+#[tactic(auto, unfolding(stream_grammar::specs::Reading::value_at))]
 pub(crate) fn primitive<S: Source>(
     pull: &mut Pull<'_, S>,
     code: TypeCode,
@@ -290,21 +290,21 @@ pub(crate) fn primitive<S: Source>(
     ensures stops { (inner : Step Slot) (now : Progress) → StopsTaken S.left S.faults pull.old pull.new result (λ end. value_at inner code now) }
 {
     match code {
-        TypeCode::B => Ok(Value::B(u8::pull(pull)?)),
-        TypeCode::C => Ok(Value::C(u16::pull(pull)?)),
-        TypeCode::D => Ok(Value::D(u64::pull(pull)?)),
-        TypeCode::F => Ok(Value::F(u32::pull(pull)?)),
-        TypeCode::I => Ok(Value::I(i32::pull(pull)?)),
-        TypeCode::J => Ok(Value::J(i64::pull(pull)?)),
-        TypeCode::S => Ok(Value::S(i16::pull(pull)?)),
-        TypeCode::Z => Ok(Value::Z(bool::pull(pull)?)),
+        TypeCode::Byte => Ok(Value::Byte(u8::pull(pull)?)),
+        TypeCode::Char => Ok(Value::Char(u16::pull(pull)?)),
+        TypeCode::Double => Ok(Value::Double(u64::pull(pull)?)),
+        TypeCode::Float => Ok(Value::Float(u32::pull(pull)?)),
+        TypeCode::Int => Ok(Value::Int(i32::pull(pull)?)),
+        TypeCode::Long => Ok(Value::Long(i64::pull(pull)?)),
+        TypeCode::Short => Ok(Value::Short(i16::pull(pull)?)),
+        TypeCode::Boolean => Ok(Value::Boolean(bool::pull(pull)?)),
         TypeCode::Array => unreachable!(),
         TypeCode::Object => unreachable!(),
     }
 }
 
 /// The elements of an array of a primitive type.
-#[tactic(auto, unfolding(ser_values::specs::Reading::elements_at))]
+#[tactic(auto, unfolding(stream_grammar::specs::Reading::elements_at))]
 pub(crate) fn primitives<S: Source>(
     alloc: Global,
     pull: &mut Pull<'_, S>,
@@ -317,14 +317,14 @@ pub(crate) fn primitives<S: Source>(
     ensures stops { (inner : Step Slot) (now : Progress) → StopsTaken S.left S.faults pull.old pull.new result (λ end. elements_at inner code n now) }
 {
     match code {
-        TypeCode::B => Ok(Values::Bytes(bytes(alloc, pull, n)?)),
-        TypeCode::C => Ok(Values::Chars(numbers(alloc, pull, n)?)),
-        TypeCode::D => Ok(Values::Doubles(numbers(alloc, pull, n)?)),
-        TypeCode::F => Ok(Values::Floats(numbers(alloc, pull, n)?)),
-        TypeCode::I => Ok(Values::Ints(numbers(alloc, pull, n)?)),
-        TypeCode::J => Ok(Values::Longs(numbers(alloc, pull, n)?)),
-        TypeCode::S => Ok(Values::Shorts(numbers(alloc, pull, n)?)),
-        TypeCode::Z => Ok(Values::Bools(numbers(alloc, pull, n)?)),
+        TypeCode::Byte => Ok(Values::Bytes(bytes(alloc, pull, n)?)),
+        TypeCode::Char => Ok(Values::Chars(numbers(alloc, pull, n)?)),
+        TypeCode::Double => Ok(Values::Doubles(numbers(alloc, pull, n)?)),
+        TypeCode::Float => Ok(Values::Floats(numbers(alloc, pull, n)?)),
+        TypeCode::Int => Ok(Values::Ints(numbers(alloc, pull, n)?)),
+        TypeCode::Long => Ok(Values::Longs(numbers(alloc, pull, n)?)),
+        TypeCode::Short => Ok(Values::Shorts(numbers(alloc, pull, n)?)),
+        TypeCode::Boolean => Ok(Values::Bools(numbers(alloc, pull, n)?)),
         TypeCode::Array => unreachable!(),
         TypeCode::Object => unreachable!(),
     }

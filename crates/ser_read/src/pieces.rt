@@ -3,7 +3,7 @@ ghost use Rattle.std.specs.Prelude.{◌≡◌, ◌≢◌, List, ℕ, IfOk, OnOk}
 ghost use Rattle.class_desc.specs.declared.slot.Slot.TheVariants.{Null};
 ghost use Rattle.ser_values.specs.declared.node.SlotPlace.TheVariants.{Text};
 ghost use Rattle.ser_values.specs.declared.node.Node.TheVariants.{Desc};
-ghost use Rattle.ser_values.specs.Reading.{Progress, many_at, plain, short_at, null_at, handle_at, admits_code, code_fault, blank};
+ghost use Rattle.stream_grammar.specs.Reading.{Progress, many_at, plain, short_at, null_at, handle_at, admits_code, code_fault, blank};
 ghost use Rattle.ser_read.specs.Named.{add_bytes, added};
 ghost use Rattle.ser_read.specs.Tables.{now_of};
 ghost use Rattle.ser_read.specs.declared.fault.StreamFault.{StreamFault};
@@ -84,7 +84,7 @@ pub(crate) fn null(place: SlotPlace, at: u64) -> Result<Slot, StreamFault>
 }
 
 /// A handle, whose code at this position was read.
-#[tactic(auto, unfolding(ser_values::specs::Reading::handle_at))]
+#[tactic(auto, unfolding(stream_grammar::specs::Reading::handle_at))]
 pub(crate) fn handle<S: Source>(
     pull: &mut Pull<'_, S>,
     table: &Table,

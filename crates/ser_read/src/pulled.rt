@@ -1,7 +1,7 @@
 //! Bytes, numbers and texts from a Pull.
 ghost use Rattle.std.specs.Prelude.{◌≡◌, ◌++◌, ◌^◌, ◌≤◌, true, length, OnOk};
 ghost use Rattle.std.specs.Int.{w16, w32, w64};
-ghost use Rattle.ser_values.specs.Reading.{byte_at, take_at, number_at, size_at, units_at, short_at, long_at};
+ghost use Rattle.stream_grammar.specs.Reading.{byte_at, take_at, number_at, size_at, units_at, short_at, long_at};
 ghost use Rattle.ser_read.specs.declared.fault.StreamFault.TheVariants.{Bad};
 ghost use Rattle.ser_read.specs.declared.fault.StreamKind.TheVariants.{NegativeLength};
 ghost use Rattle.ser_read.specs.Here.{AreBytes, ReadsTaken, StopsTaken};
@@ -88,7 +88,7 @@ pub(crate) fn eight<S: Source>(pull: &mut Pull<'_, S>) -> Result<u64, StreamFaul
 }
 
 /// A length or a count: below 2^31, or `NegativeLength` at its first byte.
-#[tactic(auto, unfolding(ser_values::specs::Reading::size_at))]
+#[tactic(auto, unfolding(stream_grammar::specs::Reading::size_at))]
 pub(crate) fn count<S: Source>(pull: &mut Pull<'_, S>) -> Result<u32, StreamFault>
     ensures lent { pull.new.source.ghost_name ≡ pull.old.source.ghost_name }
     ensures reads { ReadsTaken S.left S.faults pull.old pull.new result (λ end. size_at end w32 (2 ^ 31)) (λ x rest. (x, rest)) }
@@ -104,7 +104,7 @@ pub(crate) fn count<S: Source>(pull: &mut Pull<'_, S>) -> Result<u32, StreamFaul
 }
 
 /// A long length: below 2^63, or `NegativeLength` at its first byte.
-#[tactic(auto, unfolding(ser_values::specs::Reading::size_at))]
+#[tactic(auto, unfolding(stream_grammar::specs::Reading::size_at))]
 fn long_length<S: Source>(pull: &mut Pull<'_, S>) -> Result<u64, StreamFault>
     ensures lent { pull.new.source.ghost_name ≡ pull.old.source.ghost_name }
     ensures reads { ReadsTaken S.left S.faults pull.old pull.new result (λ end. size_at end w64 (2 ^ 63)) (λ x rest. (x, rest)) }
@@ -179,7 +179,7 @@ pub(crate) fn take<S: Source>(
 
 /// A text of so many bytes of modified UTF, which are all there before they are judged. `BadUtf` comes at the first byte of
 /// the spelling that is none.
-#[tactic(auto, unfolding(ser_values::specs::Reading::units_at))]
+#[tactic(auto, unfolding(stream_grammar::specs::Reading::units_at))]
 fn units<S: Source>(alloc: Global, pull: &mut Pull<'_, S>, n: u64) -> Result<Units, StreamFault>
     ensures lent { pull.new.source.ghost_name ≡ pull.old.source.ghost_name }
     ensures reads { ReadsTaken S.left S.faults pull.old pull.new result (λ end. units_at end n) (λ x rest. (x, rest)) }
@@ -205,7 +205,7 @@ fn is_few(n: u16) -> bool
 }
 
 /// A text of few bytes of modified UTF, as [`units`] reads it: its bytes need no memory of their own.
-#[tactic(auto, unfolding(ser_values::specs::Reading::units_at))]
+#[tactic(auto, unfolding(stream_grammar::specs::Reading::units_at))]
 fn few_units<S: Source>(alloc: Global, pull: &mut Pull<'_, S>, n: u16) -> Result<Units, StreamFault>
     requires { n ≤ FEW }
     ensures lent { pull.new.source.ghost_name ≡ pull.old.source.ghost_name }
@@ -232,7 +232,7 @@ fn few_units<S: Source>(alloc: Global, pull: &mut Pull<'_, S>, n: u16) -> Result
 }
 
 /// A text with a length of 16 bits.
-#[tactic(auto, unfolding(ser_values::specs::Reading::short_at))]
+#[tactic(auto, unfolding(stream_grammar::specs::Reading::short_at))]
 pub(crate) fn short_text<S: Source>(
     alloc: Global,
     pull: &mut Pull<'_, S>,
@@ -250,7 +250,7 @@ pub(crate) fn short_text<S: Source>(
 }
 
 /// A text with a length of 64 bits.
-#[tactic(auto, unfolding(ser_values::specs::Reading::long_at))]
+#[tactic(auto, unfolding(stream_grammar::specs::Reading::long_at))]
 pub(crate) fn long_text<S: Source>(
     alloc: Global,
     pull: &mut Pull<'_, S>,

@@ -1,13 +1,13 @@
 //! Reading a stream want by want.
 ghost use Rattle.std.specs.Prelude.{◌≡◌, ◌≢◌, [], ◌∷◌, length, OnOk, IfOk, IfErr, Some, None, Err};
-ghost use Rattle.ser_values.specs.Reading.{magic_at};
+ghost use Rattle.stream_grammar.specs.Reading.{magic_at};
 ghost use Rattle.ser_read.specs.declared.fault.StreamFault.{StreamFault};
 ghost use Rattle.ser_read.specs.declared.fault.StreamFault.TheVariants.{Bad};
 ghost use Rattle.ser_read.specs.declared.fault.StreamKind.TheVariants.{BlockLeft};
 ghost use Rattle.ser_read.specs.Here.{env, Caused, GivesTold, ReadsTaken, StopsTaken};
-ghost use Rattle.ser_read.specs.Wants.{GivesWant, WantGives, StopsWant, WantTaken, bytes_at, reference_at, slot_next, serve, close_at, nothing_read};
+ghost use Rattle.ser_read.specs.Wants.{WantGivesTold, WantGives, WantStopsTaken, WantReadsTaken, bytes_at, reference_at, slot_next, serve, close_at, nothing_read};
 ghost use Rattle.ser_read.specs.Tables.{now_of};
-ghost use Rattle.ser_read.specs.Stands.{stand_of};
+ghost use Rattle.ser_read.specs.ReaderStand.{stand_of};
 
 use crate::block::{Head, next_head, run, run_into};
 use crate::fault::{StreamFault, StreamKind};
@@ -46,8 +46,8 @@ fn bytes_in<S: Source>(
 ) -> Result<ByteList, StreamFault>
     ensures lent { pull.new.source.ghost_name ≡ pull.old.source.ghost_name }
     ensures table { stand.new.table ≡ stand.old.table }
-    ensures reads { WantTaken S.left S.faults pull.old pull.new result (λ end. bytes_at end n (stand_of stand.old)) (λ x rest. (x, stand_of stand.new, rest)) }
-    ensures stops { StopsWant S.left S.faults pull.old pull.new result (λ end. bytes_at end n (stand_of stand.old)) }
+    ensures reads { WantReadsTaken S.left S.faults pull.old pull.new result (λ end. bytes_at end n (stand_of stand.old)) (λ x rest. (x, stand_of stand.new, rest)) }
+    ensures stops { WantStopsTaken S.left S.faults pull.old pull.new result (λ end. bytes_at end n (stand_of stand.old)) }
 {
     let bytes = run(alloc, pull, &mut stand.block, n)?;
     let copy = bytes.copy(alloc)?;
@@ -65,8 +65,8 @@ fn bytes_put<S: Source>(
 ) -> Result<(), StreamFault>
     ensures lent { pull.new.source.ghost_name ≡ pull.old.source.ghost_name }
     ensures table { stand.new.table ≡ stand.old.table }
-    ensures reads { WantTaken S.left S.faults pull.old pull.new result (λ end. bytes_at end (length buf.old) (stand_of stand.old)) (λ x rest. (buf.new, stand_of stand.new, rest)) }
-    ensures stops { StopsWant S.left S.faults pull.old pull.new result (λ end. bytes_at end (length buf.old) (stand_of stand.old)) }
+    ensures reads { WantReadsTaken S.left S.faults pull.old pull.new result (λ end. bytes_at end (length buf.old) (stand_of stand.old)) (λ x rest. (buf.new, stand_of stand.new, rest)) }
+    ensures stops { WantStopsTaken S.left S.faults pull.old pull.new result (λ end. bytes_at end (length buf.old) (stand_of stand.old)) }
 {
     run_into(pull, &mut stand.block, buf)?;
     let copy = ByteList::from_slice(alloc, buf)?;
@@ -84,8 +84,8 @@ fn reference<S: Source>(
     requires read { table.old.unread.items ≡ [] }
     ensures lent { pull.new.source.ghost_name ≡ pull.old.source.ghost_name }
     ensures read { OnOk result (table.new.unread.items ≡ []) }
-    ensures reads { WantTaken S.left S.faults pull.old pull.new result (λ end. reference_at end (now_of table.old)) (λ x rest. (x, now_of table.new, rest)) }
-    ensures stops { StopsWant S.left S.faults pull.old pull.new result (λ end. reference_at end (now_of table.old)) }
+    ensures reads { WantReadsTaken S.left S.faults pull.old pull.new result (λ end. reference_at end (now_of table.old)) (λ x rest. (x, now_of table.new, rest)) }
+    ensures stops { WantStopsTaken S.left S.faults pull.old pull.new result (λ end. reference_at end (now_of table.old)) }
 {
     match next_head(pull)? {
         Head::Block(_) => Err(bad(StreamKind::BlockLeft, pull.at)),
@@ -103,8 +103,8 @@ fn slot_in<S: Source>(
     requires read { stand.old.table.unread.items ≡ [] }
     ensures lent { pull.new.source.ghost_name ≡ pull.old.source.ghost_name }
     ensures read { OnOk result (stand.new.table.unread.items ≡ []) }
-    ensures reads { WantTaken S.left S.faults pull.old pull.new result (λ end. slot_next end (stand_of stand.old)) (λ x rest. (x, stand_of stand.new, rest)) }
-    ensures stops { StopsWant S.left S.faults pull.old pull.new result (λ end. slot_next end (stand_of stand.old)) }
+    ensures reads { WantReadsTaken S.left S.faults pull.old pull.new result (λ end. slot_next end (stand_of stand.old)) (λ x rest. (x, stand_of stand.new, rest)) }
+    ensures stops { WantStopsTaken S.left S.faults pull.old pull.new result (λ end. slot_next end (stand_of stand.old)) }
 {
     if stand.block > 0 {
         return Err(bad(StreamKind::BlockLeft, pull.at));
@@ -133,14 +133,14 @@ impl Drop for Reader {
 
 impl Model for Reader {
     ghost use Rattle.std.specs.Prelude.{◌≡◌, [], None};
-    ghost use Rattle.ser_read.specs.Stands.{stand_of};
-    ghost use Rattle.ser_read.specs.Wants.{ReaderState, IsServed};
+    ghost use Rattle.ser_read.specs.ReaderStand.{stand_of};
+    ghost use Rattle.ser_read.specs.Wants.{ReaderState, IsReached};
 
     ghost Value = { ReaderState };
 
     ghost view = { λ r. record { stand = stand_of r.stand; refused = r.refused } };
 
-    ghost invariant = { λ r. r.refused ≡ None → (r.stand.table.unread.items ≡ []) × ∥ IsServed (stand_of r.stand) ∥₁ };
+    ghost invariant = { λ r. r.refused ≡ None → (r.stand.table.unread.items ≡ []) × ∥ IsReached (stand_of r.stand) ∥₁ };
 }
 
 impl Reader {
@@ -181,9 +181,9 @@ impl Reader {
         ensures cause { self.old.refused ≡ None → Caused (S.faults pull.old.source.now) (S.faults pull.new.source.now) result }
         ensures lent { pull.new.source.ghost_name ≡ pull.old.source.ghost_name }
         ensures env { OnOk result (env S.left pull.new ≡ env S.left pull.old) }
-        ensures gives { self.old.refused ≡ None → GivesWant S.left pull.old pull.new result (λ end. bytes_at end n self.old.stand) (λ x rest. (x, self.new.stand, rest)) }
-        ensures reads { WantTaken S.left S.faults pull.old pull.new result (λ end. bytes_at end n self.old.stand) (λ x rest. (x, self.new.stand, rest)) }
-        ensures stops { self.old.refused ≡ None → StopsWant S.left S.faults pull.old pull.new result (λ end. bytes_at end n self.old.stand) }
+        ensures gives { self.old.refused ≡ None → WantGivesTold S.left pull.old pull.new result (λ end. bytes_at end n self.old.stand) (λ x rest. (x, self.new.stand, rest)) }
+        ensures reads { WantReadsTaken S.left S.faults pull.old pull.new result (λ end. bytes_at end n self.old.stand) (λ x rest. (x, self.new.stand, rest)) }
+        ensures stops { self.old.refused ≡ None → WantStopsTaken S.left S.faults pull.old pull.new result (λ end. bytes_at end n self.old.stand) }
     {
         if let Some(earlier) = self.refused {
             return Err(earlier);
@@ -212,9 +212,9 @@ impl Reader {
         ensures cause { self.old.refused ≡ None → Caused (S.faults pull.old.source.now) (S.faults pull.new.source.now) result }
         ensures lent { pull.new.source.ghost_name ≡ pull.old.source.ghost_name }
         ensures env { OnOk result (env S.left pull.new ≡ env S.left pull.old) }
-        ensures gives { self.old.refused ≡ None → GivesWant S.left pull.old pull.new result (λ end. bytes_at end (length buf.old) self.old.stand) (λ x rest. (buf.new, self.new.stand, rest)) }
-        ensures reads { WantTaken S.left S.faults pull.old pull.new result (λ end. bytes_at end (length buf.old) self.old.stand) (λ x rest. (buf.new, self.new.stand, rest)) }
-        ensures stops { self.old.refused ≡ None → StopsWant S.left S.faults pull.old pull.new result (λ end. bytes_at end (length buf.old) self.old.stand) }
+        ensures gives { self.old.refused ≡ None → WantGivesTold S.left pull.old pull.new result (λ end. bytes_at end (length buf.old) self.old.stand) (λ x rest. (buf.new, self.new.stand, rest)) }
+        ensures reads { WantReadsTaken S.left S.faults pull.old pull.new result (λ end. bytes_at end (length buf.old) self.old.stand) (λ x rest. (buf.new, self.new.stand, rest)) }
+        ensures stops { self.old.refused ≡ None → WantStopsTaken S.left S.faults pull.old pull.new result (λ end. bytes_at end (length buf.old) self.old.stand) }
     {
         if let Some(earlier) = self.refused {
             return Err(earlier);
@@ -242,9 +242,9 @@ impl Reader {
         ensures cause { self.old.refused ≡ None → Caused (S.faults pull.old.source.now) (S.faults pull.new.source.now) result }
         ensures lent { pull.new.source.ghost_name ≡ pull.old.source.ghost_name }
         ensures env { OnOk result (env S.left pull.new ≡ env S.left pull.old) }
-        ensures gives { self.old.refused ≡ None → GivesWant S.left pull.old pull.new result (λ end. slot_next end self.old.stand) (λ x rest. (x, self.new.stand, rest)) }
-        ensures reads { WantTaken S.left S.faults pull.old pull.new result (λ end. slot_next end self.old.stand) (λ x rest. (x, self.new.stand, rest)) }
-        ensures stops { self.old.refused ≡ None → StopsWant S.left S.faults pull.old pull.new result (λ end. slot_next end self.old.stand) }
+        ensures gives { self.old.refused ≡ None → WantGivesTold S.left pull.old pull.new result (λ end. slot_next end self.old.stand) (λ x rest. (x, self.new.stand, rest)) }
+        ensures reads { WantReadsTaken S.left S.faults pull.old pull.new result (λ end. slot_next end self.old.stand) (λ x rest. (x, self.new.stand, rest)) }
+        ensures stops { self.old.refused ≡ None → WantStopsTaken S.left S.faults pull.old pull.new result (λ end. slot_next end self.old.stand) }
     {
         if let Some(fault) = self.refused {
             return Err(fault);
@@ -273,9 +273,9 @@ impl Reader {
         ensures cause { self.old.refused ≡ None → Caused (S.faults pull.old.source.now) (S.faults pull.new.source.now) result }
         ensures lent { pull.new.source.ghost_name ≡ pull.old.source.ghost_name }
         ensures env { OnOk result (env S.left pull.new ≡ env S.left pull.old) }
-        ensures gives { self.old.refused ≡ None → GivesWant S.left pull.old pull.new result (λ end. serve end wants.now self.old.stand) (λ x rest. (x, self.new.stand, rest)) }
-        ensures reads { WantTaken S.left S.faults pull.old pull.new result (λ end. serve end wants.now self.old.stand) (λ x rest. (x, self.new.stand, rest)) }
-        ensures stops { self.old.refused ≡ None → StopsWant S.left S.faults pull.old pull.new result (λ end. serve end wants.now self.old.stand) }
+        ensures gives { self.old.refused ≡ None → WantGivesTold S.left pull.old pull.new result (λ end. serve end wants.now self.old.stand) (λ x rest. (x, self.new.stand, rest)) }
+        ensures reads { WantReadsTaken S.left S.faults pull.old pull.new result (λ end. serve end wants.now self.old.stand) (λ x rest. (x, self.new.stand, rest)) }
+        ensures stops { self.old.refused ≡ None → WantStopsTaken S.left S.faults pull.old pull.new result (λ end. serve end wants.now self.old.stand) }
     {
         if let Some(earlier) = self.refused {
             return Err(earlier);

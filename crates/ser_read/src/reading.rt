@@ -1,9 +1,9 @@
 //! Reading references and what they begin (Java Object Serialization Specification, 6.4).
 ghost use Rattle.std.specs.Prelude.{◌≢◌, ◌-◌, ◌≤◌, ◌<◌, length};
 ghost use Rattle.ser_values.specs.declared.limits.TheConstants.{LEVELS, NODES};
-ghost use Rattle.ser_values.specs.Reading.{slot_at, coded, fresh_at, text_at, short_at, long_at};
+ghost use Rattle.stream_grammar.specs.Reading.{slot_at, coded, fresh_at, text_at, short_at, long_at};
 ghost use Rattle.ser_read.specs.Named.{class_named};
-ghost use Rattle.ser_read.specs.Does.{Does, GivesNode, GivesText, LeavesRoom};
+ghost use Rattle.ser_read.specs.NodeReading.{ReadsNodes, GivesNode, GivesText, LeavesRoom};
 
 pub(crate) mod annotations;
 mod arrays;
@@ -35,7 +35,7 @@ fn slot<S: Source>(
     left: u32,
 ) -> Result<Slot, StreamFault>
     requires left { left ≤ LEVELS }
-    ensures { Does S.left S.faults pull.old pull.new table.old table.new result (GivesText place) (λ end. slot_at end left place table.old.unread.items) }
+    ensures { ReadsNodes S.left S.faults pull.old pull.new table.old table.new result (GivesText place) (λ end. slot_at end left place table.old.unread.items) }
 {
     let at = pull.at;
     let code = byte(pull)?;
@@ -45,7 +45,7 @@ fn slot<S: Source>(
 /// What a code begins in a place, whose levels may be so many.
 #[cycle(reading)]
 #[inline(always)]
-#[tactic(auto, unfolding(ser_values::specs::Reading::coded))]
+#[tactic(auto, unfolding(stream_grammar::specs::Reading::coded))]
 pub(crate) fn coded<S: Source>(
     alloc: Global,
     pull: &mut Pull<'_, S>,
@@ -56,7 +56,7 @@ pub(crate) fn coded<S: Source>(
     code: u8,
 ) -> Result<Slot, StreamFault>
     requires left { left ≤ LEVELS }
-    ensures { Does S.left S.faults pull.old pull.new table.old table.new result (GivesText place) (λ end. coded end left (slot_at end (left - 1)) place table.old.unread.items at code) }
+    ensures { ReadsNodes S.left S.faults pull.old pull.new table.old table.new result (GivesText place) (λ end. coded end left (slot_at end (left - 1)) place table.old.unread.items at code) }
 {
     if code == 0x70 {
         null(place, at)
@@ -68,7 +68,7 @@ pub(crate) fn coded<S: Source>(
 /// What a code other than null's begins in a place, whose levels may be so many.
 #[cycle(reading)]
 #[inline(never)]
-#[tactic(auto, unfolding(ser_values::specs::Reading::coded))]
+#[tactic(auto, unfolding(stream_grammar::specs::Reading::coded))]
 fn not_null<S: Source>(
     alloc: Global,
     pull: &mut Pull<'_, S>,
@@ -80,7 +80,7 @@ fn not_null<S: Source>(
 ) -> Result<Slot, StreamFault>
     requires left { left ≤ LEVELS }
     requires code { code ≢ 0x70 }
-    ensures { Does S.left S.faults pull.old pull.new table.old table.new result (GivesText place) (λ end. coded end left (slot_at end (left - 1)) place table.old.unread.items at code) }
+    ensures { ReadsNodes S.left S.faults pull.old pull.new table.old table.new result (GivesText place) (λ end. coded end left (slot_at end (left - 1)) place table.old.unread.items at code) }
 {
     if code == 0x71 {
         handle(pull, table, place, at)
@@ -103,7 +103,7 @@ fn not_null<S: Source>(
 
 /// What a code of a node that gets a handle begins.
 #[cycle(reading)]
-#[tactic(auto, unfolding(ser_values::specs::Reading::fresh_at))]
+#[tactic(auto, unfolding(stream_grammar::specs::Reading::fresh_at))]
 fn fresh<S: Source>(
     alloc: Global,
     pull: &mut Pull<'_, S>,
@@ -114,7 +114,7 @@ fn fresh<S: Source>(
 ) -> Result<Slot, StreamFault>
     requires room { length table.old.nodes.items < NODES }
     requires left { left ≤ LEVELS }
-    ensures { Does S.left S.faults pull.old pull.new table.old table.new result GivesNode (λ end. fresh_at end at (slot_at end left) table.old.unread.items code) }
+    ensures { ReadsNodes S.left S.faults pull.old pull.new table.old table.new result GivesNode (λ end. fresh_at end at (slot_at end left) table.old.unread.items code) }
 {
     match code {
         0x72 => desc(alloc, pull, table, at, left),
@@ -130,7 +130,7 @@ fn fresh<S: Source>(
 }
 
 /// A text with a length of 16 bits.
-#[tactic(auto, unfolding(ser_values::specs::Reading::text_at))]
+#[tactic(auto, unfolding(stream_grammar::specs::Reading::text_at))]
 #[inline(never)]
 fn text<S: Source>(
     alloc: Global,
@@ -138,7 +138,7 @@ fn text<S: Source>(
     table: &mut Table,
 ) -> Result<Slot, StreamFault>
     requires room { length table.old.nodes.items < NODES }
-    ensures { Does S.left S.faults pull.old pull.new table.old table.new result GivesNode (λ end. text_at (short_at end)) }
+    ensures { ReadsNodes S.left S.faults pull.old pull.new table.old table.new result GivesNode (λ end. text_at (short_at end)) }
 {
     let text = short_text(alloc, pull)?;
     let number = table.begin(Node::Text(text))?;
@@ -146,14 +146,14 @@ fn text<S: Source>(
 }
 
 /// A text with a length of 64 bits.
-#[tactic(auto, unfolding(ser_values::specs::Reading::text_at))]
+#[tactic(auto, unfolding(stream_grammar::specs::Reading::text_at))]
 fn very_long_text<S: Source>(
     alloc: Global,
     pull: &mut Pull<'_, S>,
     table: &mut Table,
 ) -> Result<Slot, StreamFault>
     requires room { length table.old.nodes.items < NODES }
-    ensures { Does S.left S.faults pull.old pull.new table.old table.new result GivesNode (λ end. text_at (long_at end)) }
+    ensures { ReadsNodes S.left S.faults pull.old pull.new table.old table.new result GivesNode (λ end. text_at (long_at end)) }
 {
     let text = long_text(alloc, pull)?;
     let number = table.begin(Node::Text(text))?;
@@ -171,7 +171,7 @@ fn class<S: Source>(
     left: u32,
 ) -> Result<u32, StreamFault>
     requires left { left ≤ LEVELS }
-    ensures { Does S.left S.faults pull.old pull.new table.old table.new result (LeavesRoom table.new) (λ end. class_named (slot_at end left) table.old.unread.items at) }
+    ensures { ReadsNodes S.left S.faults pull.old pull.new table.old table.new result (LeavesRoom table.new) (λ end. class_named (slot_at end left) table.old.unread.items at) }
 {
     match slot(alloc, pull, table, SlotPlace::Class, left)? {
         Slot::Null => Err(bad(StreamKind::BadCode, at)),

@@ -179,7 +179,7 @@ fn few_codes_of(fields: &[FieldDesc]) -> Codes
     requires { length fields.now ≤ FEW }
     ensures { result ≡ codes_of fields.now }
 {
-    let mut all = [TypeCode::B; FEW];
+    let mut all = [TypeCode::Byte; FEW];
     for index in 0..fields.len() {
         all[index] = fields[index].code;
     }

@@ -4,8 +4,8 @@ ghost use Rattle.wire_io.specs.Pulled.{pull_state};
 ghost use Rattle.class_desc.specs.declared.slot.Item.{Item};
 ghost use Rattle.ser_values.specs.declared.node.Node.{Node};
 ghost use Rattle.ser_read.specs.Here.{coming, IsTold, Caused};
-ghost use Rattle.ser_read.specs.Wants.{GivesWant, StopsWant, WantTaken, want_at, serve, wants_at};
-ghost use Rattle.ser_read.specs.Asked.{IsAsked, TakesAsked, AnswersAsked};
+ghost use Rattle.ser_read.specs.Wants.{WantGivesTold, WantStopsTaken, WantReadsTaken, want_at, serve, wants_at};
+ghost use Rattle.ser_read.specs.SpelledWants.{SpellsWants, TakesWants, AnswersWants};
 
 use crate::fault::StreamFault;
 use crate::reader::Reader;
@@ -35,8 +35,8 @@ fn serve_one<S: Source>(
     requires kept { reader.old.refused ≡ None }
     ensures kept { OnOk result (reader.new.refused ≡ None) }
     ensures lent { pull.new.source.ghost_name ≡ pull.old.source.ghost_name }
-    ensures reads { WantTaken S.left S.faults pull.old pull.new result (λ end. want_at end want reader.old.stand) (λ x rest. (x, reader.new.stand, rest)) }
-    ensures stops { StopsWant S.left S.faults pull.old pull.new result (λ end. want_at end want reader.old.stand) }
+    ensures reads { WantReadsTaken S.left S.faults pull.old pull.new result (λ end. want_at end want reader.old.stand) (λ x rest. (x, reader.new.stand, rest)) }
+    ensures stops { WantStopsTaken S.left S.faults pull.old pull.new result (λ end. want_at end want reader.old.stand) }
 {
     match want {
         Want::Bytes(n) => {
@@ -60,8 +60,8 @@ pub(crate) fn serve_all<S: Source>(
     requires kept { reader.old.refused ≡ None }
     ensures kept { OnOk result (reader.new.refused ≡ None) }
     ensures lent { pull.new.source.ghost_name ≡ pull.old.source.ghost_name }
-    ensures reads { WantTaken S.left S.faults pull.old pull.new result (λ end. serve end wants.now reader.old.stand) (λ x rest. (x, reader.new.stand, rest)) }
-    ensures stops { StopsWant S.left S.faults pull.old pull.new result (λ end. serve end wants.now reader.old.stand) }
+    ensures reads { WantReadsTaken S.left S.faults pull.old pull.new result (λ end. serve end wants.now reader.old.stand) (λ x rest. (x, reader.new.stand, rest)) }
+    ensures stops { WantStopsTaken S.left S.faults pull.old pull.new result (λ end. serve end wants.now reader.old.stand) }
 {
     let mut answers = Items::new(alloc);
     for want in wants {
@@ -79,8 +79,8 @@ fn read_each<S: Source>(
     wants: &[Want],
 ) -> Result<(Items, Graph), StreamFault>
     ensures lent { pull.new.source.ghost_name ≡ pull.old.source.ghost_name }
-    ensures reads { WantTaken S.left S.faults pull.old pull.new result (λ end. wants_at end wants.now) (λ x rest. (x.0, x.1.nodes, x.1.items, rest)) }
-    ensures stops { StopsWant S.left S.faults pull.old pull.new result (λ end. wants_at end wants.now) }
+    ensures reads { WantReadsTaken S.left S.faults pull.old pull.new result (λ end. wants_at end wants.now) (λ x rest. (x.0, x.1.nodes, x.1.items, rest)) }
+    ensures stops { WantStopsTaken S.left S.faults pull.old pull.new result (λ end. wants_at end wants.now) }
 {
     let mut reader = Reader::start(alloc, pull)?;
     let answers = serve_all(alloc, pull, &mut reader, wants)?;
@@ -90,8 +90,8 @@ fn read_each<S: Source>(
 
 /// Reads a stream of which this is asked, one want after the other and then the end: what each gave, and the graph of it all.
 ///
-/// The stream need not end the input: no byte behind what was asked is taken. What it answers is what `IsAsked` says of the bytes taken, and no
-/// proper front of them says it of the same wants ([`crate::laws::asked_is_one`]).
+/// The stream need not end the input: no byte behind what was asked is taken. What it answers is what `SpellsWants` says of the bytes taken, and no
+/// proper front of them says it of the same wants ([`crate::laws::spelled_is_one`]).
 pub fn read_wants<S: Source>(
     alloc: Global,
     pull: &mut Pull<'_, S>,
@@ -99,10 +99,10 @@ pub fn read_wants<S: Source>(
 ) -> Result<(Items, Graph), StreamFault>
     ensures lent { pull.new.source.ghost_name ≡ pull.old.source.ghost_name }
     ensures cause { Caused (S.faults pull.old.source.now) (S.faults pull.new.source.now) result }
-    ensures gives { GivesWant S.left pull.old pull.new result (λ end. wants_at end wants.now) (λ x rest. (x.0, x.1.nodes, x.1.items, rest)) }
-    ensures stops { StopsWant S.left S.faults pull.old pull.new result (λ end. wants_at end wants.now) }
-    ensures spelled { IfOk result (λ x. TakesAsked (pull_state S.left S.faults pull.old) (pull_state S.left S.faults pull.new) wants.now x.0 x.1.nodes x.1.items) }
-    ensures complete { (answers : List Item) (nodes : List Node) (bytes rest : List ℕ) → IsTold S.left pull.old → coming S.left pull.old ≡ 0xAC ∷ 0xED ∷ 0x00 ∷ 0x05 ∷ (bytes ++ rest) → IsAsked wants.now answers nodes bytes → AnswersAsked answers nodes rest (coming S.left pull.new) result }
+    ensures gives { WantGivesTold S.left pull.old pull.new result (λ end. wants_at end wants.now) (λ x rest. (x.0, x.1.nodes, x.1.items, rest)) }
+    ensures stops { WantStopsTaken S.left S.faults pull.old pull.new result (λ end. wants_at end wants.now) }
+    ensures spelled { IfOk result (λ x. TakesWants (pull_state S.left S.faults pull.old) (pull_state S.left S.faults pull.new) wants.now x.0 x.1.nodes x.1.items) }
+    ensures complete { (answers : List Item) (nodes : List Node) (bytes rest : List ℕ) → IsTold S.left pull.old → coming S.left pull.old ≡ 0xAC ∷ 0xED ∷ 0x00 ∷ 0x05 ∷ (bytes ++ rest) → SpellsWants wants.now answers nodes bytes → AnswersWants answers nodes rest (coming S.left pull.new) result }
 {
     read_each(alloc, pull, wants)
 }

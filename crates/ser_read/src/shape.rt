@@ -5,9 +5,9 @@ ghost use Rattle.class_desc.specs.declared.slot.Slot.{Slot};
 ghost use Rattle.class_desc.specs.declared.slot.Slot.TheVariants as slots;
 ghost use Rattle.ser_values.specs.declared.limits.TheConstants.{PARTS};
 ghost use Rattle.ser_values.specs.declared.node.Node.TheVariants.{Desc};
-ghost use Rattle.ser_values.specs.Reading.{Row, chain_above, chain_of, class_fault, rows_of, old_external, bad_desc};
-ghost use Rattle.ser_read.specs.Rows.{class_rows};
-ghost use Rattle.ser_read.specs.Chains.{shown, climbed};
+ghost use Rattle.stream_grammar.specs.Reading.{Row, chain_above, chain_of, class_fault, rows_of, old_external, bad_desc};
+ghost use Rattle.ser_read.specs.ObjectRows.{class_rows};
+ghost use Rattle.ser_read.specs.Chains.{shown, climb_by};
 ghost use Rattle.ser_read.specs.Here.{kind_of, IsInBytes};
 
 use crate::fault::StreamKind;
@@ -67,7 +67,7 @@ fn both(a: bool, b: bool) -> bool
 /// What a node of a chain is.
 #[inline(never)]
 fn link_of(alloc: Global, node: &Node) -> Result<Climb, AllocError>
-    ensures { IfOk result (λ climb. (above : Slot → List Row × Bool) → shown (chain_above above (Some node.now)) ≡ climbed above climb) }
+    ensures { IfOk result (λ climb. (above : Slot → List Row × Bool) → shown (chain_above above (Some node.now)) ≡ climb_by above climb) }
 {
     match node {
         Node::Desc(desc) => {
@@ -97,9 +97,9 @@ fn link_of(alloc: Global, node: &Node) -> Result<Climb, AllocError>
 }
 
 /// One step up a chain.
-#[tactic(auto, unfolding(ser_values::specs::Reading::chain_of))]
+#[tactic(auto, unfolding(stream_grammar::specs::Reading::chain_of))]
 fn step_up(alloc: Global, nodes: &[Node], slot: Slot) -> Result<Climb, AllocError>
-    ensures { IfOk result (λ climb. (n : ℕ) → shown (chain_of (suc n) nodes.now slot) ≡ climbed (chain_of n nodes.now) climb) }
+    ensures { IfOk result (λ climb. (n : ℕ) → shown (chain_of (suc n) nodes.now slot) ≡ climb_by (chain_of n nodes.now) climb) }
 {
     match slot {
         Slot::Null => Ok(Climb::Top),

@@ -1,7 +1,7 @@
 //! The texts that bytes spell in modified UTF (Java Object Serialization Specification, 6.2).
 ghost use Rattle.std.specs.Prelude.{◌≡◌, ◌+◌, ◌++◌, ◌≤◌, All, IfErr, length, true, vec_len, vec_capacity};
 ghost use Rattle.mod_utf.specs.Utf.{SpellsItself};
-ghost use Rattle.mod_utf.specs.Decoding.{decoded, IsUnread, GivesUnits};
+ghost use Rattle.mod_utf.specs.Decoding.{decoded_units, IsUnread, GivesUnits};
 
 use mod_utf::decode::{UtfFault, decode_onto};
 use sequence::Units;
@@ -13,7 +13,7 @@ use std::alloc::Global;
 #[inline(always)]
 pub(crate) fn spelled(alloc: Global, bytes: &[u8]) -> Result<Units, UtfFault>
     ensures err { IfErr result (λ fault. IsUnread bytes.now fault) }
-    ensures value { GivesUnits result (decoded bytes.now) }
+    ensures value { GivesUnits result (decoded_units bytes.now) }
 {
     let mut units = Vec::new(alloc);
     if units.reserve_exact(bytes.len()).is_err() {
@@ -47,7 +47,7 @@ fn push_plain(units: &mut Vec<u16>, bytes: &[u8]) -> bool
 #[inline(never)]
 fn decoded(alloc: Global, bytes: &[u8]) -> Result<Units, UtfFault>
     ensures err { IfErr result (λ fault. IsUnread bytes.now fault) }
-    ensures value { GivesUnits result (decoded bytes.now) }
+    ensures value { GivesUnits result (decoded_units bytes.now) }
 {
     let mut units = Units::new(alloc);
     if units.reserve(bytes.len() / 3).is_err() {

@@ -83,7 +83,7 @@ fn write_object(place: &mut Node, class: u32, parts: PartList)
 
 impl Table {
     ghost use Rattle.ser_values.specs.Shape.{is_enum, fits_type};
-    ghost use Rattle.ser_values.specs.Reading.{push, fill, type_in, handle_fault, bad_desc, wrong_handle_kind};
+    ghost use Rattle.stream_grammar.specs.Reading.{push, fill, type_in, handle_fault, bad_desc, wrong_handle_kind};
     ghost use Rattle.ser_read.specs.Tables.{now_of};
     ghost use Rattle.ser_read.specs.Here.{kind_of, IsInBytes};
 

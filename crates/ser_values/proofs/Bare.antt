@@ -1,6 +1,8 @@
 -- Graphs that differ in the bytes of their objects' notes alone are numbered and shaped alike.
 use Rattle.std.proofs.Common.{◌≡◌, ◌&&◌, ◌||◌, not, ℕ, zero, suc, ◌<◌, ◌^◌, Bool, true, false, List, [], ◌∷◌, ◌++◌, map, length, Option, Some, None, slice_get, refl, sym, ap, subst, ◌∙◌, arith}
 use Rattle.std.specs.Prelude.{All, option_map, slice_set}
+use Rattle.std.proofs.lemmas.Option.{slice_get-map}
+use Rattle.std.proofs.lemmas.List.{length-map}
 use Rattle.class_desc.specs.declared.slot.Slot.{Slot}
 use Rattle.class_desc.specs.declared.slot.Slot.TheVariants as slots
 use Rattle.class_desc.specs.declared.slot.Item.{Item}
@@ -46,16 +48,6 @@ bare (Enum c t) = Enum c t
 
 abbrev bares : List Node → List Node
 bares nodes = map bare nodes
-
-got : {X Y : Type 0} (f : X → Y) (xs : List X) (k : ℕ) → slice_get (map f xs) k ≡ option_map f (slice_get xs k)
-got f [] zero = refl
-got f [] (suc k) = refl
-got f (x ∷ xs) zero = refl
-got f (x ∷ xs) (suc k) = got f xs k
-
-long : {X Y : Type 0} (f : X → Y) (xs : List X) → length (map f xs) ≡ length xs
-long f [] = refl
-long f (x ∷ xs) = ap suc (long f xs)
 
 -- ---- what it keeps
 
@@ -162,7 +154,7 @@ chain_same nodes ps (suc n) slots.Null = refl
 chain_same nodes ps (suc n) (slots.Node k) =
     let here : fits_above (fits_chain (bares nodes) (map bare_part ps) n) (option_map bare_part (slice_get ps n)) (option_map bare (slice_get nodes k)) ≡ fits_above (fits_chain nodes ps n) (slice_get ps n) (slice_get nodes k)
     = above_same (fits_chain (bares nodes) (map bare_part ps) n) (fits_chain nodes ps n) (chain_same nodes ps n) (slice_get ps n) (slice_get nodes k) in
-    rw (got bare_part ps n, got bare nodes k) here
+    rw (slice_get-map bare_part ps n, slice_get-map bare nodes k) here
 
 external_same : (ps : List Part) → is_external (map bare_part ps) ≡ is_external ps
 external_same [] = refl
@@ -215,7 +207,7 @@ node_same code (Some (Enum c t)) = refl
 
 type_same : (nodes : List Node) (code : TypeCode) (s : Slot) → fits_type (bares nodes) code s ≡ fits_type nodes code s
 type_same nodes code slots.Null = refl
-type_same nodes code (slots.Node k) = rw (got bare nodes k) (ap (λ z. not (is_primitive code) && z) (node_same code (slice_get nodes k)))
+type_same nodes code (slots.Node k) = rw (slice_get-map bare nodes k) (ap (λ z. not (is_primitive code) && z) (node_same code (slice_get nodes k)))
 
 typed_same : (nodes : List Node) (fs : List FieldDesc) → are_typed (bares nodes) fs ≡ are_typed nodes fs
 unfolding are_typed
@@ -227,10 +219,10 @@ unfolding is_shaped bare
 shaped_same nodes (Text t) = refl
 shaped_same nodes (Desc d) = rw (typed_same nodes d.fields) refl
 shaped_same nodes (Proxy p) = refl
-shaped_same nodes (Object c ps) = rw (got bare nodes c, long bare_part ps, chain_same nodes ps (length ps) (slots.Node c)) (object_same (slice_get nodes c) ps (fits_chain nodes ps (length ps) (slots.Node c)))
-shaped_same nodes (Array c vs) = rw (got bare nodes c) (array_same (slice_get nodes c) vs)
+shaped_same nodes (Object c ps) = rw (slice_get-map bare nodes c, length-map ps bare_part, chain_same nodes ps (length ps) (slots.Node c)) (object_same (slice_get nodes c) ps (fits_chain nodes ps (length ps) (slots.Node c)))
+shaped_same nodes (Array c vs) = rw (slice_get-map bare nodes c) (array_same (slice_get nodes c) vs)
 shaped_same nodes (Class c) = refl
-shaped_same nodes (Enum c t) = rw (got bare nodes c) (enum_same (slice_get nodes c))
+shaped_same nodes (Enum c t) = rw (slice_get-map bare nodes c) (enum_same (slice_get nodes c))
 
 -- ---- its numbers
 
@@ -242,10 +234,10 @@ all_to N M f [] n m h = h
 all_to N M f (w ∷ ws) n m h = (h.0, f w n h.0 h.1, all_to N M f ws h.0 m h.2)
 
 there : (nodes : List Node) (k : ℕ) (i : Node) → slice_get nodes k ≡ Some i → slice_get (bares nodes) k ≡ Some (bare i)
-there nodes k i is = got bare nodes k ∙ ap (λ (o : Option Node). option_map bare o) is
+there nodes k i is = slice_get-map bare nodes k ∙ ap (λ (o : Option Node). option_map bare o) is
 
 back : (nodes : List Node) (k : ℕ) (j : Node) → slice_get (bares nodes) k ≡ Some j → (i : Node) × (slice_get nodes k ≡ Some i) × (bare i ≡ j)
-back nodes k j is = go (slice_get nodes k) refl (sym (got bare nodes k) ∙ is)
+back nodes k j is = go (slice_get nodes k) refl (sym (slice_get-map bare nodes k) ∙ is)
   where
     go : (o : Option Node) → slice_get nodes k ≡ o → option_map bare o ≡ Some j → (i : Node) × (slice_get nodes k ≡ Some i) × (bare i ≡ j)
     go None e f = absurd cc
@@ -293,7 +285,7 @@ parts_same [] = refl
 parts_same (Text t ∷ nodes) = let h = parts_same nodes in omega arith
 parts_same (Desc d ∷ nodes) = let h = parts_same nodes in omega arith
 parts_same (Proxy p ∷ nodes) = let h = parts_same nodes in omega arith
-parts_same (Object c ps ∷ nodes) = let h = parts_same nodes in let l = long bare_part ps in omega arith
+parts_same (Object c ps ∷ nodes) = let h = parts_same nodes in let l = length-map ps bare_part in omega arith
 parts_same (Array c vs ∷ nodes) = let h = parts_same nodes in omega arith
 parts_same (Class c ∷ nodes) = let h = parts_same nodes in omega arith
 parts_same (Enum c t ∷ nodes) = let h = parts_same nodes in omega arith
@@ -301,7 +293,7 @@ parts_same (Enum c t ∷ nodes) = let h = parts_same nodes in omega arith
 -- nodes that are alike but for the bytes of notes are a graph with the same items
 alike_graph : (A B : List Node) (is : List Item) → bares A ≡ bares B → All InRange B → IsGraph A is → IsGraph B is
 alike_graph A B is e ranged g =
-    let len : length A ≡ length B = sym (long bare A) ∙ (ap (λ (l : List Node). length l) e ∙ long bare B) in
+    let len : length A ≡ length B = sym (length-map A bare) ∙ (ap (λ (l : List Node). length l) e ∙ length-map B bare) in
     let wants = item_wants is in
     let one = all_to (Numbered A 200 []) (Numbered (bares A) 200 []) (bared A 200 []) wants 0 (length A) g.numbered in
     let two : NumberAll (Numbered (bares B) 200 []) wants 0 (length A) = subst (λ (l : List Node). NumberAll (Numbered l 200 []) wants 0 (length A)) e one in

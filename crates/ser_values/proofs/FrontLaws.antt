@@ -2,7 +2,7 @@
 use Rattle.std.proofs.Common.{◌≡◌, ◌≢◌, ◌⊎◌, ◌||◌, not, ℕ, zero, suc, ◌+◌, ◌<◌, ◌≤◌, ◌^◌, Bool, true, false, cond, eqb, ltb, List, [], ◌∷◌, ◌++◌, length, take, drop, Some, None, refl, sym, ap, subst, ◌∙◌, arith, inl, inr}
 use Rattle.std.specs.Prelude.{All}
 use Rattle.std.proofs.lemmas.List.Elements.{All-cons, All-head, All-tail, All-drop}
-use Rattle.std.proofs.lemmas.Bool.{eqb-true, eqb-false, ltb-false, lt-ltb, le-ltb, cases_eq}
+use Rattle.std.proofs.lemmas.Bool.{eqb-true, eqb-false, ltb-false, lt-ltb, le-ltb, cases_eq, and_parts, ne_eqb}
 use Rattle.class_desc.specs.declared.slot.Item.{Item}
 use Rattle.class_desc.specs.declared.slot.Item.TheVariants as items
 use Rattle.class_desc.specs.TypeText.{is_nil}
@@ -11,11 +11,25 @@ use Rattle.ser_values.specs.Node.{Want, item_wants}
 use Rattle.ser_values.specs.Numbered.{NumberAll, Numbered, IsGraph}
 use Rattle.ser_values.specs.Ranges.{ItemFits, ItemsFit}
 use Rattle.ser_values.specs.Shape.{joined_from, is_joined}
-use Rattle.ser_values.specs.Spelled.{put_block}
-use Rattle.ser_values.specs.Fronts.{front_len, without_front, HasFront}
+use Rattle.ser_values.specs.Fronts.{put_block, front_len, without_front, HasFront}
 use Rattle.ser_values.proofs.Lists.{some_same}
 use Rattle.ser_values.proofs.Ranged.{block_fits}
-use Rattle.ser_values.proofs.Spelling.{both, joined_put, put_wants}
+
+-- ---- bytes before items
+
+pub put_wants : (b : List ℕ) (is : List Item) → item_wants (put_block b is) ≡ item_wants is
+unfolding item_wants
+put_wants [] is = refl
+put_wants (x ∷ b) [] = refl
+put_wants (x ∷ b) (items.Bytes p ∷ is) = refl
+put_wants (x ∷ b) (items.Ref s ∷ is) = refl
+
+pub joined_put : (b : List ℕ) (is : List Item) → is_joined is ≡ true → is_joined (put_block b is) ≡ true
+unfolding joined_from
+joined_put [] is h = h
+joined_put (x ∷ b) [] h = refl
+joined_put (x ∷ b) (items.Bytes p ∷ is) h = (and_parts (not (false || is_nil p)) (joined_from true is) h).1
+joined_put (x ∷ b) (items.Ref s ∷ is) h = h
 
 -- ---- what is cut away
 
@@ -44,13 +58,6 @@ whole_cut (suc n) (items.Bytes b ∷ is) ne e =
     let same : eqb (length b) (suc n) ≡ true = subst (λ k. eqb k (suc n) ≡ true) e (eqb_same (suc n)) in
     rw long (rw same refl)
 
-pub ne_eqb : (m n : ℕ) → m ≢ n → eqb m n ≡ false
-ne_eqb m n ne = go (eqb m n) refl
-  where
-    go : (b : Bool) → eqb m n ≡ b → eqb m n ≡ false
-    go true e = absurd (ne (eqb-true m n e))
-    go false e = e
-
 pub part_cut : (n : ℕ) (b : List ℕ) (is whole : List Item) → n ≢ 0 → n < length b → whole ≡ items.Bytes b ∷ is → without_front n whole ≡ Some (items.Bytes (drop n b) ∷ is)
 part_cut zero b is whole ne lt e = absurd (ne refl)
 part_cut (suc n) b is whole ne lt e =
@@ -60,18 +67,19 @@ part_cut (suc n) b is whole ne lt e =
 
 -- ---- joined items
 
-later_joined : (is : List Item) → joined_from true is ≡ true → is_joined is ≡ true
+pub later_joined : (is : List Item) → joined_from true is ≡ true → is_joined is ≡ true
 unfolding joined_from
 later_joined [] h = refl
 later_joined (items.Ref s ∷ is) h = h
 later_joined (items.Bytes b ∷ is) h = absurd cc
 
 -- what stands after bytes begins with none
-put_apart : (x : ℕ) (b : List ℕ) (is : List Item) → joined_from true is ≡ true → put_block (x ∷ b) is ≡ items.Bytes (x ∷ b) ∷ is
+pub put_apart : (b : List ℕ) (is : List Item) → is_nil b ≡ false → joined_from true is ≡ true → put_block b is ≡ items.Bytes b ∷ is
 unfolding joined_from
-put_apart x b [] h = refl
-put_apart x b (items.Ref s ∷ is) h = refl
-put_apart x b (items.Bytes p ∷ is) h = absurd cc
+put_apart [] is h j = absurd cc
+put_apart (x ∷ b) [] h j = refl
+put_apart (x ∷ b) (items.Ref s ∷ is) h j = refl
+put_apart (x ∷ b) (items.Bytes p ∷ is) h j = absurd cc
 
 take-drop : {X : Type 0} (n : ℕ) (xs : List X) → take n xs ++ drop n xs ≡ xs
 take-drop zero xs = refl
@@ -110,7 +118,7 @@ unfolding joined_from
 cut_front zero is rest j e = record { bytes = []; count = refl; joined = ap is_joined (sym (some_same is rest e)) ∙ j; parts = some_same is rest e }
 cut_front (suc n) [] rest j e = absurd cc
 cut_front (suc n) (items.Ref s ∷ is) rest j e = absurd cc
-cut_front (suc n) (items.Bytes b ∷ is) rest j e = go (ltb (length b) (suc n)) (eqb (length b) (suc n)) refl refl e (both (not (false || is_nil b)) (joined_from true is) j)
+cut_front (suc n) (items.Bytes b ∷ is) rest j e = go (ltb (length b) (suc n)) (eqb (length b) (suc n)) refl refl e (and_parts (not (false || is_nil b)) (joined_from true is) j)
   where
     go : (c d : Bool) → ltb (length b) (suc n) ≡ c → eqb (length b) (suc n) ≡ d → cond c None (Some (cond d is (items.Bytes (drop (suc n) b) ∷ is))) ≡ Some rest → (not (false || is_nil b) ≡ true) × (joined_from true is ≡ true) → HasFront (suc n) (items.Bytes b ∷ is) rest
     go true d f g e p = absurd cc
@@ -120,7 +128,7 @@ cut_front (suc n) (items.Bytes b ∷ is) rest j e = go (ltb (length b) (suc n)) 
       where
         whole : (b : List ℕ) → length b ≡ suc n → joined_from true is ≡ true → items.Bytes b ∷ is ≡ put_block b is
         whole [] l p = absurd (omega arith)
-        whole (x ∷ b) l p = sym (put_apart x b is p)
+        whole (x ∷ b) l p = sym (put_apart (x ∷ b) is refl p)
     go false false f g e p =
         let long : suc n ≤ length b = ltb-false _ _ f in
         let ne = eqb-false _ _ g in

@@ -1,6 +1,6 @@
 -- Lists of numbers, and places of lists.
-use Rattle.std.proofs.Common.{◌≡◌, ◌≢◌, ◌||◌, ℕ, zero, suc, ◌≤◌, ◌<◌, Bool, true, false, cond, eqb, List, [], ◌∷◌, ◌++◌, length, get_or, Some, slice_get, slice_set, refl, sym, ap, ◌∙◌, append_assoc, arith}
-use Rattle.std.proofs.lemmas.Bool.{eqb-true, eqb-false}
+use Rattle.std.proofs.Common.{◌≡◌, ◌≢◌, ℕ, zero, suc, ◌≤◌, ◌<◌, Bool, true, false, cond, eqb, List, [], ◌∷◌, ◌++◌, length, get_or, Some, slice_get, slice_set, refl, sym, ap, ◌∙◌, append_assoc, arith}
+use Rattle.std.proofs.lemmas.Bool.{eqb-true, eqb-false, or_parts}
 use Rattle.std.proofs.Math.Seq.{set-append_seam}
 use Rattle.ser_values.specs.Node.{has}
 
@@ -20,10 +20,6 @@ slice_get-set_other (x ∷ xs) zero (suc k) y h = refl
 slice_get-set_other (x ∷ xs) (suc n) zero y h = refl
 slice_get-set_other (x ∷ xs) (suc n) (suc k) y h = slice_get-set_other xs n k y (λ e. h (ap suc e))
 
-or_false : (a b : Bool) → (a || b) ≡ false → (a ≡ false) × (b ≡ false)
-or_false true b h = absurd cc
-or_false false b h = (refl, h)
-
 eqb_other : (n k : ℕ) → k ≢ n → eqb n k ≡ false
 eqb_other n k ne = go (eqb n k) refl
   where
@@ -33,9 +29,9 @@ eqb_other n k ne = go (eqb n k) refl
 
 pub has-append_no : (xs : List ℕ) (n k : ℕ) → has (xs ++ n ∷ []) k ≡ false → (has xs k ≡ false) × (k ≢ n)
 unfolding has
-has-append_no [] n k h = (refl, λ e. eqb-false n k (or_false (eqb n k) false h).0 (sym e))
+has-append_no [] n k h = (refl, λ e. eqb-false n k (or_parts (eqb n k) false h).0 (sym e))
 has-append_no (x ∷ xs) n k h =
-    let p = or_false (eqb x k) (has (xs ++ n ∷ []) k) h in
+    let p = or_parts (eqb x k) (has (xs ++ n ∷ []) k) h in
     let r = has-append_no xs n k p.1 in
     (rw p.0 r.0, r.1)
 
@@ -43,7 +39,7 @@ pub has-append_other : (xs : List ℕ) (n k : ℕ) → has xs k ≡ false → k 
 unfolding has
 has-append_other [] n k h ne = let e = eqb_other n k ne in rw e refl
 has-append_other (x ∷ xs) n k h ne =
-    let p = or_false (eqb x k) (has xs k) h in
+    let p = or_parts (eqb x k) (has xs k) h in
     rw p.0 (has-append_other xs n k p.1 ne)
 
 pub has_not : (xs : List ℕ) (n : ℕ) → ((k : ℕ) → has xs k ≡ true → k < n) → (k : ℕ) → n ≤ k → has xs k ≡ false

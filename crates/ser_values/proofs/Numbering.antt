@@ -1,6 +1,6 @@
 -- Loose nodes in the order of their handles are numbered.
 use Rattle.std.proofs.Common.{◌≡◌, ◌||◌, ◌&&◌, not, ℕ, zero, suc, ◌+◌, ◌<◌, Bool, true, false, cond, eqb, List, [], ◌∷◌, ◌++◌, map, length, Some, slice_get, refl, sym, ap, subst, ◌∙◌, append_assoc, arith, inl, inr}
-use Rattle.std.proofs.lemmas.Bool.{eqb-true, eqb-false, cases_eq}
+use Rattle.std.proofs.lemmas.Bool.{eqb-true, eqb-false, cases_eq, or_parts, or_right}
 use Rattle.std.proofs.lemmas.List.{length-append, length-map, append-nil}
 use Rattle.class_desc.specs.declared.slot.Slot.TheVariants as slots
 use Rattle.ser_values.specs.declared.node.Node.{Node}
@@ -17,14 +17,6 @@ use Rattle.ser_values.proofs.Keeps.{has-push_last, has-push_other}
 use Rattle.ser_values.proofs.Added.{in_of, has-seam, has-append_left, place_is, place_once, look, IsAdding, visits_add, all_adds}
 use Rattle.ser_values.proofs.Renumbered.{map_push, is_desc-node_by, is_text-node_by, admits-node_by, want_by, before-node_by, after-node_by, Closed, is_shaped-reordered}
 
-or_false : (a b : Bool) → (a || b) ≡ false → (a ≡ false) × (b ≡ false)
-or_false true b h = absurd cc
-or_false false b h = (refl, h)
-
-pub or_right : (a b : Bool) → b ≡ true → (a || b) ≡ true
-or_right true b h = refl
-or_right false b h = h
-
 both : (a b : Bool) → (a && not b) ≡ true → (a ≡ true) × (b ≡ false)
 both false b h = absurd cc
 both true true h = absurd cc
@@ -38,7 +30,7 @@ has-map_place : (F unread : List ℕ) (j : ℕ) → Once F → ((x : ℕ) → ha
 unfolding has
 has-map_place F [] j once sub hj n = refl
 has-map_place F (x ∷ xs) j once sub hj n =
-    let p = or_false (eqb x j) (has xs j) n in
+    let p = or_parts (eqb x j) (has xs j) n in
     let rest = has-map_place F xs j once (λ y h. sub y (or_right (eqb x y) (has xs y) h)) hj p.1 in
     go (eqb (place_in F x) (place_in F j)) refl p.0 rest
   where

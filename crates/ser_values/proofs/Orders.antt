@@ -1,6 +1,7 @@
 -- A walk ends with the order of the visits, where there is one.
 use Rattle.std.proofs.Common.{◌≡◌, ℕ, zero, suc, ◌<◌, Bool, true, false, cond, eqb, List, [], ◌∷◌, ◌++◌, Option, Some, None, slice_get, refl, sym, ap, ◌∙◌, arith, not, ◌&&◌}
 use Rattle.std.proofs.Math.Dec.{eqb-suc-zero}
+use Rattle.std.proofs.lemmas.Bool.{and_parts}
 use Rattle.class_desc.specs.declared.slot.Slot.TheVariants as slots
 use Rattle.ser_values.specs.declared.node.SlotPlace.{SlotPlace}
 use Rattle.ser_values.specs.declared.node.Node.{Node}
@@ -43,15 +44,11 @@ if_not_stop : (b : Bool) (w : Walk) (y : List ℕ) → end_of (cond b w stop) �
 if_not_stop true w y e = (refl, e)
 if_not_stop false w y e = none_some y e
 
-and_true : (a b : Bool) → (a && b) ≡ true → (a ≡ true) × (b ≡ true)
-and_true true b e = (refl, e)
-and_true false b e = absurd cc
-
 new_is : (nodes : List Node) (left : ℕ) (place : SlotPlace) (i : Node) → is_new nodes left place i ≡ true → (0 < left) × (admits place i ≡ true) × (is_shaped nodes i ≡ true)
 new_is nodes zero place i e = absurd cc
 new_is nodes (suc d) place i e =
-    let p = and_true (not (eqb (suc d) 0)) (admits place i && is_shaped nodes i) e in
-    let q = and_true (admits place i) (is_shaped nodes i) p.1 in
+    let p = and_parts (not (eqb (suc d) 0)) (admits place i && is_shaped nodes i) e in
+    let q = and_parts (admits place i) (is_shaped nodes i) p.1 in
     (omega arith, q.0, q.1)
 
 is_new_of : (nodes : List Node) (left : ℕ) (place : SlotPlace) (i : Node) → 0 < left → admits place i ≡ true → is_shaped nodes i ≡ true → is_new nodes left place i ≡ true

@@ -1,16 +1,12 @@
 -- A table of places.
-use Rattle.std.proofs.Common.{◌≡◌, ◌≢◌, ◌||◌, ℕ, zero, suc, ◌+◌, ◌-◌, ◌<◌, ◌≤◌, Bool, true, false, cond, eqb, List, [], ◌∷◌, length, drop, drop-cons, get_or, add-one, Some, slice_get, slice_set, refl, sym, ap, ◌∙◌, arith}
-use Rattle.std.proofs.lemmas.Bool.{eqb-true, eqb-false}
+use Rattle.std.proofs.Common.{◌≡◌, ◌≢◌, ℕ, zero, suc, ◌+◌, ◌-◌, ◌<◌, ◌≤◌, Bool, true, false, cond, eqb, List, [], ◌∷◌, length, drop, drop-cons, get_or, add-one, Some, slice_get, slice_set, refl, sym, ap, ◌∙◌, arith}
+use Rattle.std.proofs.lemmas.Bool.{eqb-true, eqb-false, or_right}
 use Rattle.ser_values.specs.Node.{has}
 use Rattle.ser_values.specs.Seen.{Once}
 use Rattle.ser_values.specs.Renumber.{place_in, HasPlaces, AllBelow}
 use Rattle.ser_values.proofs.Lists.{slice_get-set_other}
 use Rattle.ser_values.proofs.Keeps.{set_here}
 use Rattle.ser_values.proofs.Added.{has-seam}
-
-or_right : (a b : Bool) → b ≡ true → (a || b) ≡ true
-or_right true b h = refl
-or_right false b h = h
 
 pub placed_none : (xs : List ℕ) (b : ℕ) (places : List ℕ) → xs ≡ [] → HasPlaces xs b places
 unfolding has

@@ -1,5 +1,5 @@
 -- Numbers stay in range: in lists, under new numbers, and where a reference is written over.
-use Rattle.std.proofs.Common.{◌≡◌, ℕ, zero, suc, ◌<◌, ◌^◌, Bool, true, false, List, [], ◌∷◌, ◌++◌, map, length, take, drop, Option, Some, None, slice_get, refl, sym, ap, subst, arith}
+use Rattle.std.proofs.Common.{◌≡◌, ℕ, zero, suc, ◌<◌, ◌^◌, Bool, true, false, List, [], ◌∷◌, ◌++◌, map, length, take, drop, Option, Some, None, slice_get, refl, sym, ap, subst, arith, get_or}
 use Rattle.std.specs.Prelude.{All, option_map, slice_set}
 use Rattle.std.proofs.lemmas.List.Elements.{All-nil, All-cons, All-head, All-tail, All-append, All-set, All-map, All-weaker}
 use Rattle.mod_utf.proofs.Fronts.{AreUnits}
@@ -15,7 +15,7 @@ use Rattle.ser_values.specs.declared.value.Part.{Part}
 use Rattle.ser_values.specs.declared.node.Node.{Node}
 use Rattle.ser_values.specs.declared.node.Node.TheVariants.{Text, Desc, Proxy, Object, Array, Class, Enum}
 use Rattle.ser_values.specs.Builder.{put, value_to, slot_to, values_to, part_to, node_to, with_reference, or_none}
-use Rattle.ser_values.specs.Spelled.{put_block, joined}
+use Rattle.ser_values.specs.Fronts.{put_block}
 use Rattle.ser_values.specs.Ranges.{ValueFits, ElementsFit, ItemFits, ItemsFit, PartFits, NumbersFit, TextFits, NameFits, UnitsFit, InRange}
 use Rattle.ser_values.specs.Renumber.{Renaming, item_by, field_by, value_by, part_by, values_by, node_by, place_in, node_or_by, reordered}
 use Rattle.ser_values.proofs.Lists.{some_same}
@@ -40,6 +40,11 @@ pub units_all : (us : List ℕ) → AreUnits us → TextFits us
 units_all [] h = All-nil (λ u. u < 2 ^ 16)
 units_all (u ∷ us) h = All-cons (λ u. u < 2 ^ 16) u us h.0 (units_all us h.1)
 
+-- Bytes that are in range, each at its place, are so all together.
+pub all_fit : (bs : List ℕ) → ((i : ℕ) → get_or bs i 0 < 256) → All (λ x. x < 2 ^ 8) bs
+all_fit [] h = All-nil (λ x. x < 2 ^ 8)
+all_fit (b ∷ bs) h = All-cons (λ x. x < 2 ^ 8) b bs (h 0) (all_fit bs (λ i. h (suc i)))
+
 -- ---- items
 
 -- bytes before items, which join those that they begin with
@@ -48,11 +53,6 @@ block_fits [] is p h = h
 block_fits (x ∷ b) [] p h = All-cons ItemFits (items.Bytes (x ∷ b)) [] p h
 block_fits (x ∷ b) (items.Bytes q ∷ is) p h = All-cons ItemFits (items.Bytes ((x ∷ b) ++ q)) is (All-append (λ x. x < 2 ^ 8) (x ∷ b) q p (All-head ItemFits (items.Bytes q) is h)) (All-tail ItemFits (items.Bytes q) is h)
 block_fits (x ∷ b) (items.Ref s ∷ is) p h = All-cons ItemFits (items.Bytes (x ∷ b)) (items.Ref s ∷ is) p h
-
-pub joined_fit : (is : List Item) → ItemsFit is → ItemsFit (joined is)
-joined_fit [] h = h
-joined_fit (items.Bytes p ∷ is) h = block_fits p (joined is) (All-head ItemFits (items.Bytes p) is h) (joined_fit is (All-tail ItemFits (items.Bytes p) is h))
-joined_fit (items.Ref s ∷ is) h = All-cons ItemFits (items.Ref s) (joined is) tt (joined_fit is (All-tail ItemFits (items.Ref s) is h))
 
 -- ---- under new numbers
 
@@ -64,14 +64,14 @@ pub items_kept : (f : Renaming) (is : List Item) → ItemsFit is → ItemsFit (m
 items_kept f is h = All-map ItemFits (item_by f) is (All-weaker ItemFits (λ i. ItemFits (item_by f i)) (item_kept f) is h)
 
 value_kept : (f : Renaming) (v : Value) → ValueFits v → ValueFits (value_by f v)
-value_kept f (values.B v) h = h
-value_kept f (values.C v) h = h
-value_kept f (values.D v) h = h
-value_kept f (values.F v) h = h
-value_kept f (values.I v) h = h
-value_kept f (values.J v) h = h
-value_kept f (values.S v) h = h
-value_kept f (values.Z v) h = h
+value_kept f (values.Byte v) h = h
+value_kept f (values.Char v) h = h
+value_kept f (values.Double v) h = h
+value_kept f (values.Float v) h = h
+value_kept f (values.Int v) h = h
+value_kept f (values.Long v) h = h
+value_kept f (values.Short v) h = h
+value_kept f (values.Boolean v) h = h
 value_kept f (values.Ref s) h = h
 
 part_kept : (f : Renaming) (p : Part) → PartFits p → PartFits (part_by f p)

@@ -1,6 +1,6 @@
 -- Loose nodes become a graph: which nodes are reached, in which order, and what they are under their new numbers.
 use Rattle.std.proofs.Common.{◌≡◌, ℕ, ◌+◌, ◌≤◌, ◌||◌, Bool, true, false, cond, eqb, leb, List, [], ◌∷◌, ◌++◌, map, length, Option, Some, None, slice_get, refl, sym, ap, subst, ◌∙◌, arith}
-use Rattle.std.proofs.lemmas.Bool.{eqb-true, eqb-false, leb-true, leb-false}
+use Rattle.std.proofs.lemmas.Bool.{eqb-true, eqb-false, leb-true, leb-false, or_parts, or_right}
 use Rattle.std.proofs.lemmas.Option.{slice_get_within}
 use Rattle.std.proofs.lemmas.Map.Steps.{length-le_from_distinct_below}
 use Rattle.std.proofs.Math.Logic.{∥∥₁_elim}
@@ -62,14 +62,10 @@ turn x j e = go (eqb j x) refl
     go false f = refl
     go true f = absurd (eqb-false x j e (sym (eqb-true j x f)))
 
-or_false : (a b : Bool) → (a || b) ≡ false → (a ≡ false) × (b ≡ false)
-or_false true b h = absurd cc
-or_false false b h = (refl, h)
-
 apart : (x : ℕ) (xs : List ℕ) → has xs x ≡ false → AllByRecursion (λ y. eqb x y ≡ false) xs
 unfolding has
 apart x [] h = tt
-apart x (y ∷ ys) h = let p = or_false (eqb y x) (has ys x) h in (turn y x p.0, apart x ys p.1)
+apart x (y ∷ ys) h = let p = or_parts (eqb y x) (has ys x) h in (turn y x p.0, apart x ys p.1)
 
 distinct : (xs : List ℕ) → Once xs → IsDistinct eqb xs
 unfolding Once IsDistinct
@@ -127,14 +123,14 @@ module _ (F : List ℕ) (f g : ℕ → ℕ) (agree : (j : ℕ) → has F j ≡ t
   same_values : (vs : List Value) → NamesAll F (value_wants vs) → map (value_by f) vs ≡ map (value_by g) vs
   unfolding value_wants
   same_values [] n = refl
-  same_values (values.B v ∷ vs) n = ap (λ (l : List Value). values.B v ∷ l) (same_values vs n)
-  same_values (values.C v ∷ vs) n = ap (λ (l : List Value). values.C v ∷ l) (same_values vs n)
-  same_values (values.D v ∷ vs) n = ap (λ (l : List Value). values.D v ∷ l) (same_values vs n)
-  same_values (values.F v ∷ vs) n = ap (λ (l : List Value). values.F v ∷ l) (same_values vs n)
-  same_values (values.I v ∷ vs) n = ap (λ (l : List Value). values.I v ∷ l) (same_values vs n)
-  same_values (values.J v ∷ vs) n = ap (λ (l : List Value). values.J v ∷ l) (same_values vs n)
-  same_values (values.S v ∷ vs) n = ap (λ (l : List Value). values.S v ∷ l) (same_values vs n)
-  same_values (values.Z v ∷ vs) n = ap (λ (l : List Value). values.Z v ∷ l) (same_values vs n)
+  same_values (values.Byte v ∷ vs) n = ap (λ (l : List Value). values.Byte v ∷ l) (same_values vs n)
+  same_values (values.Char v ∷ vs) n = ap (λ (l : List Value). values.Char v ∷ l) (same_values vs n)
+  same_values (values.Double v ∷ vs) n = ap (λ (l : List Value). values.Double v ∷ l) (same_values vs n)
+  same_values (values.Float v ∷ vs) n = ap (λ (l : List Value). values.Float v ∷ l) (same_values vs n)
+  same_values (values.Int v ∷ vs) n = ap (λ (l : List Value). values.Int v ∷ l) (same_values vs n)
+  same_values (values.Long v ∷ vs) n = ap (λ (l : List Value). values.Long v ∷ l) (same_values vs n)
+  same_values (values.Short v ∷ vs) n = ap (λ (l : List Value). values.Short v ∷ l) (same_values vs n)
+  same_values (values.Boolean v ∷ vs) n = ap (λ (l : List Value). values.Boolean v ∷ l) (same_values vs n)
   same_values (values.Ref s ∷ vs) n = rw (same_slot s n.0, same_values vs n.1) refl
 
   same_parts : (ps : List Part) → NamesAll F (part_wants ps) → map (part_by f) ps ≡ map (part_by g) ps
@@ -180,10 +176,6 @@ module _ (F : List ℕ) (f g : ℕ → ℕ) (agree : (j : ℕ) → has F j ≡ t
   same_node (Array c vs) n = rw (agree c n.befores.0, same_elements vs n.afters) refl
   same_node (Class c) n = rw (agree c n.befores.0) refl
   same_node (Enum c t) n = rw (agree c n.befores.0, agree t n.afters.0) refl
-
-or_right : (a b : Bool) → b ≡ true → (a || b) ≡ true
-or_right true b h = refl
-or_right false b h = h
 
 agrees : (order places : List ℕ) → HasPlaces order 0 places → (j : ℕ) → has order j ≡ true → place_at places j ≡ place_in order j
 agrees order places p j h = let z : 0 + place_in order j ≡ place_in order j = omega arith in get_or-some places j _ (p j h) ∙ z

@@ -1,6 +1,7 @@
 -- A node under new numbers has the same form: it wants the same, and it keeps the same rules.
 use Rattle.std.proofs.Common.{◌≡◌, ℕ, zero, suc, Bool, true, false, cond, List, [], ◌∷◌, ◌++◌, map, length, Option, Some, None, slice_get, refl, ap, ◌∙◌}
 use Rattle.std.specs.Prelude.{option_map}
+use Rattle.std.proofs.lemmas.Option.{slice_get-map}
 use Rattle.class_desc.specs.declared.slot.Slot.{Slot}
 use Rattle.class_desc.specs.declared.slot.Slot.TheVariants as slots
 use Rattle.class_desc.specs.declared.slot.Item.{Item}
@@ -46,11 +47,6 @@ nil_map : {A B : Type 0} (f : A → B) (xs : List A) → is_nil (map f xs) ≡ i
 nil_map f [] = refl
 nil_map f (x ∷ xs) = refl
 
-slice_get-option_map : {A B : Type 0} (f : A → B) (xs : List A) (k : ℕ) → slice_get (map f xs) k ≡ option_map f (slice_get xs k)
-slice_get-option_map f [] k = refl
-slice_get-option_map f (x ∷ xs) zero = refl
-slice_get-option_map f (x ∷ xs) (suc k) = slice_get-option_map f xs k
-
 -- ---- kinds
 
 pub is_desc-node_by : (f : ℕ → ℕ) (i : Node) → is_desc (node_by f i) ≡ is_desc i
@@ -94,14 +90,14 @@ item_wants-map f (items.Ref s ∷ is) = ap (λ (l : List Want). (places.Referenc
 value_wants-map : (f : ℕ → ℕ) (vs : List Value) → value_wants (map (value_by f) vs) ≡ map (want_by f) (value_wants vs)
 unfolding value_wants
 value_wants-map f [] = refl
-value_wants-map f (values.B v ∷ vs) = value_wants-map f vs
-value_wants-map f (values.C v ∷ vs) = value_wants-map f vs
-value_wants-map f (values.D v ∷ vs) = value_wants-map f vs
-value_wants-map f (values.F v ∷ vs) = value_wants-map f vs
-value_wants-map f (values.I v ∷ vs) = value_wants-map f vs
-value_wants-map f (values.J v ∷ vs) = value_wants-map f vs
-value_wants-map f (values.S v ∷ vs) = value_wants-map f vs
-value_wants-map f (values.Z v ∷ vs) = value_wants-map f vs
+value_wants-map f (values.Byte v ∷ vs) = value_wants-map f vs
+value_wants-map f (values.Char v ∷ vs) = value_wants-map f vs
+value_wants-map f (values.Double v ∷ vs) = value_wants-map f vs
+value_wants-map f (values.Float v ∷ vs) = value_wants-map f vs
+value_wants-map f (values.Int v ∷ vs) = value_wants-map f vs
+value_wants-map f (values.Long v ∷ vs) = value_wants-map f vs
+value_wants-map f (values.Short v ∷ vs) = value_wants-map f vs
+value_wants-map f (values.Boolean v ∷ vs) = value_wants-map f vs
 value_wants-map f (values.Ref s ∷ vs) = ap (λ (l : List Want). (places.Reference, slot_by f s) ∷ l) (value_wants-map f vs)
 
 part_wants-map : (f : ℕ → ℕ) (ps : List Part) → part_wants (map (part_by f) ps) ≡ map (want_by f) (part_wants ps)
@@ -167,7 +163,7 @@ pub split_named : (F : List ℕ) (xs ys : List Want) → NamesAll F (xs ++ ys) �
 split_named F [] ys n = (tt, n)
 split_named F (x ∷ xs) ys n = let r = split_named F xs ys n.1 in ((n.0, r.0), r.1)
 
-last_named : (F : List ℕ) (ws : List Want) (w : Want) → NamesAll F (ws ++ w ∷ []) → Names F w.1
+pub last_named : (F : List ℕ) (ws : List Want) (w : Want) → NamesAll F (ws ++ w ∷ []) → Names F w.1
 last_named F ws w n = (split_named F ws (w ∷ []) n).1.0
 
 parent_named : (F : List ℕ) (d : ClassDesc) → Wants F (Desc d) → Names F d.parent
@@ -194,22 +190,22 @@ pub is_joined-map : (f : ℕ → ℕ) (is : List Item) → is_joined (map (item_
 is_joined-map f is = joined_from-map f false is
 
 fits_value-value_by : (f : ℕ → ℕ) (code : TypeCode) (v : Value) → fits_value code (value_by f v) ≡ fits_value code v
-fits_value-value_by f code (values.B v) = refl
-fits_value-value_by f code (values.C v) = refl
-fits_value-value_by f code (values.D v) = refl
-fits_value-value_by f code (values.F v) = refl
-fits_value-value_by f code (values.I v) = refl
-fits_value-value_by f code (values.J v) = refl
-fits_value-value_by f code (values.S v) = refl
-fits_value-value_by f code (values.Z v) = refl
-fits_value-value_by f codes.B (values.Ref s) = refl
-fits_value-value_by f codes.C (values.Ref s) = refl
-fits_value-value_by f codes.D (values.Ref s) = refl
-fits_value-value_by f codes.F (values.Ref s) = refl
-fits_value-value_by f codes.I (values.Ref s) = refl
-fits_value-value_by f codes.J (values.Ref s) = refl
-fits_value-value_by f codes.S (values.Ref s) = refl
-fits_value-value_by f codes.Z (values.Ref s) = refl
+fits_value-value_by f code (values.Byte v) = refl
+fits_value-value_by f code (values.Char v) = refl
+fits_value-value_by f code (values.Double v) = refl
+fits_value-value_by f code (values.Float v) = refl
+fits_value-value_by f code (values.Int v) = refl
+fits_value-value_by f code (values.Long v) = refl
+fits_value-value_by f code (values.Short v) = refl
+fits_value-value_by f code (values.Boolean v) = refl
+fits_value-value_by f codes.Byte (values.Ref s) = refl
+fits_value-value_by f codes.Char (values.Ref s) = refl
+fits_value-value_by f codes.Double (values.Ref s) = refl
+fits_value-value_by f codes.Float (values.Ref s) = refl
+fits_value-value_by f codes.Int (values.Ref s) = refl
+fits_value-value_by f codes.Long (values.Ref s) = refl
+fits_value-value_by f codes.Short (values.Ref s) = refl
+fits_value-value_by f codes.Boolean (values.Ref s) = refl
 fits_value-value_by f codes.Array (values.Ref s) = refl
 fits_value-value_by f codes.Object (values.Ref s) = refl
 
@@ -259,14 +255,14 @@ fit_elements-values_by f (kinds.Longs v) code = refl
 fit_elements-values_by f (kinds.Shorts v) code = refl
 fit_elements-values_by f (kinds.Bools v) code = refl
 fit_elements-values_by f (kinds.Refs ss) None = refl
-fit_elements-values_by f (kinds.Refs ss) (Some codes.B) = refl
-fit_elements-values_by f (kinds.Refs ss) (Some codes.C) = refl
-fit_elements-values_by f (kinds.Refs ss) (Some codes.D) = refl
-fit_elements-values_by f (kinds.Refs ss) (Some codes.F) = refl
-fit_elements-values_by f (kinds.Refs ss) (Some codes.I) = refl
-fit_elements-values_by f (kinds.Refs ss) (Some codes.J) = refl
-fit_elements-values_by f (kinds.Refs ss) (Some codes.S) = refl
-fit_elements-values_by f (kinds.Refs ss) (Some codes.Z) = refl
+fit_elements-values_by f (kinds.Refs ss) (Some codes.Byte) = refl
+fit_elements-values_by f (kinds.Refs ss) (Some codes.Char) = refl
+fit_elements-values_by f (kinds.Refs ss) (Some codes.Double) = refl
+fit_elements-values_by f (kinds.Refs ss) (Some codes.Float) = refl
+fit_elements-values_by f (kinds.Refs ss) (Some codes.Int) = refl
+fit_elements-values_by f (kinds.Refs ss) (Some codes.Long) = refl
+fit_elements-values_by f (kinds.Refs ss) (Some codes.Short) = refl
+fit_elements-values_by f (kinds.Refs ss) (Some codes.Boolean) = refl
 fit_elements-values_by f (kinds.Refs ss) (Some codes.Array) = refl
 fit_elements-values_by f (kinds.Refs ss) (Some codes.Object) = refl
 
@@ -335,7 +331,7 @@ module _ (loose : List Node) (F : List ℕ) (once : Once F) (closed : Closed loo
   fits_chain-reordered ps (suc n) slots.Null h = refl
   fits_chain-reordered ps (suc n) (slots.Node k) h =
       let t = see k h in
-      rw (t.1, t.2, slice_get-option_map (part_by (place_in F)) ps n) (fits_above-node_by (fits_chain loose ps n) (fits_chain (reordered loose F) (map (part_by (place_in F)) ps) n) (slice_get ps n) t.0 (closed.wants k t.0 h t.1) (fits_chain-reordered ps n))
+      rw (t.1, t.2, slice_get-map (part_by (place_in F)) ps n) (fits_above-node_by (fits_chain loose ps n) (fits_chain (reordered loose F) (map (part_by (place_in F)) ps) n) (slice_get ps n) t.0 (closed.wants k t.0 h t.1) (fits_chain-reordered ps n))
 
   fits_type-reordered : (code : TypeCode) (t : Slot) → (is_primitive code ≡ false → Names F t) → fits_type (reordered loose F) code (cond (is_primitive code) t (slot_by (place_in F) t)) ≡ fits_type loose code t
   fits_type-reordered code t h = go (is_primitive code) t refl h

@@ -1,5 +1,6 @@
 -- Fields and their values, and a chain, one description further up.
-use Rattle.std.proofs.Common.{◌≡◌, ◌≢◌, ◌&&◌, ℕ, suc, ◌-◌, ◌<◌, Bool, true, false, List, [], ◌∷◌, length, Option, Some, slice_get, refl, ap, ◌∙◌, arith}
+use Rattle.std.proofs.Common.{◌≡◌, ◌≢◌, ℕ, suc, ◌-◌, ◌<◌, Bool, false, List, [], ◌∷◌, length, Option, Some, slice_get, refl, ap, ◌∙◌, arith}
+use Rattle.std.proofs.lemmas.Bool.{and_right}
 use Rattle.class_desc.specs.declared.slot.Slot.{Slot}
 use Rattle.class_desc.specs.declared.slot.Slot.TheVariants as slots
 use Rattle.class_desc.specs.declared.field.FieldDesc.{FieldDesc}
@@ -8,16 +9,12 @@ use Rattle.ser_values.specs.declared.value.Part.{Part}
 use Rattle.ser_values.specs.declared.node.Node.{Node}
 use Rattle.ser_values.specs.Shape.{fits_value, fit_values, fits_chain, fits_next, or_above}
 
-and_false : (a b : Bool) → b ≡ false → (a && b) ≡ false
-and_false true b h = h
-and_false false b h = refl
-
 pub fit_len : (fs : List FieldDesc) (vs : List Value) → length fs ≢ length vs → fit_values fs vs ≡ false
 unfolding fit_values
 fit_len [] [] h = absurd (h refl)
 fit_len [] (v ∷ vs) h = refl
 fit_len (f ∷ fs) [] h = refl
-fit_len (f ∷ fs) (v ∷ vs) h = and_false (fits_value f.code v) _ (fit_len fs vs (λ e. h (ap suc e)))
+fit_len (f ∷ fs) (v ∷ vs) h = and_right (fits_value f.code v) _ (fit_len fs vs (λ e. h (ap suc e)))
 
 at_next : (nodes : List Node) (ps : List Part) (n : ℕ) (s : Slot) → fits_chain nodes ps (suc n) s ≡ fits_next nodes (fits_chain nodes ps n) (slice_get ps n) s
 unfolding fits_chain

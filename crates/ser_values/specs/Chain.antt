@@ -1,14 +1,11 @@
 -- The chain of a class: its description, its superclass's, and so on up.
-use Rattle.std.specs.Prelude.{◌≡◌, ◌⊎◌, ℕ, zero, suc, Bool, true, false, List, [], ◌∷◌, length, Option, Some, None, slice_get}
+use Rattle.std.specs.Prelude.{ℕ, zero, suc, Bool, false, List, [], ◌∷◌, Option, Some, None, slice_get}
 use Rattle.class_desc.specs.declared.slot.Slot.{Slot}
 use Rattle.class_desc.specs.declared.slot.Slot.TheVariants as slots
-use Rattle.class_desc.specs.declared.slot.Item.{Item}
 use Rattle.class_desc.specs.ClassDesc.{has_flag}
 use Rattle.ser_values.specs.declared.limits.TheConstants.{PARTS}
 use Rattle.ser_values.specs.declared.node.Node.{Node}
-use Rattle.ser_values.specs.declared.node.Node.TheVariants.{Desc, Proxy, Object}
-use Rattle.ser_values.specs.declared.value.Part.{Part}
-use Rattle.ser_values.specs.Numbered.{IsGraph}
+use Rattle.ser_values.specs.declared.node.Node.TheVariants.{Desc, Proxy}
 
 -- a description's number, and those above it
 abbrev pub up_from : (Slot → List ℕ) → ℕ → Option Node → List ℕ
@@ -34,8 +31,3 @@ up_by above k (Some s) = k ∷ above s
 abbrev pub is_externalizable : Option Node → Bool
 is_externalizable (Some (Desc d)) = has_flag d.flags 4
 is_externalizable _ = false
-
--- An object of a graph has a part for each description of its class's chain; or its class is externalizable, and it has one part.
-abbrev pub HavePartsByChain : Type 0
-HavePartsByChain = (nodes : List Node) (items : List Item) → IsGraph nodes items → (number class : ℕ) (parts : List Part) → slice_get nodes number ≡ Some (Object class parts)
-    → (length (chain nodes (slots.Node class)) ≡ length parts) ⊎ ((is_externalizable (slice_get nodes class) ≡ true) × (length parts ≡ 1))

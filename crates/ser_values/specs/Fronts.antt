@@ -1,9 +1,15 @@
--- Items and the bytes that they begin with. `put_block bytes items` are items with bytes before them, which join those that they begin with.
-use Rattle.std.specs.Prelude.{◌≡◌, ℕ, zero, suc, Bool, true, false, nat_eq, nat_lt, List, ◌∷◌, length, drop, Option, Some, None, if◌then◌else◌}
+-- Items and the bytes that they begin with.
+use Rattle.std.specs.Prelude.{◌≡◌, ℕ, zero, suc, Bool, true, false, nat_eq, nat_lt, List, [], ◌∷◌, ◌++◌, length, drop, Option, Some, None, if◌then◌else◌}
 use Rattle.class_desc.specs.declared.slot.Item.{Item}
 use Rattle.class_desc.specs.declared.slot.Item.TheVariants as items
 use Rattle.ser_values.specs.Shape.{is_joined}
-use Rattle.ser_values.specs.Spelled.{put_block}
+
+-- Items with bytes before them, which join those that they begin with.
+abbrev pub put_block : List ℕ → List Item → List Item
+put_block [] is = is
+put_block (b ∷ bs) [] = items.Bytes (b ∷ bs) ∷ []
+put_block (b ∷ bs) (items.Bytes p ∷ is) = items.Bytes ((b ∷ bs) ++ p) ∷ is
+put_block (b ∷ bs) (items.Ref s ∷ is) = items.Bytes (b ∷ bs) ∷ items.Ref s ∷ is
 
 abbrev pub begin_with_bytes : List Item → Bool
 begin_with_bytes (items.Bytes b ∷ is) = true

@@ -8,11 +8,7 @@ pub mod Renumber
 pub mod Loose
 pub mod Finished
 pub mod Builder
-pub mod Spelled
 pub mod Ranges
-pub mod Reading
-pub mod Faults
 pub mod Chain
 pub mod Fronts
 pub mod NoteBytes
-pub mod Laws

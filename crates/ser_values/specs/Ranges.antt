@@ -14,14 +14,14 @@ use Rattle.ser_values.specs.declared.node.Node.{Node}
 use Rattle.ser_values.specs.declared.node.Node.TheVariants.{Text, Desc, Proxy, Object, Array}
 
 abbrev pub ValueFits : Value → Type 0
-ValueFits (values.B v) = v < 2 ^ 8
-ValueFits (values.C v) = v < 2 ^ 16
-ValueFits (values.D v) = v < 2 ^ 64
-ValueFits (values.F v) = v < 2 ^ 32
-ValueFits (values.I v) = FitsSigned w32 v
-ValueFits (values.J v) = FitsSigned w64 v
-ValueFits (values.S v) = FitsSigned w16 v
-ValueFits (values.Z v) = Unit {0}
+ValueFits (values.Byte v) = v < 2 ^ 8
+ValueFits (values.Char v) = v < 2 ^ 16
+ValueFits (values.Double v) = v < 2 ^ 64
+ValueFits (values.Float v) = v < 2 ^ 32
+ValueFits (values.Int v) = FitsSigned w32 v
+ValueFits (values.Long v) = FitsSigned w64 v
+ValueFits (values.Short v) = FitsSigned w16 v
+ValueFits (values.Boolean v) = Unit {0}
 ValueFits (values.Ref s) = Unit {0}
 
 abbrev pub ElementsFit : Values → Type 0

@@ -57,14 +57,14 @@ are_typed nodes (f ∷ fs) = (is_short f.name && fits_type nodes f.code f.type_t
 -- ---- objects
 
 abbrev pub fits_value : TypeCode → Value → Bool
-fits_value codes.B (values.B v) = true
-fits_value codes.C (values.C v) = true
-fits_value codes.D (values.D v) = true
-fits_value codes.F (values.F v) = true
-fits_value codes.I (values.I v) = true
-fits_value codes.J (values.J v) = true
-fits_value codes.S (values.S v) = true
-fits_value codes.Z (values.Z v) = true
+fits_value codes.Byte (values.Byte v) = true
+fits_value codes.Char (values.Char v) = true
+fits_value codes.Double (values.Double v) = true
+fits_value codes.Float (values.Float v) = true
+fits_value codes.Int (values.Int v) = true
+fits_value codes.Long (values.Long v) = true
+fits_value codes.Short (values.Short v) = true
+fits_value codes.Boolean (values.Boolean v) = true
 fits_value codes.Array (values.Ref s) = true
 fits_value codes.Object (values.Ref s) = true
 fits_value _ _ = false
@@ -120,14 +120,14 @@ fits_object _ ps chained = false
 
 -- The elements have the type that the class's name says.
 abbrev pub fit_elements : Values → Option TypeCode → Bool
-fit_elements (kinds.Bytes v) (Some codes.B) = true
-fit_elements (kinds.Chars v) (Some codes.C) = true
-fit_elements (kinds.Doubles v) (Some codes.D) = true
-fit_elements (kinds.Floats v) (Some codes.F) = true
-fit_elements (kinds.Ints v) (Some codes.I) = true
-fit_elements (kinds.Longs v) (Some codes.J) = true
-fit_elements (kinds.Shorts v) (Some codes.S) = true
-fit_elements (kinds.Bools v) (Some codes.Z) = true
+fit_elements (kinds.Bytes v) (Some codes.Byte) = true
+fit_elements (kinds.Chars v) (Some codes.Char) = true
+fit_elements (kinds.Doubles v) (Some codes.Double) = true
+fit_elements (kinds.Floats v) (Some codes.Float) = true
+fit_elements (kinds.Ints v) (Some codes.Int) = true
+fit_elements (kinds.Longs v) (Some codes.Long) = true
+fit_elements (kinds.Shorts v) (Some codes.Short) = true
+fit_elements (kinds.Bools v) (Some codes.Boolean) = true
 fit_elements (kinds.Refs v) (Some codes.Array) = true
 fit_elements (kinds.Refs v) (Some codes.Object) = true
 fit_elements _ _ = false

@@ -2,8 +2,7 @@
 ghost use Rattle.std.specs.Prelude.{◌≡◌, ◌∷◌, ◌≤◌, true, List, length, drop, None, Some, IfOk, IfSome, OnOk, option_map};
 ghost use Rattle.class_desc.specs.declared.slot.Item.{Item as OneItem};
 ghost use Rattle.class_desc.specs.declared.slot.Item.TheVariants as contents;
-ghost use Rattle.ser_values.specs.Fronts.{begin_with_bytes, front_len, without_front, HasFront};
-ghost use Rattle.ser_values.specs.Spelled.{put_block};
+ghost use Rattle.ser_values.specs.Fronts.{begin_with_bytes, front_len, without_front, HasFront, put_block};
 
 use crate::graph::Graph;
 use crate::ranges::look_at_each;

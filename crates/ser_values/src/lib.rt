@@ -10,7 +10,6 @@ mod fault;
 mod finishing;
 mod fronts;
 mod graph;
-pub mod laws;
 pub mod limits;
 mod loose;
 mod node;

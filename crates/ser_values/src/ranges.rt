@@ -97,14 +97,14 @@ impl Ranged for Value {
 
     fn look(&self) {
         match self {
-            Value::B(value) => value.look(),
-            Value::C(value) => value.look(),
-            Value::D(value) => value.look(),
-            Value::F(value) => value.look(),
-            Value::I(value) => value.look(),
-            Value::J(value) => value.look(),
-            Value::S(value) => value.look(),
-            Value::Z(_) => {}
+            Value::Byte(value) => value.look(),
+            Value::Char(value) => value.look(),
+            Value::Double(value) => value.look(),
+            Value::Float(value) => value.look(),
+            Value::Int(value) => value.look(),
+            Value::Long(value) => value.look(),
+            Value::Short(value) => value.look(),
+            Value::Boolean(_) => {}
             Value::Ref(_) => {}
         }
     }

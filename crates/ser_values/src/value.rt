@@ -11,21 +11,21 @@ use sequence::{
 #[derive(Clone, Copy, Debug, PartialEq, Eq)]
 pub enum Value {
     /// A `byte`, as its bits.
-    B(u8),
+    Byte(u8),
     /// A `char`.
-    C(u16),
+    Char(u16),
     /// The bits of a `double`.
-    D(u64),
+    Double(u64),
     /// The bits of a `float`.
-    F(u32),
+    Float(u32),
     /// An `int`.
-    I(i32),
+    Int(i32),
     /// A `long`.
-    J(i64),
+    Long(i64),
     /// A `short`.
-    S(i16),
+    Short(i16),
     /// A `boolean`.
-    Z(bool),
+    Boolean(bool),
     /// A reference, of a field whose type is an array, a class or an interface.
     Ref(Slot),
 }

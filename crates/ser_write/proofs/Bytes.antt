@@ -4,7 +4,7 @@ use Rattle.std.specs.Prelude.{All, FitsSigned}
 use Rattle.std.specs.List.{flat_map, AllByRecursion}
 use Rattle.std.specs.Int as int
 use Rattle.std.specs.Int.{Width, w16, w32, w64, byte_len, bytes_high_first, to_be_bytes, cast_unsigned}
-use Rattle.std.proofs.lemmas.Bool.{ltb-true}
+use Rattle.std.proofs.lemmas.Bool.{ltb-true, and_parts}
 use Rattle.std.proofs.lemmas.List.Elements.{All-head, All-tail}
 use Rattle.mod_utf.specs.Utf.{utf, unit_bytes}
 use Rattle.mod_utf.proofs.Fronts.{AreUnits}
@@ -30,13 +30,12 @@ use Rattle.ser_values.specs.declared.node.SlotPlace.TheVariants as places
 use Rattle.ser_values.specs.Shape.{is_short, are_typed, is_joined, is_shaped}
 use Rattle.ser_values.specs.Numbered.{IsGraph}
 use Rattle.ser_values.specs.Ranges.{ValueFits, ElementsFit, ItemFits, ItemsFit, PartFits, TextFits, NameFits, InRange}
-use Rattle.ser_values.specs.Spelled.{Token, raw, truth, want, note, number, short_text, long_text, reference, field_tokens, value_token, element_tokens, writers, part_tokens}
-use Rattle.ser_values.proofs.PlainSound.{AreBytes, all_bytes}
-use Rattle.ser_values.proofs.Plains.{units_are}
+use Rattle.stream_grammar.specs.Spelled.{Token, raw, truth, want, note, number, short_text, long_text, reference, field_tokens, value_token, element_tokens, writers, part_tokens}
+use Rattle.stream_grammar.proofs.PlainSound.{AreBytes, all_bytes}
+use Rattle.stream_grammar.proofs.Plains.{units_are}
 use Rattle.ser_values.proofs.Ranged.{all_at}
 use Rattle.ser_values.proofs.Reached.{in_range}
-use Rattle.ser_values.proofs.Shaped.{graph_shaped}
-use Rattle.ser_values.proofs.Spelling.{both}
+use Rattle.stream_grammar.proofs.Shaped.{graph_shaped}
 use Rattle.ser_write.specs.Canonical.{Writing, block_of, pieces_in, pieces, blocks, write_items, write_token, write_all, code_of, tokens_before, is_external_class, external_tokens, tokens_after, write_new, write_one, nothing, write_at, contents, canonical}
 use Rattle.ser_write.specs.declared.pieces.TheConstants.{BLOCK_BYTES}
 
@@ -77,7 +76,7 @@ number_bytes : (w : Width) (n : ℕ) → AreBytes (to_be_bytes w n)
 number_bytes w n = high_first (byte_len w) n
 
 unit_of : (u : ℕ) (a b : Bool) → u < 65536 → (ltb 0 u && ltb u 128) ≡ a → ltb u 2048 ≡ b → AreBytes (cond a (u ∷ []) (cond b ((192 + u / 64) ∷ (128 + u % 64) ∷ []) ((224 + u / 4096) ∷ (128 + u / 64 % 64) ∷ (128 + u % 64) ∷ [])))
-unit_of u true b lt e f = let low : u < 128 = ltb-true u 128 (both (ltb 0 u) (ltb u 128) e).1 in (omega arith, tt)
+unit_of u true b lt e f = let low : u < 128 = ltb-true u 128 (and_parts (ltb 0 u) (ltb u 128) e).1 in (omega arith, tt)
 unit_of u false true lt e f = let low : u < 2048 = ltb-true u 2048 f in (omega arith, (omega arith, tt))
 unit_of u false false lt e f = (omega arith, (omega arith, (omega arith, tt)))
 
@@ -153,14 +152,14 @@ long_fits : (t : List ℕ) → TextFits t → TokenFits (long_text t)
 long_fits t h = join (to_be_bytes w64 (length (utf t))) (utf t) (number_bytes w64 (length (utf t))) (utf_bytes t (units_are t h))
 
 letter_low : (c : TypeCode) → letter c < 256
-letter_low codes.B = omega arith
-letter_low codes.C = omega arith
-letter_low codes.D = omega arith
-letter_low codes.F = omega arith
-letter_low codes.I = omega arith
-letter_low codes.J = omega arith
-letter_low codes.S = omega arith
-letter_low codes.Z = omega arith
+letter_low codes.Byte = omega arith
+letter_low codes.Char = omega arith
+letter_low codes.Double = omega arith
+letter_low codes.Float = omega arith
+letter_low codes.Int = omega arith
+letter_low codes.Long = omega arith
+letter_low codes.Short = omega arith
+letter_low codes.Boolean = omega arith
 letter_low codes.Array = omega arith
 letter_low codes.Object = omega arith
 
@@ -173,14 +172,14 @@ fields_fit (f ∷ fs) h = ((letter_low f.code, tt), (short_fits f.name (All-head
     go false h = (tt, h)
 
 value_fits : (v : Value) → ValueFits v → TokenFits (value_token v)
-value_fits (values.B v) h = (h, tt)
-value_fits (values.C v) h = number_bytes w16 v
-value_fits (values.D v) h = number_bytes w64 v
-value_fits (values.F v) h = number_bytes w32 v
-value_fits (values.I v) h = number_bytes w32 (cast_unsigned w32 v)
-value_fits (values.J v) h = number_bytes w64 (cast_unsigned w64 v)
-value_fits (values.S v) h = number_bytes w16 (cast_unsigned w16 v)
-value_fits (values.Z v) h = tt
+value_fits (values.Byte v) h = (h, tt)
+value_fits (values.Char v) h = number_bytes w16 v
+value_fits (values.Double v) h = number_bytes w64 v
+value_fits (values.Float v) h = number_bytes w32 v
+value_fits (values.Int v) h = number_bytes w32 (cast_unsigned w32 v)
+value_fits (values.Long v) h = number_bytes w64 (cast_unsigned w64 v)
+value_fits (values.Short v) h = number_bytes w16 (cast_unsigned w16 v)
+value_fits (values.Boolean v) h = tt
 value_fits (values.Ref s) h = tt
 
 elements_fit : (vs : Values) → ElementsFit vs → AllFit (element_tokens vs)
@@ -229,9 +228,9 @@ text_fits false t h = (long_fits t h, tt)
 flags_low : (nodes : List Node) (d : ClassDesc) → is_shaped nodes (Desc d) ≡ true → d.flags < 256
 unfolding is_shaped is_good_desc
 flags_low nodes d h =
-    let a = both (is_short d.name && ltb (length d.fields) 32768) (is_good_desc d && (are_typed nodes d.fields && is_joined d.note)) h in
-    let b = both (is_good_desc d) (are_typed nodes d.fields && is_joined d.note) a.1 in
-    let low = (flags_are d (both (fit_flags d) (are_ordered d.fields) b.0).0).known in
+    let a = and_parts (is_short d.name && ltb (length d.fields) 32768) (is_good_desc d && (are_typed nodes d.fields && is_joined d.note)) h in
+    let b = and_parts (is_good_desc d) (are_typed nodes d.fields && is_joined d.note) a.1 in
+    let low = (flags_are d (and_parts (fit_flags d) (are_ordered d.fields) b.0).0).known in
     omega arith
 
 after_fit : (nodes : List Node) (i : Node) → InRange i → is_shaped nodes i ≡ true → AllFit (tokens_after nodes i)

@@ -3,7 +3,7 @@ use Rattle.std.proofs.Common.{◌≡◌, ℕ, zero, suc, ◌-◌, ◌<◌, ◌�
 use Rattle.std.proofs.lemmas.List.{reverse-append, append-nil}
 use Rattle.class_desc.specs.declared.slot.Slot.{Slot}
 use Rattle.ser_values.specs.declared.node.Node.{Node}
-use Rattle.ser_values.specs.Spelled.{writers}
+use Rattle.stream_grammar.specs.Spelled.{writers}
 use Rattle.ser_write.specs.Canonical.{pieces_in, pieces, block_of, blocks, writers_by}
 use Rattle.ser_write.specs.declared.pieces.TheConstants.{BLOCK_BYTES}
 

@@ -1,9 +1,9 @@
 -- What is written of a graph is a stream of its items.
-use Rattle.std.proofs.Common.{◌≡◌, ◌||◌, ◌&&◌, not, ℕ, zero, suc, ◌+◌, ◌<◌, ◌≤◌, ◌^◌, Bool, true, false, cond, ltb, List, [], ◌∷◌, ◌++◌, map, length, take, drop, Option, Some, None, slice_get, get_or, refl, sym, ap, subst, ◌∙◌, append_assoc, add-one, arith, inl, inr}
-use Rattle.std.specs.Prelude.{is_some, All}
+use Rattle.std.proofs.Common.{◌≡◌, ◌||◌, ◌&&◌, not, ℕ, zero, suc, ◌+◌, ◌<◌, ◌≤◌, ◌^◌, Bool, true, false, cond, ltb, List, [], ◌∷◌, ◌++◌, map, length, take, drop, Option, Some, None, slice_get, refl, sym, ap, subst, ◌∙◌, append_assoc, add-one, arith, inl, inr}
+use Rattle.std.specs.Prelude.{is_some}
 use Rattle.std.specs.List.{flat_map, AllByRecursion}
 use Rattle.std.specs.Int.{w32, to_be_bytes}
-use Rattle.std.proofs.lemmas.Bool.{ltb-true, lt-ltb, le-ltb}
+use Rattle.std.proofs.lemmas.Bool.{ltb-true, lt-ltb, le-ltb, and_parts}
 use Rattle.std.proofs.lemmas.List.{append-nil}
 use Rattle.std.proofs.lemmas.Option.{slice_get_within}
 use Rattle.std.proofs.Math.Dec.{eqb-suc-zero}
@@ -29,12 +29,14 @@ use Rattle.ser_values.specs.Node.{Want, item_wants, after, inside}
 use Rattle.ser_values.specs.Shape.{is_short, joined_from, is_joined, are_typed, are_short, fits_chain, is_external, fits_object, is_shaped}
 use Rattle.ser_values.specs.Numbered.{Numbering, NumberAll, Numbers, no_numbers, Numbered, IsGraph}
 use Rattle.ser_values.specs.Numbered as numbers
-use Rattle.ser_values.specs.Spelled.{Token, raw, truth, want, note, short_text, long_text, reference, field_tokens, value_token, element_tokens, writers, part_tokens, Form, a_text, a_long_text, a_desc, a_proxy, an_object, an_external, an_array, a_class, an_enum, IsBlock, put_block, joined, One, SpellsBlocks, SpellsItems, SpellsAll, Spelling, Spell, a_null, again, fresh, never, Spells, IsStream}
-use Rattle.ser_values.proofs.Spelling.{token_wants, form_wants, Silent, parts_silent, both, nil_is}
-use Rattle.ser_values.proofs.Shaped.{graph_shaped}
-use Rattle.ser_values.proofs.OneReading.{one_reading}
+use Rattle.stream_grammar.specs.Spelled.{Token, raw, truth, want, note, short_text, long_text, reference, field_tokens, value_token, element_tokens, writers, part_tokens, Form, a_text, a_long_text, a_desc, a_proxy, an_object, an_external, an_array, a_class, an_enum, IsBlock, joined, One, SpellsBlocks, SpellsItems, SpellsAll, Spelling, Spell, a_null, again, fresh, never, Spells, IsStream}
+use Rattle.ser_values.specs.Fronts.{put_block}
+use Rattle.ser_values.proofs.FrontLaws.{later_joined, put_apart}
+use Rattle.stream_grammar.proofs.Spelling.{token_wants, form_wants, Silent, parts_silent, nil_is}
+use Rattle.stream_grammar.proofs.Shaped.{graph_shaped}
+use Rattle.stream_grammar.proofs.OneReading.{one_reading}
 use Rattle.std.proofs.Math.Logic.{∥∥₁_map, ∥∥₁_elim, ∥∥₁_prop}
-use Rattle.ser_values.proofs.Chains.{not_both, chained_flag}
+use Rattle.stream_grammar.proofs.Chains.{not_both, chained_flag}
 use Rattle.ser_write.proofs.Bytes.{canonical_bytes}
 use Rattle.ser_write.specs.Canonical.{Written, Writing, block_of, pieces_in, pieces, blocks, write_items, write_all, code_of, tokens_before, is_external_class, external_tokens, object_tokens, tokens_after, write_new, write_one, nothing, write_at, contents, canonical, IsFull, SpellFully}
 use Rattle.ser_write.specs.declared.pieces.TheConstants.{BLOCK_BYTES}
@@ -105,19 +107,6 @@ joined_pieces : (cs : List (List ℕ)) (is : List Item) → joined (map items.By
 joined_pieces [] is = refl
 joined_pieces (c ∷ cs) is = ap (put_block c) (joined_pieces cs is) ∙ put_put c (concat cs) (joined is)
 
-joined_after : (is : List Item) → joined_from true is ≡ true → is_joined is ≡ true
-unfolding joined_from
-joined_after [] h = refl
-joined_after (items.Ref s ∷ is) h = h
-joined_after (items.Bytes b ∷ is) h = absurd cc
-
-put_joined : (b : List ℕ) (is : List Item) → is_nil b ≡ false → joined_from true is ≡ true → put_block b is ≡ items.Bytes b ∷ is
-unfolding joined_from
-put_joined [] is h j = absurd cc
-put_joined (x ∷ b) [] h j = refl
-put_joined (x ∷ b) (items.Ref s ∷ is) h j = refl
-put_joined (x ∷ b) (items.Bytes p ∷ is) h j = absurd cc
-
 not_nil : (b : List ℕ) → not (false || is_nil b) ≡ true → is_nil b ≡ false
 not_nil [] h = absurd cc
 not_nil (x ∷ b) h = refl
@@ -127,8 +116,8 @@ unfolding joined_from
 joined_cut [] h = refl
 joined_cut (items.Ref s ∷ is) h = ap (λ (l : List Item). items.Ref s ∷ l) (joined_cut is h)
 joined_cut (items.Bytes b ∷ is) h =
-    let p = both (not (false || is_nil b)) (joined_from true is) h in
-    joined_pieces (pieces b) (cut is) ∙ ap (λ (l : List ℕ). put_block l (joined (cut is))) (concat-pieces b) ∙ ap (put_block b) (joined_cut is (joined_after is p.1)) ∙ put_joined b is (not_nil b p.0) p.1
+    let p = and_parts (not (false || is_nil b)) (joined_from true is) h in
+    joined_pieces (pieces b) (cut is) ∙ ap (λ (l : List ℕ). put_block l (joined (cut is))) (concat-pieces b) ∙ ap (put_block b) (joined_cut is (later_joined is p.1)) ∙ put_apart b is (not_nil b p.0) p.1
 
 is_block : (c : List ℕ) → length c ≤ BLOCK_BYTES → IsBlock c (block_of c)
 is_block c h = go (ltb (length c) 256) refl
@@ -228,7 +217,7 @@ tokens_written one N S written unread (note is ∷ ts) n m j h =
 external_form : (nodes : List Node) (c : ℕ) (ps : List Part) (d : ClassDesc) → slice_get nodes c ≡ Some (Desc d) → has_flag d.flags 4 ≡ true → is_external ps ≡ true
     → Form nodes (Object c ps) 0x73 (want (places.Class, slots.Node c) ∷ []) (external_tokens ps)
 external_form nodes c [] d is four h = absurd cc
-external_form nodes c (p ∷ []) d is four h = an_external c p d is four (nil_is p.values (both (is_nil p.values) (is_joined p.note) h).0)
+external_form nodes c (p ∷ []) d is four h = an_external c p d is four (nil_is p.values (and_parts (is_nil p.values) (is_joined p.note) h).0)
 external_form nodes c (p ∷ q ∷ ps) d is four h = absurd cc
 
 abbrev AreShaped : List Node → Type 0
@@ -237,8 +226,8 @@ AreShaped nodes = (k : ℕ) (i : Node) → slice_get nodes k ≡ Some i → is_s
 good_desc : (nodes : List Node) (d : ClassDesc) → is_shaped nodes (Desc d) ≡ true → is_good_desc d ≡ true
 unfolding is_shaped
 good_desc nodes d h =
-    let a = both (is_short d.name && ltb (length d.fields) 32768) (is_good_desc d && (are_typed nodes d.fields && is_joined d.note)) h in
-    (both (is_good_desc d) (are_typed nodes d.fields && is_joined d.note) a.1).0
+    let a = and_parts (is_short d.name && ltb (length d.fields) 32768) (is_good_desc d && (are_typed nodes d.fields && is_joined d.note)) h in
+    (and_parts (is_good_desc d) (are_typed nodes d.fields && is_joined d.note) a.1).0
 
 -- an object of a class that is externalizable, or of one that isn't
 pub data Kind (nodes : List Node) (c : ℕ) (ps : List Part) (o : Option Node) : Type 0 where
@@ -253,11 +242,11 @@ kind_of nodes c ps (Some (Array b vs)) good is h = absurd cc
 kind_of nodes c ps (Some (Class b)) good is h = absurd cc
 kind_of nodes c ps (Some (Enum b t)) good is h = absurd cc
 kind_of nodes c ps (Some (Proxy q)) good is h = chained refl h
-kind_of nodes c ps (Some (Desc d)) good is h = go (has_flag d.flags 4) (fits_chain nodes ps (length ps) (slots.Node c)) refl refl (both (lacks_flag d.flags 16 && not (is_some (element_of d.name))) _ h).1
+kind_of nodes c ps (Some (Desc d)) good is h = go (has_flag d.flags 4) (fits_chain nodes ps (length ps) (slots.Node c)) refl refl (and_parts (lacks_flag d.flags 16 && not (is_some (element_of d.name))) _ h).1
   where
     go : (four chain : Bool) → has_flag d.flags 4 ≡ four → fits_chain nodes ps (length ps) (slots.Node c) ≡ chain → (chain || ((four && has_flag d.flags 8) && is_external ps)) ≡ true → Kind nodes c ps (Some (Desc d))
     go true true e f h = absurd (not_both d (good_desc nodes d (good c (Desc d) is)) (chained_flag nodes ps c d is f) e)
-    go true false e f h = external e d is e (both (true && has_flag d.flags 8) (is_external ps) h).1
+    go true false e f h = external e d is e (and_parts (true && has_flag d.flags 8) (is_external ps) h).1
     go false true e f h = chained e f
     go false false e f h = absurd cc
 
@@ -317,14 +306,14 @@ slots_joined (s ∷ ss) = slots_joined ss
 
 values_joined : (vs : List Value) → AllJoined (map value_token vs)
 values_joined [] = tt
-values_joined (values.B v ∷ vs) = values_joined vs
-values_joined (values.C v ∷ vs) = values_joined vs
-values_joined (values.D v ∷ vs) = values_joined vs
-values_joined (values.F v ∷ vs) = values_joined vs
-values_joined (values.I v ∷ vs) = values_joined vs
-values_joined (values.J v ∷ vs) = values_joined vs
-values_joined (values.S v ∷ vs) = values_joined vs
-values_joined (values.Z v ∷ vs) = values_joined vs
+values_joined (values.Byte v ∷ vs) = values_joined vs
+values_joined (values.Char v ∷ vs) = values_joined vs
+values_joined (values.Double v ∷ vs) = values_joined vs
+values_joined (values.Float v ∷ vs) = values_joined vs
+values_joined (values.Int v ∷ vs) = values_joined vs
+values_joined (values.Long v ∷ vs) = values_joined vs
+values_joined (values.Short v ∷ vs) = values_joined vs
+values_joined (values.Boolean v ∷ vs) = values_joined vs
 values_joined (values.Ref s ∷ vs) = values_joined vs
 
 elements_joined : (vs : Values) → AllJoined (element_tokens vs)
@@ -348,7 +337,7 @@ parts_joined (false ∷ ws) (p ∷ ps) h = joined-append (map value_token p.valu
 
 external_joined : (ps : List Part) → is_external ps ≡ true → AllJoined (external_tokens ps)
 external_joined [] h = tt
-external_joined (p ∷ []) h = ((both (is_nil p.values) (is_joined p.note) h).1, tt)
+external_joined (p ∷ []) h = ((and_parts (is_nil p.values) (is_joined p.note) h).1, tt)
 external_joined (p ∷ q ∷ ps) h = absurd cc
 
 object_joined : (nodes : List Node) (c : ℕ) (ps : List Part) → AreShaped nodes → is_shaped nodes (Object c ps) ≡ true → AllJoined (object_tokens nodes c ps)
@@ -376,12 +365,12 @@ after_joined : (nodes : List Node) (i : Node) → AreShaped nodes → is_shaped 
 unfolding tokens_after is_shaped
 after_joined nodes (Text t) good h = text_joined (is_short t) t
 after_joined nodes (Desc d) good h =
-    let a = both (is_short d.name && ltb (length d.fields) 32768) (is_good_desc d && (are_typed nodes d.fields && is_joined d.note)) h in
-    let b = both (is_good_desc d) (are_typed nodes d.fields && is_joined d.note) a.1 in
-    let j = (both (are_typed nodes d.fields) (is_joined d.note) b.1).1 in
+    let a = and_parts (is_short d.name && ltb (length d.fields) 32768) (is_good_desc d && (are_typed nodes d.fields && is_joined d.note)) h in
+    let b = and_parts (is_good_desc d) (are_typed nodes d.fields && is_joined d.note) a.1 in
+    let j = (and_parts (are_typed nodes d.fields) (is_joined d.note) b.1).1 in
     joined-append (field_tokens d.fields) (note d.note ∷ want (places.Parent, d.parent) ∷ []) (fields_joined d.fields) (j, tt)
 after_joined nodes (Proxy p) good h =
-    let j = (both (ltb (length p.names) (2 ^ 31) && are_short p.names) (is_joined p.note) h).1 in
+    let j = (and_parts (ltb (length p.names) (2 ^ 31) && are_short p.names) (is_joined p.note) h).1 in
     joined-append (map short_text p.names) (note p.note ∷ want (places.Parent, p.parent) ∷ []) (raws_joined _ p.names) (j, tt)
 after_joined nodes (Object c ps) good h = object_joined nodes c ps good h
 after_joined nodes (Array c vs) good h = elements_joined vs
@@ -479,12 +468,3 @@ bytes_full (x ∷ b) some = record {
   same = sym (joined_cut (items.Bytes (x ∷ b) ∷ []) refl);
   spelled = λ rest. blocks_spelled (Spells [] 200 []) (pieces (x ∷ b)) [] 0 rest rest 0 (pieces_short (x ∷ b)) (refl, refl);
 }
-
--- Bytes that are in range, each at its place, are so all together.
-pub all_fit : (bs : List ℕ) → ((i : ℕ) → get_or bs i 0 < 256) → All (λ x. x < 2 ^ 8) bs
-all_fit bs h = λ k d lt. at_place bs h k d lt
-  where
-    at_place : (bs : List ℕ) → ((i : ℕ) → get_or bs i 0 < 256) → (k d : ℕ) → k < length bs → get_or bs k d < 2 ^ 8
-    at_place [] h k d lt = absurd (omega arith)
-    at_place (b ∷ bs) h zero d lt = h 0
-    at_place (b ∷ bs) h (suc k) d lt = at_place bs (λ i. h (suc i)) k d (omega arith)

@@ -1,5 +1,5 @@
 -- How what is written is put together, and that it is spelled.
-use Rattle.std.proofs.Common.{◌≡◌, ℕ, zero, suc, ◌+◌, ◌-◌, ◌<◌, ◌≤◌, Bool, true, false, ltb, List, [], ◌∷◌, ◌++◌, map, length, drop, None, Some, Result, Ok, Err, slice_get, get_or, if◌then◌else◌, refl, sym, ap, ◌∙◌, ◌≢◌, append_assoc, arith}
+use Rattle.std.proofs.Common.{◌≡◌, ℕ, zero, suc, ◌+◌, ◌-◌, ◌<◌, ◌≤◌, Bool, true, false, ltb, List, [], ◌∷◌, ◌++◌, map, length, drop, None, Some, Result, Ok, Err, slice_get, if◌then◌else◌, refl, sym, ap, ◌∙◌, ◌≢◌, append_assoc, arith}
 use Rattle.std.specs.Int.{w32, w64, to_be_bytes, cast_unsigned, from_bool}
 use Rattle.std.proofs.lemmas.Bool.{lt-ltb, le-ltb}
 use Rattle.std.proofs.lemmas.List.{append-nil}
@@ -19,7 +19,8 @@ use Rattle.ser_values.specs.declared.value.Part.{Part}
 use Rattle.ser_values.specs.declared.node.Node.TheVariants.{Text, Desc, Proxy, Object, Array, Class, Enum}
 use Rattle.ser_values.specs.declared.node.SlotPlace.TheVariants as places
 use Rattle.ser_values.specs.Shape.{is_short, count_of}
-use Rattle.ser_values.specs.Spelled.{put_block, Token, raw, truth, want, note, reference, short_text, long_text, field_tokens, value_token, element_tokens, part_tokens}
+use Rattle.stream_grammar.specs.Spelled.{Token, raw, truth, want, note, reference, short_text, long_text, field_tokens, value_token, element_tokens, part_tokens}
+use Rattle.ser_values.specs.Fronts.{put_block}
 use Rattle.ser_write.proofs.Begins.{begins_on}
 use Rattle.ser_write.specs.Canonical.{Written, Writing, pieces_in, pieces, blocks, before_more, write_items, write_token, write_all, value_bytes, primitive_bytes, short_bytes, long_bytes, text_bytes, code_of, tokens_before, note_tokens, tokens_after, write_new, write_one, write_at, front_bytes, after_front, ending_tokens, handle_bytes, Adds}
 use Rattle.ser_write.specs.Nodes.{own_title, class_of, slots_of, behind_handle, rest_tokens}
@@ -85,14 +86,14 @@ write_all-elements one n (kinds.Bools v) = alone _ n (write_all-truth one n v)
 write_all-elements one n (kinds.Refs v) = refl
 
 pub write_token-primitive : (one : Writing) (n : ℕ) (v : Value) → ((s : Slot) → v ≢ values.Ref s) → write_token one n (value_token v) ≡ (value_bytes v, n)
-write_token-primitive one n (values.B v) h = refl
-write_token-primitive one n (values.C v) h = refl
-write_token-primitive one n (values.D v) h = refl
-write_token-primitive one n (values.F v) h = refl
-write_token-primitive one n (values.I v) h = refl
-write_token-primitive one n (values.J v) h = refl
-write_token-primitive one n (values.S v) h = refl
-write_token-primitive one n (values.Z v) h = refl
+write_token-primitive one n (values.Byte v) h = refl
+write_token-primitive one n (values.Char v) h = refl
+write_token-primitive one n (values.Double v) h = refl
+write_token-primitive one n (values.Float v) h = refl
+write_token-primitive one n (values.Int v) h = refl
+write_token-primitive one n (values.Long v) h = refl
+write_token-primitive one n (values.Short v) h = refl
+write_token-primitive one n (values.Boolean v) h = refl
 write_token-primitive one n (values.Ref s) h = absurd (h s refl)
 
 -- ---- levels
@@ -258,11 +259,6 @@ part_next one n n1 n2 ws ps i w p o1 o2 o3 at_w at_p a b =
       bytes = ap (λ (l : List ℕ). l ++ vc.0) out ∙ (append_assoc (o1 ++ va.0) vb.0 vc.0 ∙ (append_assoc o1 va.0 (vb.0 ++ vc.0) ∙ ap (λ (v : Written). o1 ++ v.0) (sym whole)));
       count = ap (λ (v : Written). v.1) (sym whole);
     }
-
-pub slice_get_within_or : {A : Type 0} (xs : List A) (k : ℕ) (d : A) → k < length xs → slice_get xs k ≡ Some (get_or xs k d)
-slice_get_within_or [] k d lt = absurd (omega arith)
-slice_get_within_or (x ∷ xs) zero d lt = refl
-slice_get_within_or (x ∷ xs) (suc k) d lt = slice_get_within_or xs k d (omega arith)
 
 -- ---- bytes before items
 

@@ -24,7 +24,7 @@ use Rattle.ser_values.specs.declared.node.SlotPlace.TheVariants as places
 use Rattle.ser_values.specs.Shape.{is_short, count_of}
 use Rattle.ser_values.specs.declared.limits.TheConstants.{LEVELS}
 use Rattle.ser_values.specs.Numbered.{IsGraph}
-use Rattle.ser_values.specs.Spelled.{Token, raw, truth, want, note, short_text, long_text, field_tokens, element_tokens, writers, part_tokens, joined, SpellsBlocks, SpellsItems, Spells}
+use Rattle.stream_grammar.specs.Spelled.{Token, raw, truth, want, note, short_text, long_text, field_tokens, element_tokens, writers, part_tokens, joined, SpellsBlocks, SpellsItems, Spells}
 
 -- ---- block data
 
@@ -76,14 +76,14 @@ interface_bytes names = to_be_bytes w32 (length names) ++ flat_map short_bytes n
 
 -- a primitive value; a reference has no bytes of its own
 abbrev pub value_bytes : Value → List ℕ
-value_bytes (values.B v) = v ∷ []
-value_bytes (values.C v) = to_be_bytes w16 v
-value_bytes (values.D v) = to_be_bytes w64 v
-value_bytes (values.F v) = to_be_bytes w32 v
-value_bytes (values.I v) = to_be_bytes w32 (cast_unsigned w32 v)
-value_bytes (values.J v) = to_be_bytes w64 (cast_unsigned w64 v)
-value_bytes (values.S v) = to_be_bytes w16 (cast_unsigned w16 v)
-value_bytes (values.Z v) = from_bool v ∷ []
+value_bytes (values.Byte v) = v ∷ []
+value_bytes (values.Char v) = to_be_bytes w16 v
+value_bytes (values.Double v) = to_be_bytes w64 v
+value_bytes (values.Float v) = to_be_bytes w32 v
+value_bytes (values.Int v) = to_be_bytes w32 (cast_unsigned w32 v)
+value_bytes (values.Long v) = to_be_bytes w64 (cast_unsigned w64 v)
+value_bytes (values.Short v) = to_be_bytes w16 (cast_unsigned w16 v)
+value_bytes (values.Boolean v) = from_bool v ∷ []
 value_bytes (values.Ref s) = []
 
 abbrev pub primitive_bytes : Values → List ℕ

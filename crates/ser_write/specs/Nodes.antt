@@ -9,7 +9,7 @@ use Rattle.ser_values.specs.declared.node.Node.{Node}
 use Rattle.ser_values.specs.declared.node.Node.TheVariants.{Text, Desc, Proxy, Object, Array, Class, Enum}
 use Rattle.ser_values.specs.declared.node.SlotPlace.TheVariants as places
 use Rattle.ser_values.specs.Shape.{count_of}
-use Rattle.ser_values.specs.Spelled.{Token, want, field_tokens, reference}
+use Rattle.stream_grammar.specs.Spelled.{Token, want, field_tokens, reference}
 use Rattle.ser_write.specs.Canonical.{text_bytes, title_bytes, interface_bytes, primitive_bytes, ending_tokens, object_tokens}
 
 -- a description's name and its number

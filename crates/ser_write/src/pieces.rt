@@ -2,7 +2,7 @@
 ghost use Rattle.std.specs.Prelude.{◌≡◌, ◌∷◌, ◌++◌, ℕ, suc, IfOk, OnErr, OnOk, option_map, reverse, slice_get, take, drop};
 ghost use Rattle.std.specs.Int.{w16, to_be_bytes};
 ghost use Rattle.std.specs.List.{flat_map};
-ghost use Rattle.ser_values.specs.Spelled.{writers};
+ghost use Rattle.stream_grammar.specs.Spelled.{writers};
 ghost use Rattle.ser_write.specs.Canonical.{Begins, block_of, blocks, code_of, field_bytes, handle_bytes, interface_bytes, short_bytes, text_bytes, title_bytes, primitive_bytes, value_bytes, is_external_class, writers_by};
 
 use crate::numbers::{Spelled, put_16, put_32, put_byte, put_each, put_long_text, put_short_text};
@@ -181,14 +181,14 @@ pub fn put_primitive(out: &mut ByteList, value: Value) -> Result<(), AllocError>
     ensures kept { OnErr result (Begins out.old out.new) }
 {
     match value {
-        Value::B(value) => out.push(value),
-        Value::C(value) => value.put(out),
-        Value::D(value) => value.put(out),
-        Value::F(value) => value.put(out),
-        Value::I(value) => value.put(out),
-        Value::J(value) => value.put(out),
-        Value::S(value) => value.put(out),
-        Value::Z(value) => value.put(out),
+        Value::Byte(value) => out.push(value),
+        Value::Char(value) => value.put(out),
+        Value::Double(value) => value.put(out),
+        Value::Float(value) => value.put(out),
+        Value::Int(value) => value.put(out),
+        Value::Long(value) => value.put(out),
+        Value::Short(value) => value.put(out),
+        Value::Boolean(value) => value.put(out),
         Value::Ref(_) => Ok(()),
     }
 }
@@ -211,7 +211,7 @@ pub(crate) fn is_external_class(node: Option<&Node>) -> bool
 }
 
 /// Whether a slot's description has a write method, and its superclass.
-#[tactic(auto, unfolding(ser_values::specs::Spelled::writers))]
+#[tactic(auto, unfolding(stream_grammar::specs::Spelled::writers))]
 fn writer_at(nodes: &[Node], slot: Slot) -> Option<(bool, Slot)>
     ensures { (n : ℕ) → writers nodes.now (suc n) slot ≡ writers_by (writers nodes.now n) result }
 {

@@ -1,7 +1,7 @@
 //! Nodes are written where they are first wanted.
 ghost use Rattle.std.specs.Prelude.{◌≡◌, ◌++◌, IfOk, OnErr, OnOk, map, slice_get};
-ghost use Rattle.ser_values.specs.Spelled.{field_tokens, value_token, reference, part_tokens};
-ghost use Rattle.ser_values.specs.Spelled.{IsStream, put_block};
+ghost use Rattle.stream_grammar.specs.Spelled.{field_tokens, value_token, reference, part_tokens, IsStream};
+ghost use Rattle.ser_values.specs.Fronts.{put_block};
 ghost use Rattle.ser_write.specs.Canonical.{write_items, write_all, ending_tokens, object_tokens, note_tokens, tokens_after, write_new, write_at, contents, canonical, front_bytes, after_front, SpellContents, SpellFully, AreOfNoOther, Adds};
 
 use crate::node_pieces::{class_of, put_before_handle, put_behind_handle, slots_of};
@@ -222,7 +222,7 @@ fn put_values(
 
 /// Writes parts: the values of each, and its note where the class has a write method.
 #[cycle(writing)]
-#[tactic(auto, unfolding(crate::specs::Canonical::write_all, ser_values::specs::Spelled::part_tokens))]
+#[tactic(auto, unfolding(crate::specs::Canonical::write_all, stream_grammar::specs::Spelled::part_tokens))]
 fn put_parts(
     alloc: Global,
     out: &mut ByteList,

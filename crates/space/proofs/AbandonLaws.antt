@@ -7,14 +7,14 @@ use Rattle.object_ids.specs.declared.ids.ObjId.{ObjId}
 use Rattle.history.specs.declared.asks.SpaceConfig.{SpaceConfig}
 use Rattle.history.specs.declared.asks.Event.{Event}
 use Rattle.history.specs.declared.asks.Ask.TheVariants.{Abandon}
-use Rattle.history.specs.declared.limits.TheConstants.{MAX_UNITS, MAX_EXPORTS, END_OF_TIME}
+use Rattle.history.specs.declared.limits.TheConstants.{MAX_HISTORY_UNITS, MAX_EXPORTS, END_OF_TIME}
 use Rattle.history.specs.declared.places.Withdrawal.{Withdrawal}
-use Rattle.history.specs.Running.{running}
+use Rattle.history.specs.Running.{running_calls_by}
 use Rattle.history.specs.Steps.{Step, turn_of}
 use Rattle.history.specs.Table.{is_effective, table, places}
-use Rattle.dgc_server.specs.Stands.{LeaseTable, StandsFor, ForEachLog}
+use Rattle.dgc_server.specs.StandsForCalls.{LeaseTable, StandsFor, ForEachLog}
 use Rattle.export_table.specs.declared.rows.Export.{Export}
-use Rattle.export_table.specs.Rows.{changed, ended, running_of}
+use Rattle.export_table.specs.ExportRows.{with_row_changed, with_call_ended, running_of}
 use Rattle.export_table.specs.Table.{ExportTable}
 use Rattle.space.specs.declared.runs.Run.{Run}
 use Rattle.space.specs.Acts.{event_of, room_refusal, withdrawal_at}
@@ -29,20 +29,20 @@ use Rattle.space.proofs.AskLaws.{abandon-counted}
 use Rattle.space.proofs.RunLists.{as-many}
 use Rattle.space.proofs.Keeping.{step-taken}
 use Rattle.space.proofs.TurnLaws.{IsAsked, HasActed, HasWithdrawn, taken, turn-keeps}
-use Rattle.export_table.specs.Stands.{rows_of}
+use Rattle.export_table.specs.StandsForHistory.{rows_of}
 
 -- ---- before it acts
 
 -- What is said of the space is said of its fields.
-pub is-running : (config : SpaceConfig) (events : List Event) (by : ℕ) (o : ObjId) (s : SpaceHistory) → record { configuration = config; events = events } ≡ s → 0 < running (places s.configuration s.events) by o → 0 < running (places config events) by o
-is-running config events by o s v r = let P : SpaceHistory → Type 0 = λ h. 0 < running (places h.configuration h.events) by o in subst P (sym v) r
+pub is-running : (config : SpaceConfig) (events : List Event) (by : ℕ) (o : ObjId) (s : SpaceHistory) → record { configuration = config; events = events } ≡ s → 0 < running_calls_by (places s.configuration s.events) by o → 0 < running_calls_by (places config events) by o
+is-running config events by o s v r = let P : SpaceHistory → Type 0 = λ h. 0 < running_calls_by (places h.configuration h.events) by o in subst P (sym v) r
 
-pub runs-effective : (config : SpaceConfig) (events : List Event) (by : ℕ) (o : ObjId) → 0 < running (places config events) by o → is_effective config (places config events) by (Abandon o) ≡ true
+pub runs-effective : (config : SpaceConfig) (events : List Event) (by : ℕ) (o : ObjId) → 0 < running_calls_by (places config events) by o → is_effective config (places config events) by (Abandon o) ≡ true
 unfolding is_effective
-runs-effective config events by o r = lt-ltb 0 (running (places config events) by o) r
+runs-effective config events by o r = lt-ltb 0 (running_calls_by (places config events) by o) r
 
 pub end-asked : (config : SpaceConfig) (events : List Event) (by m : ℕ) (o : ObjId) (leases : LeaseTable) (exports : ExportTable) (runs : List Run) (withdrawn : List Withdrawal) (reported opened used moment : ℕ) →
-    Keeps config events leases exports runs withdrawn reported opened used moment → 0 < running (places config events) by o → IsAsked config events (event_of by m (Abandon o)) leases exports runs withdrawn reported opened used moment true
+    Keeps config events leases exports runs withdrawn reported opened used moment → 0 < running_calls_by (places config events) by o → IsAsked config events (event_of by m (Abandon o)) leases exports runs withdrawn reported opened used moment true
 end-asked config events by m o leases exports runs withdrawn reported opened used moment k r = record {
   keeps = k;
   tested = sym (effective-is config events by (Abandon o) exports.rows runs k.stands.rows_are k.stands.runs_stand ∙ runs-effective config events by o r);
@@ -50,7 +50,7 @@ end-asked config events by m o leases exports runs withdrawn reported opened use
 
 -- The row of the object has a running call.
 pub end-counted : (config : SpaceConfig) (events : List Event) (by m : ℕ) (o : ObjId) (leases : LeaseTable) (exports : ExportTable) (runs : List Run) (withdrawn : List Withdrawal) (reported opened used moment : ℕ) →
-    Keeps config events leases exports runs withdrawn reported opened used moment → 0 < running (places config events) by o → 0 < running_of exports.rows o
+    Keeps config events leases exports runs withdrawn reported opened used moment → 0 < running_calls_by (places config events) by o → 0 < running_of exports.rows o
 end-counted config events by m o leases exports runs withdrawn reported opened used moment k r =
     abandon-counted config events (event_of by m (Abandon o)) leases exports runs withdrawn reported opened used moment true (end-asked config events by m o leases exports runs withdrawn reported opened used moment k r) o refl refl
 
@@ -64,13 +64,13 @@ none-left {X} test (x ∷ xs) h = go (test x) h (none-left test xs)
 
 -- One call fewer runs then.
 pub runs-fewer : (config : SpaceConfig) (events : List Event) (by : ℕ) (o : ObjId) (leases : LeaseTable) (exports : ExportTable) (runs : List Run) (withdrawn : List Withdrawal) (reported opened used moment : ℕ) →
-    Keeps config events leases exports runs withdrawn reported opened used moment → 0 < running (places config events) by o → length (without_first (is_run by o) runs) + 1 ≡ length runs
+    Keeps config events leases exports runs withdrawn reported opened used moment → 0 < running_calls_by (places config events) by o → length (without_first (is_run by o) runs) + 1 ≡ length runs
 runs-fewer config events by o leases exports runs withdrawn reported opened used moment k r =
     none-left (is_run by o) runs (effective-is config events by (Abandon o) exports.rows runs k.stands.rows_are k.stands.runs_stand ∙ runs-effective config events by o r)
 
 -- The unit that was reserved for the end, and the object stays.
-end-unrefused : (used running exported : ℕ) (o : ObjId) → used + running ≤ MAX_UNITS → exported ≤ MAX_EXPORTS → room_refusal used running exported true (Abandon o) ≡ None
-end-unrefused used running exported o few rows = rw (le-ltb (MAX_UNITS + 1) (used + running + 1 + 0) (omega (arith, few)), le-ltb MAX_EXPORTS (exported + 0) (omega (arith, rows))) refl
+end-unrefused : (used running exported : ℕ) (o : ObjId) → used + running ≤ MAX_HISTORY_UNITS → exported ≤ MAX_EXPORTS → room_refusal used running exported true (Abandon o) ≡ None
+end-unrefused used running exported o few rows = rw (le-ltb (MAX_HISTORY_UNITS + 1) (used + running + 1 + 0) (omega (arith, few)), le-ltb MAX_EXPORTS (exported + 0) (omega (arith, rows))) refl
 
 pub rows-length : (config : SpaceConfig) (events : List Event) (leases : LeaseTable) (exports : ExportTable) (runs : List Run) (withdrawn : List Withdrawal) (reported opened used moment : ℕ) → Keeps config events leases exports runs withdrawn reported opened used moment → length exports.rows ≤ MAX_EXPORTS
 rows-length config events leases exports runs withdrawn reported opened used moment k = (let same = ap length k.stands.rows_are in let long = mapped (table config (places config events)) in let few = k.stands.within.exports in omega (arith, same, long, few))
@@ -82,8 +82,8 @@ rows-length config events leases exports runs withdrawn reported opened used mom
 -- ---- once it has acted
 
 pub end-acted : (config : SpaceConfig) (events : List Event) (by m : ℕ) (o : ObjId) (leases leases1 : LeaseTable) (exports t : ExportTable) (runs : List Run) (withdrawn : List Withdrawal) (reported opened used moment time : ℕ) →
-    Keeps config events leases exports runs withdrawn reported opened used moment → 0 < running (places config events) by o → m < END_OF_TIME → time ≡ max m moment →
-    ForEachLog leases (λ lease n calls. StandsFor lease leases1 (max time n) calls) → t ≡ record exports { rows = changed ended o exports.rows } →
+    Keeps config events leases exports runs withdrawn reported opened used moment → 0 < running_calls_by (places config events) by o → m < END_OF_TIME → time ≡ max m moment →
+    ForEachLog leases (λ lease n calls. StandsFor lease leases1 (max time n) calls) → t ≡ record exports { rows = with_row_changed with_call_ended o exports.rows } →
     HasActed config events (event_of by m (Abandon o)) leases leases1 exports t runs withdrawn reported opened used moment true
 end-acted config events by m o leases leases1 exports t runs withdrawn reported opened used moment time k r early at lapsed act = record {
   asked = end-asked config events by m o leases exports runs withdrawn reported opened used moment k r;
@@ -113,7 +113,7 @@ end-keeps config events by m o leases leases1 leases2 exports t x3 runs withdraw
 
 -- Its room.
 pub end-room : (config : SpaceConfig) (events events' : List Event) (by m : ℕ) (o : ObjId) (leases leases' : LeaseTable) (x y : ExportTable) (runs runs' : List Run) (withdrawn withdrawn' : List Withdrawal) (reported opened used moment reported' opened' used' moment' events_room withdrawn_room events_room' withdrawn_room' : ℕ) →
-    Keeps config events leases x runs withdrawn reported opened used moment → HasRoom events events_room runs withdrawn withdrawn_room x → 0 < running (places config events) by o →
+    Keeps config events leases x runs withdrawn reported opened used moment → HasRoom events events_room runs withdrawn withdrawn_room x → 0 < running_calls_by (places config events) by o →
     Keeps config events' leases' y runs' withdrawn' reported' opened' used' moment' → events' ≡ events ++ event_of by m (Abandon o) ∷ [] → AreSame runs' (without_first (is_run by o) runs) →
     events_room ≤ events_room' → withdrawn_room ≤ withdrawn_room' → HasRoom events' events_room' runs' withdrawn' withdrawn_room' y
 end-room config events events' by m o leases leases' x y runs runs' withdrawn withdrawn' reported opened used moment reported' opened' used' moment' events_room withdrawn_room events_room' withdrawn_room' k r run l ev ru er wr =
@@ -137,12 +137,12 @@ end-step config events events' by m o leases leases1 exports t runs withdrawn re
 
 -- ---- what its parts require
 
-changed-length : (f : Export → Export) (o : ObjId) (rows : List Export) → length (changed f o rows) ≡ length rows
+changed-length : (f : Export → Export) (o : ObjId) (rows : List Export) → length (with_row_changed f o rows) ≡ length rows
 changed-length f o [] = refl
 changed-length f o (x ∷ rows) = ap suc (changed-length f o rows)
 
-pub end-rows : (exports t : ExportTable) (o : ObjId) → t ≡ record exports { rows = changed ended o exports.rows } → length t.rows ≡ length exports.rows
-end-rows exports t o e = ap (λ (x : ExportTable). length x.rows) e ∙ changed-length ended o exports.rows
+pub end-rows : (exports t : ExportTable) (o : ObjId) → t ≡ record exports { rows = with_row_changed with_call_ended o exports.rows } → length t.rows ≡ length exports.rows
+end-rows exports t o e = ap (λ (x : ExportTable). length x.rows) e ∙ changed-length with_call_ended o exports.rows
 
 -- Some object is exported where one has a running call.
 pub some-rows : (rows : List Export) (o : ObjId) → 0 < running_of rows o → 1 ≤ length rows

@@ -6,20 +6,20 @@ use Rattle.history.specs.declared.asks.SpaceConfig.{SpaceConfig}
 use Rattle.history.specs.declared.asks.Event.{Event}
 use Rattle.history.specs.declared.places.Exported.{Exported}
 use Rattle.history.specs.declared.places.Withdrawal.{Withdrawal}
-use Rattle.history.specs.Limits.{reserved, starts, ends}
-use Rattle.history.specs.Table.{is_effective, is_kept, table, place_of, places, withdrawn, withdrawals_at_end, withdrawals}
+use Rattle.history.specs.Limits.{reserved_units, starts, ends}
+use Rattle.history.specs.Table.{is_effective, is_kept, table, place_of, places, withdrawn_objects, withdrawals_at_end, withdrawals}
 use Rattle.history.proofs.GoneLaws.{withdrawals-push}
 use Rattle.history.proofs.Partitions.{one_if}
-use Rattle.history.proofs.RunningLaws.{reserved-push}
-use Rattle.history.proofs.TableLaws.{places-push, table-place, withdrawn-place}
-use Rattle.dgc_server.specs.Stands.{LeaseTable}
+use Rattle.history.proofs.RunningLaws.{reserved_units-push}
+use Rattle.history.proofs.TableLaws.{places-push, table-place, withdrawn_objects-place}
+use Rattle.dgc_server.specs.StandsForCalls.{LeaseTable}
 use Rattle.export_table.specs.Table.{ExportTable}
 use Rattle.space.specs.declared.runs.Run.{Run}
 use Rattle.space.specs.Acts.{opens}
 use Rattle.space.specs.Ahead.{HasRoom}
 use Rattle.space.specs.Kept.{Keeps}
 use Rattle.space.proofs.Quiet.{adds-length}
-use Rattle.export_table.specs.Stands.{row_of}
+use Rattle.export_table.specs.StandsForHistory.{row_of}
 
 pub some-or-not : {X : Type 0} (p : X → Bool) (xs : List X) → length (filter p xs) + length (filter (λ x. not (p x)) xs) ≡ length xs
 some-or-not p [] = refl
@@ -36,8 +36,8 @@ runs-next : (config : SpaceConfig) (events : List Event) (e : Event) (leases lea
     length runs' + one_if (ends (place_of config (places config events) e)) ≡ length runs + one_if (starts (place_of config (places config events) e))
 runs-next config events e leases leases' x y runs runs' withdrawn withdrawn' reported opened used moment reported' opened' used' moment' k l =
     let before = k.stands.runs_stand.all in
-    let after : length runs' ≡ reserved (place_of config (places config events) e ∷ places config events) = l.stands.runs_stand.all ∙ ap reserved (places-push config events e) in
-    let push = reserved-push config events e in
+    let after : length runs' ≡ reserved_units (place_of config (places config events) e ∷ places config events) = l.stands.runs_stand.all ∙ ap reserved_units (places-push config events e) in
+    let push = reserved_units-push config events e in
     omega (arith, before, after, push)
 
 -- The exported objects and the withdrawals after one more event: each that was exported, or is now, is one or the other.
@@ -53,8 +53,8 @@ objects-next config events e leases leases' x y runs runs' withdrawn_before with
     ∙ ap (λ h. length (table config h)) (places-push config events e) ∙ ap length (table-place config (places config events) e) in
     let goes_before : length withdrawn_before ≡ length (withdrawals config (places config events)) = ap length k.stands.withdrawn_are in
     let goes_now : length (withdrawals_at_end config (place_of config (places config events) e ∷ places config events)) ≡ length (filter (λ o. not (kept o)) all) =
-    length-map (withdrawn config (place_of config (places config events) e ∷ places config events)) (λ (o : Exported). record { object = o.id; place = (place_of config (places config events) e).index })
-    ∙ ap length (withdrawn-place config (places config events) e) in
+    length-map (withdrawn_objects config (place_of config (places config events) e ∷ places config events)) (λ (o : Exported). record { object = o.id; place = (place_of config (places config events) e).index })
+    ∙ ap length (withdrawn_objects-place config (places config events) e) in
     let goes_after : length withdrawn' ≡ length (withdrawals config (places config events)) + length (filter (λ o. not (kept o)) all) =
     ap length (l.stands.withdrawn_are ∙ ap (withdrawals config) (places-push config events e) ∙ withdrawals-push config (place_of config (places config events) e) (places config events))
     ∙ length-append (withdrawals config (places config events)) (withdrawals_at_end config (place_of config (places config events) e ∷ places config events))

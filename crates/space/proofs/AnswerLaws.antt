@@ -25,12 +25,13 @@ use Rattle.history.specs.Limits.{limits, refusal}
 use Rattle.history.specs.Steps.{Step}
 use Rattle.history.specs.declared.replies.Reply.{Reply}
 use Rattle.history.specs.declared.replies.Reply.TheVariants.{Started, NoObject, Finished, NotRunning, Done, Bound, AlreadyBound, Unbound, NotBound}
-use Rattle.history.specs.Places.{History, exported_from, has, kind_of, now, next}
+use Rattle.history.specs.Places.{History, exported_from, has, kind_of, now, exported_count}
 use Rattle.history.specs.Names.{names, stands_for}
 use Rattle.history.specs.Replies.{ids, reply, reply_found}
-use Rattle.history.specs.Running.{running}
+use Rattle.history.specs.Running.{running_calls_by}
 use Rattle.history.specs.Table.{exports, is_effective, table, place_of, places}
-use Rattle.dgc_server.specs.Stands.{LeaseTable}
+use Rattle.history.proofs.NumberLaws.{length-exported_from}
+use Rattle.dgc_server.specs.StandsForCalls.{LeaseTable}
 use Rattle.export_table.specs.declared.rows.Export.{Export}
 use Rattle.export_table.specs.declared.waits.Wait.{Wait}
 use Rattle.export_table.specs.Table.{ExportTable}
@@ -42,56 +43,55 @@ use Rattle.space.proofs.Acting.{stood_for}
 use Rattle.space.proofs.AbandonLaws.{rows-length}
 use Rattle.space.proofs.Keeping.{refusal-kept}
 use Rattle.space.proofs.NotedLaws.{taken-turn, refused-turn}
-use Rattle.space.proofs.Quiet.{exported_from-length}
-use Rattle.space.specs.Ports.{IsReplyTo, MayFill, IsRefusalOf, IsAnswerTo}
+use Rattle.space.specs.TurnAnswers.{IsReplyTo, MayFill, IsRefusalOf, IsAnswerTo}
 
 -- A reply is one of the ask's.
-pub reply-row : (config : SpaceConfig) (h : History) (e : Event) → HasDurations config → length (names h) ≤ MAX_NAMES → AllByRecursion (λ n. length n ≤ MAX_NAME_UNITS) (names h) → IsReplyTo (λ o. 0 < running h e.by o) e.ask (reply config h e)
+pub reply-row : (config : SpaceConfig) (h : History) (e : Event) → HasDurations config → length (names h) ≤ MAX_NAMES → AllByRecursion (λ n. length n ≤ MAX_NAME_UNITS) (names h) → IsReplyTo (λ o. 0 < running_calls_by h e.by o) e.ask (reply config h e)
 unfolding reply place_of exports is_effective
 reply-row config h e d few short = go e.ask
   where
-    begun : (o : ObjId) (v : Bool) (kind : ℕ) → IsReplyTo (λ x. 0 < running h e.by x) (Begin o) (if v then Started kind else NoObject)
+    begun : (o : ObjId) (v : Bool) (kind : ℕ) → IsReplyTo (λ x. 0 < running_calls_by h e.by x) (Begin o) (if v then Started kind else NoObject)
     begun o true kind = tt
     begun o false kind = tt
 
-    ended : (o : ObjId) (v : Bool) → nat_lt 0 (running h e.by o) ≡ v → IsReplyTo (λ x. 0 < running h e.by x) (Abandon o) (if v then Done else NotRunning)
+    ended : (o : ObjId) (v : Bool) → nat_lt 0 (running_calls_by h e.by o) ≡ v → IsReplyTo (λ x. 0 < running_calls_by h e.by x) (Abandon o) (if v then Done else NotRunning)
     ended o true s = tt
-    ended o false s = λ r. (let yes = lt-ltb 0 (running h e.by o) r in cc)
+    ended o false s = λ r. (let yes = lt-ltb 0 (running_calls_by h e.by o) r in cc)
 
-    all-made : (made : List ℕ) → length (ids (exported_from config.uid (next h) false made)) ≡ length made
-    all-made made = length-map (exported_from config.uid (next h) false made) (λ (x : Exported). x.id) ∙ exported_from-length config.uid (next h) false made
+    all-made : (made : List ℕ) → length (ids (exported_from config.uid (exported_count h) false made)) ≡ length made
+    all-made made = length-map (exported_from config.uid (exported_count h) false made) (λ (x : Exported). x.id) ∙ length-exported_from config.uid (exported_count h) false made
 
-    finished : (o : ObjId) (made : List ℕ) (listed : List ObjId) (uid : Uid) (v : Bool) → nat_lt 0 (running h e.by o) ≡ v →
-        IsReplyTo (λ x. 0 < running h e.by x) (Finish o made listed uid) (if v then Finished (ids (if v then exported_from config.uid (next h) false made else [])) else NotRunning)
+    finished : (o : ObjId) (made : List ℕ) (listed : List ObjId) (uid : Uid) (v : Bool) → nat_lt 0 (running_calls_by h e.by o) ≡ v →
+        IsReplyTo (λ x. 0 < running_calls_by h e.by x) (Finish o made listed uid) (if v then Finished (ids (if v then exported_from config.uid (exported_count h) false made else [])) else NotRunning)
     finished o made listed uid true s = all-made made
-    finished o made listed uid false s = λ r. (let yes = lt-ltb 0 (running h e.by o) r in cc)
+    finished o made listed uid false s = λ r. (let yes = lt-ltb 0 (running_calls_by h e.by o) r in cc)
 
-    bound : (n : List ℕ) (o : ObjId) (v w : Bool) → IsReplyTo (λ x. 0 < running h e.by x) (Bind n o) (if v then Bound else if w then AlreadyBound else NoObject)
+    bound : (n : List ℕ) (o : ObjId) (v w : Bool) → IsReplyTo (λ x. 0 < running_calls_by h e.by x) (Bind n o) (if v then Bound else if w then AlreadyBound else NoObject)
     bound n o true w = tt
     bound n o false true = tt
     bound n o false false = tt
 
-    rebound : (n : List ℕ) (o : ObjId) (v : Bool) → IsReplyTo (λ x. 0 < running h e.by x) (Rebind n o) (if v then Bound else NoObject)
+    rebound : (n : List ℕ) (o : ObjId) (v : Bool) → IsReplyTo (λ x. 0 < running_calls_by h e.by x) (Rebind n o) (if v then Bound else NoObject)
     rebound n o true = tt
     rebound n o false = tt
 
-    unbound : (n : List ℕ) (v : Bool) → IsReplyTo (λ x. 0 < running h e.by x) (Unbind n) (if v then Unbound else NotBound)
+    unbound : (n : List ℕ) (v : Bool) → IsReplyTo (λ x. 0 < running_calls_by h e.by x) (Unbind n) (if v then Unbound else NotBound)
     unbound n true = tt
     unbound n false = tt
 
-    found : (n : List ℕ) (u : Uid) (s : Option ObjId) → IsReplyTo (λ x. 0 < running h e.by x) (Lookup n u) (reply_found (table config h) s)
+    found : (n : List ℕ) (u : Uid) (s : Option ObjId) → IsReplyTo (λ x. 0 < running_calls_by h e.by x) (Lookup n u) (reply_found (table config h) s)
     found n u None = tt
     found n u (Some o) = tt
 
-    go : (a : Ask) → IsReplyTo (λ o. 0 < running h e.by o) a (reply config h (record e { ask = a }))
+    go : (a : Ask) → IsReplyTo (λ o. 0 < running_calls_by h e.by o) a (reply config h (record e { ask = a }))
     go (Open kind pinned) = tt
     go (Begin o) = begun o (is_effective config h e.by (Begin o)) (kind_of (table config h) o)
-    go (Abandon o) = ended o (nat_lt 0 (running h e.by o)) refl
+    go (Abandon o) = ended o (nat_lt 0 (running_calls_by h e.by o)) refl
     go (Dirty x y z w) = d.short_lease
     go (Clean x y z w) = tt
     go (Ack u) = tt
     go Tick = tt
-    go (Finish x y z w) = finished x y z w (nat_lt 0 (running h e.by x)) refl
+    go (Finish x y z w) = finished x y z w (nat_lt 0 (running_calls_by h e.by x)) refl
     go (Bind n o) = bound n o (is_effective config h e.by (Bind n o)) (has (table config h) o)
     go (Rebind n o) = rebound n o (is_effective config h e.by (Rebind n o))
     go (Unbind n) = unbound n (is_effective config h e.by (Unbind n))
@@ -172,14 +172,14 @@ refused-row (Rebind x y) used running exported v lease n m count before names_it
 -- WHAT AN EVENT IS ANSWERED is one of its ask's row.
 pub answer-row : (config : SpaceConfig) (events h2 : List Event) (e : Event) (leases : LeaseTable) (exports : ExportTable) (runs : List Run) (withdrawn : List Withdrawal) (reported opened used moment : ℕ) (s : SpaceHistory) (answer : Result Turn Refused) →
     Keeps config events leases exports runs withdrawn reported opened used moment → AllByRecursion (λ n. length n ≤ MAX_NAME_UNITS) (names (places config events)) → record { configuration = config; events = events } ≡ s → Step s.configuration s.events e answer h2 →
-    IsAnswerTo (λ o. 0 < running (places s.configuration s.events) e.by o) e.ask answer
+    IsAnswerTo (λ o. 0 < running_calls_by (places s.configuration s.events) e.by o) e.ask answer
 answer-row config events h2 e leases exports runs withdrawn reported opened used moment s answer k short v t =
     let P : SpaceHistory → Type 0 = λ h. Step h.configuration h.events e answer h2 in
-    let Q : SpaceHistory → Type 0 = λ h. IsAnswerTo (λ o. 0 < running (places h.configuration h.events) e.by o) e.ask answer in
+    let Q : SpaceHistory → Type 0 = λ h. IsAnswerTo (λ o. 0 < running_calls_by (places h.configuration h.events) e.by o) e.ask answer in
     subst Q v (go answer (subst P (sym v) t))
   where
-    go : (r : Result Turn Refused) → Step config events e r h2 → IsAnswerTo (λ o. 0 < running (places config events) e.by o) e.ask r
-    go (Ok turn) t = subst (λ (x : Turn). IsReplyTo (λ o. 0 < running (places config events) e.by o) e.ask x.reply) (sym (taken-turn config events h2 e turn t).0) (reply-row config (places config events) e k.durations k.stands.within.names short)
+    go : (r : Result Turn Refused) → Step config events e r h2 → IsAnswerTo (λ o. 0 < running_calls_by (places config events) e.by o) e.ask r
+    go (Ok turn) t = subst (λ (x : Turn). IsReplyTo (λ o. 0 < running_calls_by (places config events) e.by o) e.ask x.reply) (sym (taken-turn config events h2 e turn t).0) (reply-row config (places config events) e k.durations k.stands.within.names short)
     go (Err refused) t = why refused (refused-turn config events h2 e refused t).0
       where
         why : (x : Refused) → (refusal limits config (places config events) e ≡ Some x) ⊎ (x ≡ OutOfMemory) → IsRefusalOf e.ask x

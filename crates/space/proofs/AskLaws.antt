@@ -10,32 +10,32 @@ use Rattle.history.specs.declared.asks.SpaceConfig.{SpaceConfig}
 use Rattle.history.specs.declared.asks.Event.{Event}
 use Rattle.history.specs.declared.asks.Ask.{Ask}
 use Rattle.history.specs.declared.asks.Ask.TheVariants.{Open, Begin, Finish, Abandon, Dirty, Clean, Ack, Bind, Rebind, Unbind, Lookup, List as ListNames, Tick}
-use Rattle.history.specs.declared.limits.TheConstants.{MAX_EXPORTS, MAX_AWAITING, MAX_UNITS}
+use Rattle.history.specs.declared.limits.TheConstants.{MAX_EXPORTS, MAX_AWAITING, MAX_HISTORY_UNITS}
 use Rattle.history.specs.declared.places.Withdrawal.{Withdrawal}
 use Rattle.history.specs.declared.replies.Refused.{Refused}
 use Rattle.history.specs.declared.replies.Refused.TheVariants.{HistoryFull, Full}
 use Rattle.history.specs.Names.{name_in, object_bound, stands_for}
-use Rattle.history.specs.Places.{History, now, id_at, next}
+use Rattle.history.specs.Places.{History, now, id_at, exported_count}
 use Rattle.history.specs.Limits.{units_of, is_begin, is_end}
-use Rattle.history.specs.Running.{running, running_calls}
+use Rattle.history.specs.Running.{running_calls_by, running_calls}
 use Rattle.history.specs.Table.{is_effective, table, places}
-use Rattle.dgc_server.specs.Stands.{LeaseTable}
+use Rattle.dgc_server.specs.StandsForCalls.{LeaseTable}
 use Rattle.export_table.specs.declared.rows.Export.{Export}
 use Rattle.export_table.specs.declared.waits.Wait.{Wait}
-use Rattle.export_table.specs.Rows.{is_of, row_of, is_exported, is_row_kept as row_kept, running_of, pins_of, new_row, changed, begun, ended, pinned_once, unpinned_once, unpinned, withdrawn as rows_withdrawn}
+use Rattle.export_table.specs.ExportRows.{is_of, row_of, is_exported, is_row_kept as row_kept, running_of, pins_of, new_row, with_row_changed, with_call_begun, with_call_ended, pinned_once, unpinned_once, with_pin_removed, withdrawn_ids as rows_withdrawn}
 use Rattle.export_table.specs.Table.{ExportTable}
 use Rattle.space.specs.declared.runs.Run.{Run}
-use Rattle.space.specs.Acts.{effective_by, opens, new_rows, new_ids, returned_by, awaiting_with, acted, room_refusal, await_refusal}
+use Rattle.space.specs.Acts.{effective_by, opens, new_rows, new_ids, returned_by, awaiting_with, acted_exports, room_refusal, await_refusal}
 use Rattle.space.specs.Kept.{Keeps}
 use Rattle.space.specs.Runs.{is_run, is_run_on, object_of}
-use Rattle.export_table.specs.Stands.{WaitsStand, reference_of, end_of}
+use Rattle.export_table.specs.StandsForHistory.{WaitsStand, reference_of, end_of}
 use Rattle.space.proofs.AwaitLaws.{new-length, return-few, lookup-few}
 use Rattle.export_table.proofs.ThereLaws.{running-there}
 use Rattle.space.proofs.TurnLaws.{IsAsked, is-effective, keeps-room}
 use Rattle.export_table.proofs.StandLaws.{exported-has, named-pins, pins-few, pins-there, running-there as rows-running, running-few}
 use Rattle.rmi_registry.specs.declared.binding.Binding.{Binding}
-use Rattle.rmi_registry.specs.Named.{object_of as standing_object}
-use Rattle.rmi_registry.specs.Stands.{AreBindings}
+use Rattle.rmi_registry.specs.Bindings.{object_of as standing_object}
+use Rattle.rmi_registry.specs.StandsForHistory.{AreBindings}
 use Rattle.export_table.proofs.RowLaws.{exported-changed, row-changed}
 use Rattle.history.proofs.NamedLaws.{named-exported}
 use Rattle.space.proofs.Acting.{stood_for}
@@ -99,7 +99,7 @@ few-run config events leases exports runs withdrawn reported opened used moment 
 
 -- Where a connection runs a call of an object, its row has one.
 run-counted : (config : SpaceConfig) (events : List Event) (leases : LeaseTable) (exports : ExportTable) (runs : List Run) (withdrawn : List Withdrawal) (reported opened used moment : ℕ) → Keeps config events leases exports runs withdrawn reported opened used moment →
-    (by : ℕ) (o : ObjId) → 0 < running (places config events) by o → 0 < running_of exports.rows o
+    (by : ℕ) (o : ObjId) → 0 < running_calls_by (places config events) by o → 0 < running_of exports.rows o
 run-counted config events leases exports runs withdrawn reported opened used moment k by o r =
     let lines = k.stands.runs_stand.lines by o in
     let calls = k.stands.runs_stand.calls o in
@@ -109,9 +109,9 @@ run-counted config events leases exports runs withdrawn reported opened used mom
     let rows = ap (λ l. running_of l o) k.stands.rows_are ∙ rows-running (places config events) (table config (places config events)) o there in
     omega (arith, rows, some)
 
-abandon-effective : (config : SpaceConfig) (events : List Event) (by : ℕ) (o : ObjId) → is_effective config (places config events) by (Abandon o) ≡ true → 0 < running (places config events) by o
+abandon-effective : (config : SpaceConfig) (events : List Event) (by : ℕ) (o : ObjId) → is_effective config (places config events) by (Abandon o) ≡ true → 0 < running_calls_by (places config events) by o
 unfolding is_effective
-abandon-effective config events by o e = ltb-true 0 (running (places config events) by o) e
+abandon-effective config events by o e = ltb-true 0 (running_calls_by (places config events) by o) e
 
 pub abandon-counted : (config : SpaceConfig) (events : List Event) (e : Event) (leases : LeaseTable) (exports : ExportTable) (runs : List Run) (withdrawn : List Withdrawal) (reported opened used moment : ℕ) (effective : Bool) →
     IsAsked config events e leases exports runs withdrawn reported opened used moment effective → (o : ObjId) → effective ≡ true → e.ask ≡ Abandon o → 0 < running_of exports.rows o
@@ -120,9 +120,9 @@ abandon-counted config events e leases exports runs withdrawn reported opened us
     (abandon-effective config events e.by o (ap (is_effective config (places config events) e.by) (sym s) ∙ sym (is-effective config events e leases exports runs withdrawn reported opened used moment effective q) ∙ t))
 
 -- The same of a return, and what it returns is few enough.
-finish-effective : (config : SpaceConfig) (events : List Event) (by : ℕ) (o : ObjId) (made : List ℕ) (listed : List ObjId) (u : Uid) → is_effective config (places config events) by (Finish o made listed u) ≡ true → 0 < running (places config events) by o
+finish-effective : (config : SpaceConfig) (events : List Event) (by : ℕ) (o : ObjId) (made : List ℕ) (listed : List ObjId) (u : Uid) → is_effective config (places config events) by (Finish o made listed u) ≡ true → 0 < running_calls_by (places config events) by o
 unfolding is_effective
-finish-effective config events by o made listed u e = ltb-true 0 (running (places config events) by o) e
+finish-effective config events by o made listed u e = ltb-true 0 (running_calls_by (places config events) by o) e
 
 pub finish-counted : (config : SpaceConfig) (events : List Event) (e : Event) (leases : LeaseTable) (exports : ExportTable) (runs : List Run) (withdrawn : List Withdrawal) (reported opened used moment : ℕ) (effective : Bool) →
     IsAsked config events e leases exports runs withdrawn reported opened used moment effective → (o : ObjId) (made : List ℕ) (listed : List ObjId) (u : Uid) → effective ≡ true → e.ask ≡ Finish o made listed u → 0 < running_of exports.rows o
@@ -142,11 +142,11 @@ finish-few config events e leases exports runs withdrawn reported opened used mo
     (record { asked = s; effective = sym (is-effective config events e leases exports runs withdrawn reported opened used moment effective q) ∙ t; rows_are = k.stands.rows_are; waits_stand = subst N k.stands.moment_is k.stands.waits_stand })
     (ap (λ n. await_refusal n exports.rows exports.waits (stood_for (places config events) e.ask) true (Finish o made listed u)) (sym time_is) ∙ ap (λ v. await_refusal time exports.rows exports.waits (stood_for (places config events) e.ask) v (Finish o made listed u)) (sym t)
     ∙ ap (await_refusal time exports.rows exports.waits (stood_for (places config events) e.ask) effective) (sym s) ∙ fit) in
-    let is : awaiting_with time u os exports.waits ≡ awaiting_with (max e.moment (now (places config events))) u (new_ids config.uid (next (places config events)) made ++ filter (is_exported exports.rows) listed) exports.waits =
+    let is : awaiting_with time u os exports.waits ≡ awaiting_with (max e.moment (now (places config events))) u (new_ids config.uid (exported_count (places config events)) made ++ filter (is_exported exports.rows) listed) exports.waits =
     ap (λ l. awaiting_with time u l exports.waits) (same ∙ ap (λ v. returned_by exports.space exports.added exports.rows (stood_for (places config events) e.ask) v e.ask) t ∙ ap (returned_by exports.space exports.added exports.rows (stood_for (places config events) e.ask) true) s
     ∙ ap (λ y. new_ids y exports.added made ++ filter (is_exported exports.rows) listed) k.stands.space_is
     ∙ ap (λ n. new_ids config.uid n made ++ filter (is_exported exports.rows) listed) (k.stands.added_is ∙ k.stands.opened_is))
-    ∙ ap (λ n. awaiting_with n u (new_ids config.uid (next (places config events)) made ++ filter (is_exported exports.rows) listed) exports.waits) time_is in
+    ∙ ap (λ n. awaiting_with n u (new_ids config.uid (exported_count (places config events)) made ++ filter (is_exported exports.rows) listed) exports.waits) time_is in
     omega (arith, few, is)
 
 -- The same of a lookup.
@@ -184,15 +184,15 @@ stood-pinned config events leases exports runs withdrawn reported opened used mo
         (ap (λ l. is_exported l o) k.stands.rows_are ∙ exported-has (places config events) (table config (places config events)) o ∙ there, omega (arith, some, pins))
 
 -- Another pin leaves it so.
-pub still-pinned : (rows : List Export) (o p : ObjId) → (is_exported rows p ≡ true) × 0 < pins_of rows p → (is_exported (changed pinned_once o rows) p ≡ true) × 0 < pins_of (changed pinned_once o rows) p
+pub still-pinned : (rows : List Export) (o p : ObjId) → (is_exported rows p ≡ true) × 0 < pins_of rows p → (is_exported (with_row_changed pinned_once o rows) p ≡ true) × 0 < pins_of (with_row_changed pinned_once o rows) p
 still-pinned rows o p (there, some) = (exported-changed pinned_once o p (λ x. refl) rows ∙ there, more (row_of rows p) (row-changed pinned_once o p (λ x. refl) rows) some)
   where
     pinned : (b : Bool) (x : Export) → 0 < x.pins → 0 < (if b then pinned_once x else x).pins
     pinned true x h = omega arith
     pinned false x h = h
 
-    more : (r : Option Export) → row_of (changed pinned_once o rows) p ≡ option_map (λ x. if is_of o x then pinned_once x else x) r → 0 < unwrap_or (option_map (λ (x : Export). x.pins) r) 0 →
-        0 < unwrap_or (option_map (λ (x : Export). x.pins) (row_of (changed pinned_once o rows) p)) 0
+    more : (r : Option Export) → row_of (with_row_changed pinned_once o rows) p ≡ option_map (λ x. if is_of o x then pinned_once x else x) r → 0 < unwrap_or (option_map (λ (x : Export). x.pins) r) 0 →
+        0 < unwrap_or (option_map (λ (x : Export). x.pins) (row_of (with_row_changed pinned_once o rows) p)) 0
     more None e h = absurd (omega (arith, h))
     more (Some x) e h =
         let R : Option Export → Type 0 = λ q. 0 < unwrap_or (option_map (λ (y : Export). y.pins) q) 0 in
@@ -216,17 +216,17 @@ bound-exported rows runs stood by _ o e b = absurd (cc)
 -- ---- what room leaves
 
 -- Where there is room, the event's units and the objects that it exports are within their limits.
-pub room-units : (used running exported : ℕ) (effective : Bool) (a : Ask) → room_refusal used running exported effective a ≡ None → used + running + units_of a ≤ MAX_UNITS + 1
+pub room-units : (used running exported : ℕ) (effective : Bool) (a : Ask) → room_refusal used running exported effective a ≡ None → used + running + units_of a ≤ MAX_HISTORY_UNITS + 1
 room-units used running exported effective a h = go (effective && is_end a) (effective && is_begin a) (nat_lt MAX_EXPORTS (exported + opens effective a)) h
   where
     unfull : (b c : Bool) → (if b then Some HistoryFull else if c then Some (Full Exports) else None) ≡ None → b ≡ false
     unfull true c h = absurd (cc)
     unfull false c h = refl
 
-    go : (v w c : Bool) → (if nat_lt (MAX_UNITS + (if v then 1 else 0)) (used + running + units_of a + (if w then 1 else 0)) then Some HistoryFull else if c then Some (Full Exports) else None) ≡ None → used + running + units_of a ≤ MAX_UNITS + 1
-    go v w c h = one v w (ltb-false (MAX_UNITS + (if v then 1 else 0)) (used + running + units_of a + (if w then 1 else 0)) (unfull _ c h))
+    go : (v w c : Bool) → (if nat_lt (MAX_HISTORY_UNITS + (if v then 1 else 0)) (used + running + units_of a + (if w then 1 else 0)) then Some HistoryFull else if c then Some (Full Exports) else None) ≡ None → used + running + units_of a ≤ MAX_HISTORY_UNITS + 1
+    go v w c h = one v w (ltb-false (MAX_HISTORY_UNITS + (if v then 1 else 0)) (used + running + units_of a + (if w then 1 else 0)) (unfull _ c h))
       where
-        one : (v w : Bool) → used + running + units_of a + (if w then 1 else 0) ≤ MAX_UNITS + (if v then 1 else 0) → used + running + units_of a ≤ MAX_UNITS + 1
+        one : (v w : Bool) → used + running + units_of a + (if w then 1 else 0) ≤ MAX_HISTORY_UNITS + (if v then 1 else 0) → used + running + units_of a ≤ MAX_HISTORY_UNITS + 1
         one true true h = omega (arith, h)
         one true false h = omega (arith, h)
         one false true h = omega (arith, h)
@@ -235,7 +235,7 @@ room-units used running exported effective a h = go (effective && is_end a) (eff
 pub room-exports : (used running exported : ℕ) (effective : Bool) (a : Ask) → room_refusal used running exported effective a ≡ None → exported + opens effective a ≤ MAX_EXPORTS
 room-exports used running exported effective a h =
     ltb-false MAX_EXPORTS (exported + opens effective a)
-    (unfull (nat_lt (MAX_UNITS + (if effective && is_end a then 1 else 0)) (used + running + units_of a + (if effective && is_begin a then 1 else 0))) (nat_lt MAX_EXPORTS (exported + opens effective a)) h)
+    (unfull (nat_lt (MAX_HISTORY_UNITS + (if effective && is_end a then 1 else 0)) (used + running + units_of a + (if effective && is_begin a then 1 else 0))) (nat_lt MAX_EXPORTS (exported + opens effective a)) h)
   where
     unfull : (b c : Bool) → (if b then Some HistoryFull else if c then Some (Full Exports) else None) ≡ None → c ≡ false
     unfull true c h = absurd (cc)
@@ -255,7 +255,7 @@ returned-few space k rows stood effective _ = omega arith
 
 -- ---- rows
 
-changed-length : (f : Export → Export) (o : ObjId) (rows : List Export) → length (changed f o rows) ≡ length rows
+changed-length : (f : Export → Export) (o : ObjId) (rows : List Export) → length (with_row_changed f o rows) ≡ length rows
 changed-length f o [] = refl
 changed-length f o (x ∷ rows) = ap suc (changed-length f o rows)
 
@@ -263,24 +263,24 @@ new_rows-length : (space : Uid) (k : ℕ) (kinds : List ℕ) → length (new_row
 new_rows-length space k [] = refl
 new_rows-length space k (kind ∷ kinds) = ap suc (new_rows-length space (k + 1) kinds)
 
-unpinned-length : (stood : Option ObjId) (rows : List Export) → length (unpinned stood rows) ≡ length rows
+unpinned-length : (stood : Option ObjId) (rows : List Export) → length (with_pin_removed stood rows) ≡ length rows
 unpinned-length None rows = refl
 unpinned-length (Some o) rows = changed-length unpinned_once o rows
 
-pub acted-few : (stood : Option ObjId) (effective : Bool) (at : ℕ) (a : Ask) (x y : ExportTable) → y ≡ record (acted stood effective at a x) { room = y.room } → length y.rows ≤ length x.rows + opens effective a
-acted-few stood effective at a x y e = (let rows : length y.rows ≡ length (acted stood effective at a x).rows = ap (λ (t : ExportTable). length t.rows) e in let few = go effective a in omega (arith, rows, few))
+pub acted-few : (stood : Option ObjId) (effective : Bool) (at : ℕ) (a : Ask) (x y : ExportTable) → y ≡ record (acted_exports stood effective at a x) { room = y.room } → length y.rows ≤ length x.rows + opens effective a
+acted-few stood effective at a x y e = (let rows : length y.rows ≡ length (acted_exports stood effective at a x).rows = ap (λ (t : ExportTable). length t.rows) e in let few = go effective a in omega (arith, rows, few))
   where
-    rebound : (o : ObjId) → length (unpinned stood (changed pinned_once o x.rows)) ≡ length x.rows
-    rebound o = unpinned-length stood (changed pinned_once o x.rows) ∙ changed-length pinned_once o x.rows
+    rebound : (o : ObjId) → length (with_pin_removed stood (with_row_changed pinned_once o x.rows)) ≡ length x.rows
+    rebound o = unpinned-length stood (with_row_changed pinned_once o x.rows) ∙ changed-length pinned_once o x.rows
 
-    go : (effective : Bool) (a : Ask) → length (acted stood effective at a x).rows ≤ length x.rows + opens effective a
+    go : (effective : Bool) (a : Ask) → length (acted_exports stood effective at a x).rows ≤ length x.rows + opens effective a
     go effective (Open kind pinned) = let both = length-append x.rows (new_row (id_at x.space x.added) kind pinned ∷ []) in omega (arith, both)
-    go true (Begin o) = let same = changed-length begun o x.rows in omega (arith, same)
+    go true (Begin o) = let same = changed-length with_call_begun o x.rows in omega (arith, same)
     go false (Begin o) = omega arith
     go true (Finish o made listed u) =
-        let same = changed-length ended o x.rows in let both = length-append (changed ended o x.rows) (new_rows x.space x.added made) in let new = new_rows-length x.space x.added made in omega (arith, same, both, new)
+        let same = changed-length with_call_ended o x.rows in let both = length-append (with_row_changed with_call_ended o x.rows) (new_rows x.space x.added made) in let new = new_rows-length x.space x.added made in omega (arith, same, both, new)
     go false (Finish o made listed u) = omega arith
-    go true (Abandon o) = let same = changed-length ended o x.rows in omega (arith, same)
+    go true (Abandon o) = let same = changed-length with_call_ended o x.rows in omega (arith, same)
     go false (Abandon o) = omega arith
     go true (Bind n o) = let same = rebound o in omega (arith, same)
     go false (Bind n o) = omega arith

@@ -21,8 +21,8 @@ use Rattle.history.proofs.TableLaws.{ask-place_of}
 use Rattle.rmi_registry.specs.declared.binding.Binding.{Binding}
 use Rattle.rmi_registry.specs.declared.names.NameFault.{NameFault}
 use Rattle.rmi_registry.specs.declared.names.NameFault.TheVariants.{Full as FullFault, OutOfMemory as NoMemoryFault}
-use Rattle.rmi_registry.specs.Named.{is_bound, object_of, IsRegistry}
-use Rattle.rmi_registry.specs.Stands.{AreBindings}
+use Rattle.rmi_registry.specs.Bindings.{is_bound, object_of, IsRegistry}
+use Rattle.rmi_registry.specs.StandsForHistory.{AreBindings}
 use Rattle.rmi_registry.proofs.BindingLaws.{rebound-new}
 use Rattle.export_table.proofs.StandLaws.{bind-stood}
 use Rattle.rmi_registry.proofs.StandLaws.{bind-adds, rebind-changes, unbind-takes, others-leave-names}

@@ -7,7 +7,6 @@ use Rattle.std.proofs.lemmas.List.Folds.{list_any-append}
 use Rattle.object_ids.specs.declared.ids.ObjId.{ObjId}
 use Rattle.object_ids.specs.Client.{Client}
 use Rattle.object_ids.specs.Same.{same_client}
-use Rattle.object_ids.proofs.Exact.{same_client-equal, same_client-self}
 use Rattle.history.specs.declared.asks.Ask.{Ask}
 use Rattle.history.specs.declared.asks.Ask.TheVariants.{Dirty, Clean}
 use Rattle.history.specs.declared.calls.Call.{Call}
@@ -15,10 +14,9 @@ use Rattle.history.specs.Lists.{distinct}
 use Rattle.history.specs.LeaseCalls.{call_with}
 use Rattle.history.specs.Leases.{is_dirty, lease_end, has_time_left, calls_of, clients, clients_with_time_left}
 use Rattle.history.proofs.LeaseLaws.{list_any-clients}
-use Rattle.history.proofs.ListLemmas.{IsEquality, AllOnce-distinct, length-fewer, and_false}
-use Rattle.dgc_server.proofs.Distinct.{any-filtered, turned}
-use Rattle.export_table.proofs.WaitLaws.{any-distinct}
-use Rattle.dgc_server.proofs.Rising.{decides-client}
+use Rattle.history.proofs.ListLemmas.{IsEquality, AllOnce-distinct, length-fewer, and_false, any-filtered, same-turned, any-distinct}
+use Rattle.history.proofs.Equalities.{client-equality}
+use Rattle.history.proofs.PairLaws.{lease_end-clean}
 use Rattle.dgc_server.proofs.Outputs.{time-called}
 use Rattle.dgc_server.proofs.Steps.{earlier}
 
@@ -29,18 +27,15 @@ pub distinct-fewer : {X : Type 0} (same : X → X → Bool) → IsEquality same 
     length (distinct same xs) ≤ length (distinct same ys)
 distinct-fewer same e xs ys f =
     length-fewer same e (distinct same xs) (distinct same ys) (AllOnce-distinct same e xs)
-    (λ k h. any-distinct same e k ys ∙ f k (sym (any-distinct same e k xs) ∙ h))
+    (λ k h. any-distinct e k ys ∙ f k (sym (any-distinct e k xs) ∙ h))
 
 -- ---- clients with time left
-
-pub client-equality : IsEquality same_client
-client-equality = record { self = same_client-self; equal = same_client-equal }
 
 -- A client is among those with time left exactly where it has time left.
 pub any-left : (lease t : ℕ) (calls : List Call) (k : Client) → list_any (same_client k) (clients_with_time_left lease t calls) ≡ has_time_left lease t (calls_of k calls)
 unfolding clients_with_time_left
 any-left lease t calls k =
-    any-filtered decides-client (λ c. has_time_left lease t (calls_of c calls)) k (clients calls)
+    any-filtered client-equality (λ c. has_time_left lease t (calls_of c calls)) k (clients calls)
     ∙ ap (λ v. v && has_time_left lease t (calls_of k calls)) (list_any-clients (same_client k) calls)
     ∙ both (has_time_left lease t (calls_of k calls)) refl
   where
@@ -61,11 +56,6 @@ fewer-left lease t u calls le =
 
 -- ---- one more call
 
--- A call that is no dirty moves no lease.
-pub lease_end-clean : (lease : ℕ) (x : Call) (own : List Call) → is_dirty x ≡ false → lease_end lease (x ∷ own) ≡ lease_end lease own
-unfolding lease_end
-lease_end-clean lease x own d = rw d refl
-
 -- The calls of a client, with one more call.
 pub own-more : (x : Call) (calls : List Call) (k : Client) (b : Bool) → same_client x.client k ≡ b → calls_of k (x ∷ calls) ≡ cond b (x ∷ calls_of k calls) (calls_of k calls)
 unfolding calls_of
@@ -79,7 +69,7 @@ left-after lease t x calls k h = go (same_client x.client k) (is_dirty x) refl r
     go : (b d : Bool) → same_client x.client k ≡ b → is_dirty x ≡ d →
         (list_any (same_client k) (map (λ y. y.client) (cond d (x ∷ []) [])) ≡ true) ⊎ (has_time_left lease t (calls_of k calls) ≡ true)
     go false d e f = inr (ap (has_time_left lease t) (sym (own-more x calls k false e)) ∙ h)
-    go true true e f = inl (or_left (same_client k x.client) false (turned decides-client k x.client ∙ e))
+    go true true e f = inl (or_left (same_client k x.client) false (same-turned client-equality k x.client ∙ e))
     go true false e f =
         inr (ap (λ n. nat_lt t n) (sym (lease_end-clean lease x (calls_of k calls) f)) ∙ ap (has_time_left lease t) (sym (own-more x calls k true e)) ∙ h)
 

@@ -8,7 +8,7 @@ use Rattle.history.specs.Collector.{Collects}
 use Rattle.history.specs.Steps.{Step, Steps}
 use Rattle.history.proofs.CollectorLaws.{collects-after}
 use Rattle.space.specs.Built.{SpaceHistory}
-use Rattle.space.specs.Lists.{CollectsEach}
+use Rattle.space.specs.EventLists.{CollectsEach}
 use Rattle.space.proofs.ListLaws.{HasTaken, taken-after}
 
 -- One that was taken.

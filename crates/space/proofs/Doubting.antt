@@ -16,14 +16,14 @@ use Rattle.history.specs.LeaseCalls.{call_with}
 use Rattle.history.specs.Leases.{is_naming, is_held}
 use Rattle.history.specs.Places.{id_at}
 use Rattle.history.proofs.ListLemmas.{list_any-filter, filter-same, every-always}
-use Rattle.dgc_server.specs.Stands.{LeaseTable, ForEachLog}
+use Rattle.dgc_server.specs.StandsForCalls.{LeaseTable, ForEachLog}
 use Rattle.export_table.specs.declared.rows.Export.{Export}
 use Rattle.export_table.specs.declared.waits.Wait.{Wait}
-use Rattle.export_table.specs.Rows.{is_of, is_exported, is_pinned, is_among, new_row, changed, begun, ended, pinned_once, unpinned_once, unpinned}
-use Rattle.export_table.specs.Stands.{added_rows}
+use Rattle.export_table.specs.ExportRows.{is_of, is_exported, is_pinned, is_among, new_row, with_row_changed, with_call_begun, with_call_ended, pinned_once, unpinned_once, with_pin_removed}
+use Rattle.export_table.specs.StandsForHistory.{added_rows}
 use Rattle.export_table.specs.Table.{ExportTable}
-use Rattle.export_table.specs.Waits.{is_wait_of, goes_on, waiting, over, of_return, objects, is_awaited, end_of_wait, listed, listed_each, acknowledged}
-use Rattle.space.specs.Acts.{acted, new_ids, returned_by}
+use Rattle.export_table.specs.Waits.{is_wait_of, goes_on, still_waiting, ended_waits, of_return, objects, is_awaited, end_of_wait, with_listed, with_each_listed, without_acknowledged}
+use Rattle.space.specs.Acts.{acted_exports, new_ids, returned_by}
 use Rattle.space.specs.Doubts.{taken_by, AreInDoubt}
 use Rattle.space.proofs.Holding.{any-weaker, held-call}
 
@@ -44,10 +44,6 @@ any-right p xs ys h = list_any-append p xs ys ∙ or_right (list_any p xs) (list
 pub weaken : (a b c : Bool) → (b ≡ true → c ≡ true) → (a || b) ≡ true → (a || c) ≡ true
 weaken true b c f h = refl
 weaken false b c f h = f h
-
-pub same-all : {X : Type 0} (p q : X → Bool) → ((x : X) → p x ≡ q x) → (xs : List X) → list_all p xs ≡ list_all q xs
-same-all p q f [] = refl
-same-all p q f (x ∷ xs) = ap (λ b. b && list_all p xs) (f x) ∙ ap (λ b. q x && b) (same-all p q f xs)
 
 pub three : (a b c : Bool) → ((a || b) || c) ≡ (a || (b || c))
 three true b c = refl
@@ -79,9 +75,9 @@ goes-or-stays g p o f (w ∷ ws) h = go (g w) (p w) refl h (goes-or-stays g p o 
     go false false k h r = skip (same_id o w.object) (among (objects gone) o) (list_any p stay) (r h)
 
 -- As time passes.
-pub awaited-later : (m t : ℕ) (o : ObjId) (ws : List Wait) → is_awaited m o ws ≡ true → (among (objects (over t ws)) o || is_awaited t o ws) ≡ true
+pub awaited-later : (m t : ℕ) (o : ObjId) (ws : List Wait) → is_awaited m o ws ≡ true → (among (objects (ended_waits t ws)) o || is_awaited t o ws) ≡ true
 awaited-later m t o ws h =
-    weaken (among (objects (over t ws)) o) (list_any (λ w. goes_on m w && same_id w.object o) (filter (goes_on t) ws)) (is_awaited t o ws)
+    weaken (among (objects (ended_waits t ws)) o) (list_any (λ w. goes_on m w && same_id w.object o) (filter (goes_on t) ws)) (is_awaited t o ws)
     (λ k. any-weaker (λ w. goes_on t w && (goes_on m w && same_id w.object o)) (λ w. goes_on t w && same_id w.object o)
     (λ w l. let two = and_parts (goes_on t w) (goes_on m w && same_id w.object o) l in
     and_from (goes_on t w) (same_id w.object o) two.0 (and_parts (goes_on m w) (same_id w.object o) two.1).1)
@@ -89,7 +85,7 @@ awaited-later m t o ws h =
     (goes-or-stays (goes_on t) (λ w. goes_on m w && same_id w.object o) o (λ w k. swap w.object o (and_parts (goes_on m w) (same_id w.object o) k).1) ws h)
 
 -- As a reference is listed.
-listed-awaits : (ack t : ℕ) (o q : ObjId) (u : Uid) (ws : List Wait) → 1 ≤ ack → is_awaited t o ws ≡ true → is_awaited t o (listed ack t q u ws) ≡ true
+listed-awaits : (ack t : ℕ) (o q : ObjId) (u : Uid) (ws : List Wait) → 1 ≤ ack → is_awaited t o ws ≡ true → is_awaited t o (with_listed ack t q u ws) ≡ true
 listed-awaits ack t o q u ws some h = go (same_id q o) refl
   where
     new : Wait
@@ -109,19 +105,19 @@ listed-awaits ack t o q u ws some h = go (same_id q o) refl
     apart e w k true l = absurd (
         let one : same_id q o ≡ true = same_id-true q o (sym (same_id-equal w.object q l) ∙ same_id-equal w.object o k) in cc)
 
-    go : (b : Bool) → same_id q o ≡ b → is_awaited t o (listed ack t q u ws) ≡ true
+    go : (b : Bool) → same_id q o ≡ b → is_awaited t o (with_listed ack t q u ws) ≡ true
     go true e =
-        any-right on (filter other (waiting t ws)) (new ∷ []) (or_left (on new) false (and_from (goes_on t new) (same_id q o) later e))
+        any-right on (filter other (still_waiting t ws)) (new ∷ []) (or_left (on new) false (and_from (goes_on t new) (same_id q o) later e))
     go false e =
-        any-left on (filter other (waiting t ws)) (new ∷ [])
-        (list_any-filter on other (waiting t ws) ∙ list_any-filter (λ w. other w && on w) (goes_on t) ws
+        any-left on (filter other (still_waiting t ws)) (new ∷ [])
+        (list_any-filter on other (still_waiting t ws) ∙ list_any-filter (λ w. other w && on w) (goes_on t) ws
         ∙ any-weaker on (λ w. goes_on t w && (other w && on w))
         (λ w k. let two = and_parts (goes_on t w) (same_id w.object o) k in
         and_from (goes_on t w) (other w && on w) two.0 (and_from (other w) (on w) (apart e w two.1 (same_id w.object q) refl) k)) ws h)
 
-listed-each-awaits : (ack t : ℕ) (o : ObjId) (u : Uid) (os : List ObjId) (ws : List Wait) → 1 ≤ ack → is_awaited t o ws ≡ true → is_awaited t o (listed_each ack t u os ws) ≡ true
+listed-each-awaits : (ack t : ℕ) (o : ObjId) (u : Uid) (os : List ObjId) (ws : List Wait) → 1 ≤ ack → is_awaited t o ws ≡ true → is_awaited t o (with_each_listed ack t u os ws) ≡ true
 listed-each-awaits ack t o u [] ws some h = h
-listed-each-awaits ack t o u (q ∷ os) ws some h = listed-each-awaits ack t o u os (listed ack t q u ws) some (listed-awaits ack t o q u ws some h)
+listed-each-awaits ack t o u (q ∷ os) ws some h = listed-each-awaits ack t o u os (with_listed ack t q u ws) some (listed-awaits ack t o q u ws some h)
 
 twice-not : (u : Uid) (ws : List Wait) → filter (λ w. not (not (same_uid w.uid u))) ws ≡ of_return u ws
 twice-not u ws = filter-same (λ w. not (not (same_uid w.uid u))) (λ w. same_uid w.uid u) ws (every-always (λ w. not (not (same_uid w.uid u)) ≡ same_uid w.uid u) (λ w. twice (same_uid w.uid u)) ws)
@@ -132,9 +128,9 @@ twice-not u ws = filter-same (λ w. not (not (same_uid w.uid u))) (λ w. same_ui
 
 -- At an event.
 pub waits-stay : (stood : Option ObjId) (effective : Bool) (t : ℕ) (a : Ask) (x : ExportTable) (fresh : ObjId) (returned : List ObjId) (o : ObjId) → 1 ≤ x.ack → is_awaited t o x.waits ≡ true →
-    (among (taken_by x.waits fresh stood returned a) o || is_awaited t o (acted stood effective t a x).waits) ≡ true
+    (among (taken_by x.waits fresh stood returned a) o || is_awaited t o (acted_exports stood effective t a x).waits) ≡ true
 waits-stay stood effective t (Ack u) x fresh returned o some h =
-    ap (λ l. among (objects l) o || is_awaited t o (acknowledged u x.waits)) (sym (twice-not u x.waits))
+    ap (λ l. among (objects l) o || is_awaited t o (without_acknowledged u x.waits)) (sym (twice-not u x.waits))
     ∙ goes-or-stays (λ w. not (same_uid w.uid u)) (λ w. goes_on t w && same_id w.object o) o (λ w k. swap w.object o (and_parts (goes_on t w) (same_id w.object o) k).1) x.waits h
 waits-stay stood true t (Finish object made named u) x fresh returned o some h =
     or_right (among (object ∷ returned) o) _ (listed-each-awaits x.ack t o u (new_ids x.space x.added made ++ filter (is_exported x.rows) named) x.waits some h)
@@ -215,11 +211,11 @@ safe-more os test more f (x ∷ rows) h =
 
 -- A change to the row of an object that leaves it kept, or of one in doubt.
 safe-changed : (os : List ObjId) (test : ObjId → Bool) (f : Export → Export) (o : ObjId) → ((x : Export) → is_of o x ≡ true → is_safe os test (f x) ≡ true) → (rows : List Export) →
-    list_all (is_safe os test) rows ≡ true → list_all (is_safe os test) (changed f o rows) ≡ true
+    list_all (is_safe os test) rows ≡ true → list_all (is_safe os test) (with_row_changed f o rows) ≡ true
 safe-changed os test f o g [] h = refl
 safe-changed os test f o g (x ∷ rows) h =
     let two = and_parts (is_safe os test x) (list_all (is_safe os test) rows) h in
-    and_from (is_safe os test (if is_of o x then f x else x)) (list_all (is_safe os test) (changed f o rows)) (go (is_of o x) refl two.0) (safe-changed os test f o g rows two.1)
+    and_from (is_safe os test (if is_of o x then f x else x)) (list_all (is_safe os test) (with_row_changed f o rows)) (go (is_of o x) refl two.0) (safe-changed os test f o g rows two.1)
   where
     go : (b : Bool) → is_of o x ≡ b → is_safe os test x ≡ true → is_safe os test (if b then f x else x) ≡ true
     go true e k = g x e
@@ -232,7 +228,7 @@ safe-pinned os test x p = or_right (is_among os x) (is_pinned x || test x.id) (o
 safe-doubtful : (os : List ObjId) (test : ObjId → Bool) (o : ObjId) (x : Export) → same_id x.id o ≡ true → among os o ≡ true → is_safe os test x ≡ true
 safe-doubtful os test o x e d = or_left (is_among os x) (is_pinned x || test x.id) (ap (among os) (same_id-equal x.id o e) ∙ d)
 
-begun-pinned : (x : Export) → is_pinned (begun x) ≡ true
+begun-pinned : (x : Export) → is_pinned (with_call_begun x) ≡ true
 begun-pinned x = or_right (x.pinned || nat_lt 0 x.pins) (nat_lt 0 (x.running + 1)) (lt-ltb 0 (x.running + 1) (omega arith))
 
 once-pinned : (x : Export) → is_pinned (pinned_once x) ≡ true
@@ -254,33 +250,33 @@ first-among : (o : ObjId) (os : List ObjId) → among (o ∷ os) o ≡ true
 first-among o os = or_left (same_id o o) (among os o) (same_id-self o)
 
 safe-unpinned : (os : List ObjId) (test : ObjId → Bool) (stood : Option ObjId) → ((o : ObjId) → among (option_to_list stood) o ≡ true → among os o ≡ true) → (rows : List Export) →
-    list_all (is_safe os test) rows ≡ true → list_all (is_safe os test) (unpinned stood rows) ≡ true
+    list_all (is_safe os test) rows ≡ true → list_all (is_safe os test) (with_pin_removed stood rows) ≡ true
 safe-unpinned os test None f rows h = h
 safe-unpinned os test (Some o) f rows h = safe-changed os test unpinned_once o (λ x e. safe-doubtful os test o (unpinned_once x) e (f o (first-among o []))) rows h
 
 -- At the event.
 pub safe-after : (os : List ObjId) (test : ObjId → Bool) (stood : Option ObjId) (effective : Bool) (t : ℕ) (a : Ask) (x : ExportTable) →
     ((o : ObjId) → among (taken_by x.waits (id_at x.space x.added) stood (returned_by x.space x.added x.rows stood effective a) a) o ≡ true → among os o ≡ true) →
-    list_all (is_safe os test) x.rows ≡ true → list_all (is_safe os test) (acted stood effective t a x).rows ≡ true
+    list_all (is_safe os test) x.rows ≡ true → list_all (is_safe os test) (acted_exports stood effective t a x).rows ≡ true
 safe-after os test stood effective t (Open kind pinned) x f h =
     safe-both os test x.rows (new_row (id_at x.space x.added) kind pinned ∷ []) h
     (and_from (is_safe os test (new_row (id_at x.space x.added) kind pinned)) true
     (safe-doubtful os test (id_at x.space x.added) (new_row (id_at x.space x.added) kind pinned) (same_id-self (id_at x.space x.added)) (f (id_at x.space x.added) (first-among (id_at x.space x.added) []))) refl)
-safe-after os test stood true t (Begin o) x f h = safe-changed os test begun o (λ y e. safe-pinned os test (begun y) (begun-pinned y)) x.rows h
+safe-after os test stood true t (Begin o) x f h = safe-changed os test with_call_begun o (λ y e. safe-pinned os test (with_call_begun y) (begun-pinned y)) x.rows h
 safe-after os test stood false t (Begin o) x f h = h
 safe-after os test stood true t (Finish o made named u) x f h =
-    safe-both os test (changed ended o x.rows) (added_rows x.space x.added false made)
-    (safe-changed os test ended o (λ y e. safe-doubtful os test o (ended y) e (f o (first-among o (new_ids x.space x.added made ++ filter (is_exported x.rows) named)))) x.rows h)
+    safe-both os test (with_row_changed with_call_ended o x.rows) (added_rows x.space x.added false made)
+    (safe-changed os test with_call_ended o (λ y e. safe-doubtful os test o (with_call_ended y) e (f o (first-among o (new_ids x.space x.added made ++ filter (is_exported x.rows) named)))) x.rows h)
     (safe-added os test x.space x.added false made
     (λ q k. f q (or_right (same_id q o) (among (new_ids x.space x.added made ++ filter (is_exported x.rows) named) q) (any-left (same_id q) (new_ids x.space x.added made) (filter (is_exported x.rows) named) k))))
 safe-after os test stood false t (Finish o made named u) x f h = h
-safe-after os test stood true t (Abandon o) x f h = safe-changed os test ended o (λ y e. safe-doubtful os test o (ended y) e (f o (first-among o []))) x.rows h
+safe-after os test stood true t (Abandon o) x f h = safe-changed os test with_call_ended o (λ y e. safe-doubtful os test o (with_call_ended y) e (f o (first-among o []))) x.rows h
 safe-after os test stood false t (Abandon o) x f h = h
 safe-after os test stood true t (Bind n o) x f h =
-    safe-unpinned os test stood f (changed pinned_once o x.rows) (safe-changed os test pinned_once o (λ y e. safe-pinned os test (pinned_once y) (once-pinned y)) x.rows h)
+    safe-unpinned os test stood f (with_row_changed pinned_once o x.rows) (safe-changed os test pinned_once o (λ y e. safe-pinned os test (pinned_once y) (once-pinned y)) x.rows h)
 safe-after os test stood false t (Bind n o) x f h = h
 safe-after os test stood true t (Rebind n o) x f h =
-    safe-unpinned os test stood f (changed pinned_once o x.rows) (safe-changed os test pinned_once o (λ y e. safe-pinned os test (pinned_once y) (once-pinned y)) x.rows h)
+    safe-unpinned os test stood f (with_row_changed pinned_once o x.rows) (safe-changed os test pinned_once o (λ y e. safe-pinned os test (pinned_once y) (once-pinned y)) x.rows h)
 safe-after os test stood false t (Rebind n o) x f h = h
 safe-after os test stood true t (Unbind n) x f h = safe-unpinned os test stood f x.rows h
 safe-after os test stood false t (Unbind n) x f h = h
@@ -295,7 +291,7 @@ safe-after os test stood effective t ListNames x f h = h
 
 pub in-doubt : (leases : LeaseTable) (t : ℕ) (waits : List Wait) (taken freed ended os : List ObjId) →
     ForEachLog leases (λ lease moment calls. (o : ObjId) → is_held lease moment calls o ≡ true → is_held lease (max t moment) calls o ≡ false → among freed o ≡ true) →
-    ended ≡ objects (over t waits) → os ≡ (freed ++ ended) ++ taken → AreInDoubt leases t waits taken os
+    ended ≡ objects (ended_waits t waits) → os ≡ (freed ++ ended) ++ taken → AreInDoubt leases t waits taken os
 in-doubt leases t waits taken freed ended os f e all = record {
   freed = λ lease moment calls s o held none. there o (any-left (same_id o) (freed ++ ended) taken (any-left (same_id o) freed ended (f lease moment calls s o held none)));
   ended = λ o h. there o (any-left (same_id o) (freed ++ ended) taken (any-right (same_id o) freed ended (ap (λ l. among l o) e ∙ h)));
@@ -307,7 +303,7 @@ in-doubt leases t waits taken freed ended os f e all = record {
 
 -- Where time takes nothing, those from which the ask takes something.
 pub in-doubt-taken : (leases : LeaseTable) (t : ℕ) (waits : List Wait) (taken : List ObjId) →
-    ForEachLog leases (λ lease moment calls. (o : ObjId) → is_held lease moment calls o ≡ true → is_held lease (max t moment) calls o ≡ true) → over t waits ≡ [] → AreInDoubt leases t waits taken taken
+    ForEachLog leases (λ lease moment calls. (o : ObjId) → is_held lease moment calls o ≡ true → is_held lease (max t moment) calls o ≡ true) → ended_waits t waits ≡ [] → AreInDoubt leases t waits taken taken
 in-doubt-taken leases t waits taken still none = record {
   freed = λ lease moment calls s o held lost. absurd (true≢false (sym (still lease moment calls s o held) ∙ lost));
   ended = λ o h. absurd (true≢false (sym h ∙ ap (λ ws. among (objects ws) o) none));
@@ -315,10 +311,10 @@ in-doubt-taken leases t waits taken still none = record {
 }
 
 -- Where no wait has ended, none is over.
-pub nothing-over : (t : ℕ) (ws : List Wait) → list_any (λ w. not (goes_on t w)) ws ≡ false → over t ws ≡ []
+pub nothing-over : (t : ℕ) (ws : List Wait) → list_any (λ w. not (goes_on t w)) ws ≡ false → ended_waits t ws ≡ []
 nothing-over t [] h = refl
 nothing-over t (w ∷ ws) h = go (goes_on t w) h (nothing-over t ws)
   where
-    go : (b : Bool) → (not b || list_any (λ v. not (goes_on t v)) ws) ≡ false → (list_any (λ v. not (goes_on t v)) ws ≡ false → over t ws ≡ []) → cond (not b) (w ∷ over t ws) (over t ws) ≡ []
+    go : (b : Bool) → (not b || list_any (λ v. not (goes_on t v)) ws) ≡ false → (list_any (λ v. not (goes_on t v)) ws ≡ false → ended_waits t ws ≡ []) → cond (not b) (w ∷ ended_waits t ws) (ended_waits t ws) ≡ []
     go true h f = f h
     go false h f = absurd (cc)

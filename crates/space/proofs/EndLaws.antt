@@ -8,13 +8,13 @@ use Rattle.history.specs.declared.places.Withdrawal.{Withdrawal}
 use Rattle.history.specs.Places.{now}
 use Rattle.history.specs.Table.{places}
 use Rattle.dgc_server.specs.Counts.{without_all}
-use Rattle.dgc_server.specs.Stands.{LeaseTable, StandsFor, ForEachLog}
-use Rattle.export_table.specs.Rows.{is_row_kept as row_kept, held_by, withdrawn as rows_withdrawn}
+use Rattle.dgc_server.specs.StandsForCalls.{LeaseTable, StandsFor, ForEachLog}
+use Rattle.export_table.specs.ExportRows.{is_row_kept as row_kept, held_by, withdrawn_ids as rows_withdrawn}
 use Rattle.export_table.specs.Table.{ExportTable}
-use Rattle.export_table.specs.Waits.{waiting}
+use Rattle.export_table.specs.Waits.{still_waiting}
 use Rattle.space.specs.declared.runs.Run.{Run}
 use Rattle.rmi_registry.specs.declared.binding.Binding.{Binding}
-use Rattle.rmi_registry.specs.Stands.{AreBindings}
+use Rattle.rmi_registry.specs.StandsForHistory.{AreBindings}
 use Rattle.space.specs.Ahead.{HasRoom}
 use Rattle.space.specs.Doubts.{HasLog}
 use Rattle.space.specs.Kept.{Keeps}
@@ -33,12 +33,12 @@ has-log config events e leases leases1 exports t runs withdrawn reported opened 
 
 -- What the withdrawal answered, of a table but for its room.
 pub has-withdrawn : (leases1 leases2 : LeaseTable) (t y z : ExportTable) (time : ℕ) (told_gone all_gone : List ObjId) → y ≡ record t { room = y.room } →
-    ForEachLog leases1 (λ lease moment calls. z ≡ record y { rows = filter (row_kept time (held_by lease (max time moment) calls) y.waits) y.rows; waits = waiting time y.waits; room = z.room }) →
+    ForEachLog leases1 (λ lease moment calls. z ≡ record y { rows = filter (row_kept time (held_by lease (max time moment) calls) y.waits) y.rows; waits = still_waiting time y.waits; room = z.room }) →
     ForEachLog leases1 (λ lease moment calls. all_gone ≡ told_gone ++ rows_withdrawn time (held_by lease (max time moment) calls) y.waits y.rows) →
     ForEachLog leases1 (λ lease moment calls. StandsFor lease leases2 moment (map (without_all (rows_withdrawn time (held_by lease (max time moment) calls) y.waits y.rows)) calls)) →
     HasWithdrawn leases1 leases2 t z time told_gone all_gone
 has-withdrawn leases1 leases2 t y z time told_gone all_gone e kept gone dropped =
-    let K : ExportTable → Type 0 = λ x. ForEachLog leases1 (λ lease moment calls. z ≡ record x { rows = filter (row_kept time (held_by lease (max time moment) calls) x.waits) x.rows; waits = waiting time x.waits; room = z.room }) in
+    let K : ExportTable → Type 0 = λ x. ForEachLog leases1 (λ lease moment calls. z ≡ record x { rows = filter (row_kept time (held_by lease (max time moment) calls) x.waits) x.rows; waits = still_waiting time x.waits; room = z.room }) in
     let G : ExportTable → Type 0 = λ x. ForEachLog leases1 (λ lease moment calls. all_gone ≡ told_gone ++ rows_withdrawn time (held_by lease (max time moment) calls) x.waits x.rows) in
     let D : ExportTable → Type 0 = λ x. ForEachLog leases1 (λ lease moment calls. StandsFor lease leases2 moment (map (without_all (rows_withdrawn time (held_by lease (max time moment) calls) x.waits x.rows)) calls)) in
     record { kept = subst K e kept; gone = subst G e gone; dropped = subst D e dropped }

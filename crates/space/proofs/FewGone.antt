@@ -7,15 +7,15 @@ use Rattle.object_ids.specs.declared.ids.ObjId.{ObjId}
 use Rattle.object_ids.specs.Same.{same_id}
 use Rattle.object_ids.proofs.Exact.{same_id-equal}
 use Rattle.history.proofs.ListLemmas.{length-fewer}
-use Rattle.dgc_server.specs.Stands.{LeaseTable, ForEachLog}
+use Rattle.history.proofs.Equalities.{object-equality}
+use Rattle.dgc_server.specs.StandsForCalls.{LeaseTable, ForEachLog}
 use Rattle.export_table.specs.declared.rows.Export.{Export}
 use Rattle.export_table.specs.declared.waits.Wait.{Wait}
-use Rattle.export_table.specs.Rows.{ids, is_rising, is_among, is_row_kept, is_settled_but, held_by, withdrawn, IsPart}
+use Rattle.export_table.specs.ExportRows.{ids, is_rising, is_among, is_row_kept, is_settled_but, held_by, withdrawn_ids, IsPart}
 use Rattle.export_table.specs.Table.{ExportTable}
 use Rattle.export_table.proofs.Parts.{part-map, part-rising}
 use Rattle.export_table.proofs.RowLaws.{rising-once}
 use Rattle.space.specs.Doubts.{HasLog}
-use Rattle.space.proofs.RowLaws.{object-equality}
 
 part-filter : (q : Export → Bool) (rows : List Export) → IsPart (filter q rows) rows
 part-filter q [] = refl
@@ -27,7 +27,7 @@ part-filter q (x ∷ rows) = go (q x) (part-filter q rows)
 
 -- Each that goes is in doubt.
 goes-doubtful : (os : List ObjId) (t : ℕ) (held : ObjId → Bool) (waits : List Wait) (rows : List Export) → is_settled_but os t held waits rows ≡ true →
-    (k : ObjId) → list_any (same_id k) (withdrawn t held waits rows) ≡ true → list_any (same_id k) os ≡ true
+    (k : ObjId) → list_any (same_id k) (withdrawn_ids t held waits rows) ≡ true → list_any (same_id k) os ≡ true
 goes-doubtful os t held waits [] s k h = absurd (cc)
 goes-doubtful os t held waits (x ∷ rows) s k h =
     let two = and_parts (is_among os x || is_row_kept t held waits x) (is_settled_but os t held waits rows) s in
@@ -51,20 +51,20 @@ goes-doubtful os t held waits (x ∷ rows) s k h =
     go false p g f = here (same_id k x.id) refl g (alone (is_among os x) p) f
 
 doubtful-few : (os : List ObjId) (t : ℕ) (held : ObjId → Bool) (waits : List Wait) (rows : List Export) → is_rising (ids rows) ≡ true → is_settled_but os t held waits rows ≡ true →
-    length (withdrawn t held waits rows) ≤ length os
+    length (withdrawn_ids t held waits rows) ≤ length os
 doubtful-few os t held waits rows r s =
     let others = filter (λ (y : Export). not (is_row_kept t held waits y)) rows in
-    length-fewer same_id object-equality (withdrawn t held waits rows) os
+    length-fewer same_id object-equality (withdrawn_ids t held waits rows) os
     (rising-once (ids others) (part-rising (ids others) (ids rows) (part-map (λ (y : Export). y.id) others rows (part-filter (λ y. not (is_row_kept t held waits y)) rows)) r))
     (goes-doubtful os t held waits rows s)
 
 -- WHAT GOES, after others.
 pub few-go : (leases : LeaseTable) (time : ℕ) (x : ExportTable) (os before all : List ObjId) → HasLog leases → is_rising (ids x.rows) ≡ true →
     ForEachLog leases (λ lease m calls. is_settled_but os time (held_by lease (max time m) calls) x.waits x.rows ≡ true) →
-    ForEachLog leases (λ lease m calls. all ≡ before ++ withdrawn time (held_by lease (max time m) calls) x.waits x.rows) → length all ≤ length before + length os
+    ForEachLog leases (λ lease m calls. all ≡ before ++ withdrawn_ids time (held_by lease (max time m) calls) x.waits x.rows) → length all ≤ length before + length os
 few-go leases time x os before all log r among goes =
     let same = ap length (goes log.lease log.moment log.calls log.stands) in
-    let both = length-append before (withdrawn time held x.waits x.rows) in
+    let both = length-append before (withdrawn_ids time held x.waits x.rows) in
     let few = doubtful-few os time held x.waits x.rows r (among log.lease log.moment log.calls log.stands) in omega (arith, same, both, few)
   where
     held : ObjId → Bool

@@ -3,7 +3,7 @@ use Rattle.std.proofs.Common.{◌≡◌, List, [], ◌∷◌, refl, cond, Some}
 use Rattle.std.specs.Prelude.{Bool, true, false, find, is_some, option_map, ◌||◌}
 use Rattle.object_ids.specs.declared.ids.ObjId.{ObjId}
 use Rattle.export_table.specs.declared.rows.Export.{Export}
-use Rattle.export_table.specs.Rows.{is_of, is_exported, kind_of}
+use Rattle.export_table.specs.ExportRows.{is_of, is_exported, kind_of}
 
 pub exported-kind : (rows : List Export) (o : ObjId) → is_some (kind_of rows o) ≡ is_exported rows o
 exported-kind [] o = refl

@@ -3,25 +3,25 @@ use Rattle.std.proofs.Common.{◌≡◌, List, [], length, refl, ap, sym, subst,
 use Rattle.history.specs.declared.asks.SpaceConfig.{SpaceConfig}
 use Rattle.history.specs.declared.asks.Event.{Event}
 use Rattle.history.specs.declared.places.Withdrawal.{Withdrawal}
-use Rattle.history.specs.Awaiting.{awaiting, references}
+use Rattle.history.specs.Awaiting.{awaiting_references, references}
 use Rattle.history.specs.LeaseCalls.{lease_calls}
 use Rattle.history.specs.Leases.{clients, clients_with_time_left, pairs_with}
-use Rattle.history.specs.Limits.{reserved}
+use Rattle.history.specs.Limits.{reserved_units}
 use Rattle.history.specs.Names.{names}
-use Rattle.history.specs.Places.{History, now, next}
+use Rattle.history.specs.Places.{History, now, exported_count}
 use Rattle.history.specs.Table.{places}
 use Rattle.history.proofs.StepLaws.{IsLegal-none}
-use Rattle.history.proofs.GoneLaws.{withdrawals-none, pending-none}
+use Rattle.history.proofs.GoneLaws.{withdrawals-none, unreported_objects-none}
 use Rattle.history.proofs.TableLaws.{places-none, table-none, units-none}
-use Rattle.dgc_server.specs.Stands.{LeaseTable, StandsFor}
+use Rattle.dgc_server.specs.StandsForCalls.{LeaseTable, StandsFor}
 use Rattle.export_table.specs.Table.{ExportTable, no_room}
 use Rattle.rmi_registry.specs.declared.binding.Binding.{Binding}
-use Rattle.rmi_registry.specs.Stands.{AreBindings}
+use Rattle.rmi_registry.specs.StandsForHistory.{AreBindings}
 use Rattle.rmi_registry.proofs.StandLaws.{none-bound}
 use Rattle.space.specs.declared.runs.Run.{Run}
 use Rattle.space.specs.Kept.{HasDurations, IsWithin, Stands, Keeps}
 use Rattle.space.specs.Runs.{caller_of, object_of}
-use Rattle.export_table.specs.Stands.{rows_of}
+use Rattle.export_table.specs.StandsForHistory.{rows_of}
 use Rattle.space.proofs.RunSteps.{runs-none}
 use Rattle.export_table.proofs.WaitLaws.{until-none}
 
@@ -29,12 +29,12 @@ abbrev pub nothing_exported : SpaceConfig → ExportTable
 nothing_exported config = record { space = config.uid; ack = config.ack_ms; added = 0; rows = []; waits = []; room = no_room }
 
 within-nothing : (config : SpaceConfig) → IsWithin config []
-unfolding now reserved lease_calls clients_with_time_left clients pairs_with references awaiting names
+unfolding now reserved_units lease_calls clients_with_time_left clients pairs_with references awaiting_references names
 within-nothing config =
     record { history = (let none = units-none in omega arith); exports = (let none = ap length (table-none config) in omega arith); awaits = omega arith; clients = omega arith; pairs = omega arith; names = omega arith }
 
 stands-nothing : (config : SpaceConfig) (leases : LeaseTable) → StandsFor config.lease_ms leases 0 [] → Stands config [] leases (nothing_exported config) [] [] 0 0 0 0
-unfolding now next lease_calls
+unfolding now exported_count lease_calls
 stands-nothing config leases s = record {
   leases_stand = s;
   space_is = refl;
@@ -45,7 +45,7 @@ stands-nothing config leases s = record {
   waits_stand = record { once = tt; each = λ r. rw (until-none config.ack_ms r) refl };
   runs_stand = runs-none caller_of object_of;
   withdrawn_are = sym (withdrawals-none config);
-  reported_are = sym (pending-none config);
+  reported_are = sym (unreported_objects-none config);
   reported_within = omega arith;
   used_is = sym units-none;
   moment_is = refl;

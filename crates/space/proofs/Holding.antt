@@ -1,5 +1,5 @@
 -- What a client holds, it holds on until its lease ends or a clean call names the object.
-use Rattle.std.proofs.Common.{◌≡◌, ℕ, ◌+◌, ◌≤◌, ◌⊎◌, inl, inr, List, [], ◌∷◌, ◌++◌, refl, ap, sym, ◌∙◌, cond, arith, Some}
+use Rattle.std.proofs.Common.{◌≡◌, ℕ, ◌+◌, ◌≤◌, ◌⊎◌, inl, inr, List, ◌∷◌, ◌++◌, refl, ap, sym, ◌∙◌, cond, arith, Some}
 use Rattle.std.specs.Prelude.{Bool, true, false, ◌&&◌, ◌||◌, filter, find, nat_lt, int_lt, option_map, unwrap_or}
 use Rattle.std.specs.List.{list_any, list_all}
 use Rattle.std.proofs.lemmas.Bool.{and_parts, and_from, or_left, or_right, lt-ltb}
@@ -13,8 +13,8 @@ use Rattle.history.specs.declared.calls.CallKind.{CallKind}
 use Rattle.history.specs.declared.calls.CallKind.TheVariants.{Dirty as DirtyCall, Weak, Strong}
 use Rattle.history.specs.Leases.{is_dirty, is_dirty_kind, is_strong, is_strong_kind, is_naming, lease_end, has_time_left, tenure, strong_cleans, counting_calls, highest_is_dirty, holds, calls_of, is_held}
 use Rattle.history.proofs.LeaseLaws.{highest_is_dirty-scan, is_held-calls}
-use Rattle.history.proofs.ListLemmas.{Somewhere, Somewhere-test, test-Somewhere}
-use Rattle.dgc_server.specs.Stands.{LeaseTable, StandsFor}
+use Rattle.history.proofs.ListLemmas.{Somewhere-test, test-Somewhere, witness}
+use Rattle.dgc_server.specs.StandsForCalls.{LeaseTable, StandsFor}
 use Rattle.dgc_server.specs.Entry.{entry_holds}
 use Rattle.dgc_server.specs.Table.{entry_of}
 use Rattle.dgc_server.proofs.Outputs.{time-called, holds-entry}
@@ -23,10 +23,6 @@ use Rattle.dgc_server.proofs.Outputs.{time-called, holds-entry}
 
 pub any-weaker : {X : Type 0} (p q : X → Bool) → ((x : X) → p x ≡ true → q x ≡ true) → (xs : List X) → list_any p xs ≡ true → list_any q xs ≡ true
 any-weaker p q f xs h = test-Somewhere (λ x. p x ≡ true) q f xs (Somewhere-test p xs h)
-
-witness : {X : Type 0} (test : X → Bool) (xs : List X) → Somewhere (λ x. test x ≡ true) xs → (x : X) × (test x ≡ true)
-witness test [] s = absurd s
-witness test (x ∷ xs) s = elim s [ inl here ↦ (x, here) | inr there ↦ witness test xs there ]
 
 -- ---- one client
 

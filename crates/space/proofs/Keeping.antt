@@ -10,7 +10,6 @@ use Rattle.history.specs.declared.asks.Event.{Event}
 use Rattle.history.specs.declared.asks.Ask.{Ask}
 use Rattle.history.specs.declared.asks.Ask.TheVariants.{Open, Begin, Finish, Abandon, Dirty, Clean, Ack, Bind, Rebind, Unbind, Lookup, List as ListNames, Tick}
 use Rattle.history.specs.declared.calls.Call.{Call}
-use Rattle.history.specs.declared.places.Place.{Place}
 use Rattle.history.specs.declared.places.Exported.{Exported}
 use Rattle.history.specs.declared.places.Withdrawal.{Withdrawal}
 use Rattle.history.specs.declared.replies.Refused.{Refused}
@@ -20,26 +19,26 @@ use Rattle.history.specs.declared.replies.Turn.{Turn}
 use Rattle.history.specs.LeaseCalls.{call_with, lease_calls}
 use Rattle.history.specs.Leases.{is_held}
 use Rattle.history.specs.Limits.{units_of, limits, refusal}
-use Rattle.history.specs.Places.{History, has, now, exported_from, next}
+use Rattle.history.specs.Places.{History, has, now, exported_from, exported_count}
 use Rattle.history.specs.Names.{names, stands_for}
-use Rattle.history.specs.Replies.{reply, reply_found, gone, ids, is_abandon}
+use Rattle.history.specs.Replies.{reply, reply_found, gone_objects, ids, is_abandon}
 use Rattle.history.specs.Steps.{turn_of, answer_with, history_with, Step}
-use Rattle.history.specs.Table.{is_effective, exports, is_kept, table, place_of, places, withdrawn, withdrawals}
-use Rattle.history.proofs.GoneLaws.{pending, pending-push, withdrawals-push}
+use Rattle.history.specs.Table.{is_effective, exports, is_kept, table, place_of, places, withdrawn_objects, withdrawals}
+use Rattle.history.proofs.GoneLaws.{unreported_objects, unreported_objects-push, withdrawals-push}
 use Rattle.history.proofs.ListLemmas.{every-weaker}
 use Rattle.history.proofs.StepLaws.{IsLegal-step}
 use Rattle.history.proofs.TableLaws.{places-push, length-places, now-push, table-place, units-push, ask-place_of, index-place_of}
 use Rattle.dgc_server.specs.Counts.{without_all}
-use Rattle.dgc_server.specs.Stands.{LeaseTable, StandsFor}
+use Rattle.dgc_server.specs.StandsForCalls.{LeaseTable, StandsFor}
 use Rattle.export_table.specs.declared.rows.Export.{Export}
-use Rattle.export_table.specs.Rows.{is_row_kept as row_kept, held_by, withdrawn as rows_withdrawn, is_exported}
+use Rattle.export_table.specs.ExportRows.{is_row_kept as row_kept, held_by, withdrawn_ids as rows_withdrawn, is_exported}
 use Rattle.export_table.specs.Table.{ExportTable}
-use Rattle.export_table.specs.Waits.{waiting}
+use Rattle.export_table.specs.Waits.{still_waiting}
 use Rattle.space.specs.declared.runs.Run.{Run}
 use Rattle.space.specs.Acts.{opens, new_ids, reply_at, started_reply, found_reply, withdrawal_at, reported_after, room_refusal, await_refusal, lease_refusal, name_refusal, first_of_two, Agrees}
 use Rattle.space.specs.Kept.{live_calls, Stands, Keeps}
 use Rattle.space.specs.Runs.{RunsStand, caller_of, object_of}
-use Rattle.export_table.specs.Stands.{WaitsStand, reference_of, end_of, row_of, rows_of}
+use Rattle.export_table.specs.StandsForHistory.{WaitsStand, reference_of, end_of, row_of, rows_of}
 use Rattle.space.proofs.Acting.{new-ids, stood_for}
 use Rattle.space.proofs.AwaitLaws.{await-is}
 use Rattle.space.proofs.LimitLaws.{within-next}
@@ -51,8 +50,9 @@ use Rattle.export_table.proofs.KeptLaws.{named-counted, refs-awaited}
 use Rattle.export_table.proofs.WaitLaws.{refs-await, waiting_refs}
 use Rattle.export_table.proofs.StandLaws.{names_for, waits-going, kind-is, exported-has}
 use Rattle.history.specs.Awaiting.{awaits}
-use Rattle.history.specs.Running.{running, running_calls}
+use Rattle.history.specs.Running.{running_calls_by, running_calls}
 use Rattle.history.specs.declared.limits.TheConstants.{END_OF_TIME}
+use Rattle.history.proofs.NumberLaws.{next-push}
 use Rattle.export_table.proofs.WaitLaws.{numbered-place}
 
 -- ---- lists
@@ -155,14 +155,14 @@ withdrawn-next : (config : SpaceConfig) (events : List Event) (e : Event) →
 withdrawn-next config events e =
     withdrawals-push config (place_of config (places config events) e) (places config events)
     ∙ ap (λ l. withdrawals config (places config events) ++ l) (
-    ap (λ (n : ℕ). map (λ (x : Exported). record { object = x.id; place = n }) (withdrawn config (place_of config (places config events) e ∷ places config events))) (index-place_of config (places config events) e ∙ length-places config events)
-    ∙ sym (at-place (length events) (withdrawn config (place_of config (places config events) e ∷ places config events)))
+    ap (λ (n : ℕ). map (λ (x : Exported). record { object = x.id; place = n }) (withdrawn_objects config (place_of config (places config events) e ∷ places config events))) (index-place_of config (places config events) e ∙ length-places config events)
+    ∙ sym (at-place (length events) (withdrawn_objects config (place_of config (places config events) e ∷ places config events)))
     ∙ ap (map (withdrawal_at (length events))) (withdrawn-ids config events e))
 
 -- WHAT A TURN TELLS as gone.
-pub gone-kept : (config : SpaceConfig) (events : List Event) (e : Event) (withdrawn : List Withdrawal) (reported : ℕ) (os : List ObjId) → reported ≤ length withdrawn → map (λ (w : Withdrawal). w.object) (drop reported withdrawn) ≡ pending config (places config events) →
+pub gone-kept : (config : SpaceConfig) (events : List Event) (e : Event) (withdrawn : List Withdrawal) (reported : ℕ) (os : List ObjId) → reported ≤ length withdrawn → map (λ (w : Withdrawal). w.object) (drop reported withdrawn) ≡ unreported_objects config (places config events) →
     os ≡ gone_of (table config (places config events) ++ (place_of config (places config events) e).exported_here) (is_kept config (place_of config (places config events) e ∷ places config events)) →
-    map (λ (w : Withdrawal). w.object) (drop reported (withdrawn ++ map (withdrawal_at (length events)) os)) ≡ gone config (places config events) e
+    map (λ (w : Withdrawal). w.object) (drop reported (withdrawn ++ map (withdrawal_at (length events)) os)) ≡ gone_objects config (places config events) e
 gone-kept config events e withdrawn reported os le t o =
     ap (map (λ (w : Withdrawal). w.object)) (drop-append-le reported withdrawn (map (withdrawal_at (length events)) os) le)
     ∙ map-append (λ (w : Withdrawal). w.object) (drop reported withdrawn) (map (withdrawal_at (length events)) os)
@@ -171,16 +171,16 @@ gone-kept config events e withdrawn reported os le t o =
     ∙ sym (gone-next config events e)
 
 -- What is to be told after the event.
-reported-next : (config : SpaceConfig) (events : List Event) (e : Event) (withdrawn : List Withdrawal) (reported : ℕ) (os : List ObjId) → reported ≤ length withdrawn → map (λ (w : Withdrawal). w.object) (drop reported withdrawn) ≡ pending config (places config events) →
+reported-next : (config : SpaceConfig) (events : List Event) (e : Event) (withdrawn : List Withdrawal) (reported : ℕ) (os : List ObjId) → reported ≤ length withdrawn → map (λ (w : Withdrawal). w.object) (drop reported withdrawn) ≡ unreported_objects config (places config events) →
     os ≡ gone_of (table config (places config events) ++ (place_of config (places config events) e).exported_here) (is_kept config (place_of config (places config events) e ∷ places config events)) →
-    map (λ (w : Withdrawal). w.object) (drop (reported_after reported (length (withdrawn ++ map (withdrawal_at (length events)) os)) e.ask) (withdrawn ++ map (withdrawal_at (length events)) os)) ≡ pending config (place_of config (places config events) e ∷ places config events)
-reported-next config events e withdrawn reported os le t o = go (is_abandon e.ask) (pending-push config (places config events) e (numbered-place config events e))
+    map (λ (w : Withdrawal). w.object) (drop (reported_after reported (length (withdrawn ++ map (withdrawal_at (length events)) os)) e.ask) (withdrawn ++ map (withdrawal_at (length events)) os)) ≡ unreported_objects config (place_of config (places config events) e ∷ places config events)
+reported-next config events e withdrawn reported os le t o = go (is_abandon e.ask) (unreported_objects-push config (places config events) e (numbered-place config events e))
   where
     all : List Withdrawal
     all = withdrawn ++ map (withdrawal_at (length events)) os
 
-    go : (b : Bool) → pending config (place_of config (places config events) e ∷ places config events) ≡ (if b then gone config (places config events) e else []) →
-        map (λ (w : Withdrawal). w.object) (drop (if b then reported else length (withdrawn ++ map (withdrawal_at (length events)) os)) (withdrawn ++ map (withdrawal_at (length events)) os)) ≡ pending config (place_of config (places config events) e ∷ places config events)
+    go : (b : Bool) → unreported_objects config (place_of config (places config events) e ∷ places config events) ≡ (if b then gone_objects config (places config events) e else []) →
+        map (λ (w : Withdrawal). w.object) (drop (if b then reported else length (withdrawn ++ map (withdrawal_at (length events)) os)) (withdrawn ++ map (withdrawal_at (length events)) os)) ≡ unreported_objects config (place_of config (places config events) e ∷ places config events)
     go true p = gone-kept config events e withdrawn reported os le t o ∙ sym p
     go false p = ap (map (λ (w : Withdrawal). w.object)) (drop_all (length (withdrawn ++ map (withdrawal_at (length events)) os)) (withdrawn ++ map (withdrawal_at (length events)) os) (omega arith)) ∙ sym p
 
@@ -188,16 +188,12 @@ reported-next config events e withdrawn reported os le t o = go (is_abandon e.as
 abbrev pub left : SpaceConfig → List Event → Event → ExportTable → ExportTable
 left config events e t = record t {
   rows = filter (row_kept (max e.moment (now (places config events))) (held_by config.lease_ms (max e.moment (now (places config events))) (told_calls config events e)) t.waits) t.rows;
-  waits = waiting (max e.moment (now (places config events))) t.waits;
+  waits = still_waiting (max e.moment (now (places config events))) t.waits;
 }
 
 -- All withdrawals then.
 abbrev pub withdrawn_then : SpaceConfig → List Event → Event → ExportTable → List Withdrawal → List Withdrawal
 withdrawn_then config events e t withdrawn = withdrawn ++ map (withdrawal_at (length events)) (going_now config events e t)
-
-next-push : (p : Place) (h : History) → next (p ∷ h) ≡ next h + length p.exported_here
-unfolding next
-next-push p h = refl
 
 stands-push : (config : SpaceConfig) (events : List Event) (e : Event) (leases leases1 leases2 : LeaseTable) (exports t : ExportTable) (runs runs1 : List Run) (withdrawn : List Withdrawal) (reported opened used moment : ℕ) (effective : Bool) → effective ≡ is_effective config (places config events) e.by e.ask →
     Keeps config events leases exports runs withdrawn reported opened used moment → refusal limits config (places config events) e ≡ None →
@@ -219,7 +215,7 @@ stands-push config events e leases leases1 leases2 exports t runs runs1 withdraw
       added_is = ad;
       opened_is = (
           ap (λ n. n + opens effective e.ask) k.stands.opened_is
-          ∙ ap (λ n. next (places config events) + n) (ap (λ v. opens v e.ask) f ∙ sym (adds-length config (places config events) e))
+          ∙ ap (λ n. exported_count (places config events) + n) (ap (λ v. opens v e.ask) f ∙ sym (adds-length config (places config events) e))
           ∙ sym (next-push (place_of config (places config events) e) (places config events)));
       rows_are = (
           ap (filter (row_kept (max e.moment (now (places config events))) (held_by config.lease_ms (max e.moment (now (places config events))) (told_calls config events e)) t.waits)) a.rows_are
@@ -336,21 +332,21 @@ found-some (x ∷ objects) o = go (same_id x.id o) (found-some objects o)
     go true e = refl
     go false e = e
 
-reply-is : (config : SpaceConfig) (h : History) (e : Event) (opened : ℕ) (rows : List Export) (effective : Bool) → opened ≡ next h → rows ≡ rows_of h (table config h) → effective ≡ is_effective config h e.by e.ask →
+reply-is : (config : SpaceConfig) (h : History) (e : Event) (opened : ℕ) (rows : List Export) (effective : Bool) → opened ≡ exported_count h → rows ≡ rows_of h (table config h) → effective ≡ is_effective config h e.by e.ask →
     reply config h e ≡ reply_at config opened rows (names h) (stood_for h e.ask) effective e.ask
 unfolding reply place_of is_effective exports
 reply-is config h e opened rows effective k rs f = go e.ask ∙ ap (λ n. reply_at config n (rows_of h (table config h)) (names h) (stood_for h e.ask) (is_effective config h e.by e.ask) e.ask) (sym k)
     ∙ ap (λ l. reply_at config opened l (names h) (stood_for h e.ask) (is_effective config h e.by e.ask) e.ask) (sym rs) ∙ ap (λ v. reply_at config opened rows (names h) (stood_for h e.ask) v e.ask) (sym f)
   where
-    finished : (v : Bool) (made : List ℕ) → (if v then Finished (ids (if v then exported_from config.uid (next h) false made else [])) else NotRunning) ≡ (if v then Finished (new_ids config.uid (next h) made) else NotRunning)
-    finished true made = ap (λ l. Finished l) (new-ids config.uid (next h) false made)
+    finished : (v : Bool) (made : List ℕ) → (if v then Finished (ids (if v then exported_from config.uid (exported_count h) false made else [])) else NotRunning) ≡ (if v then Finished (new_ids config.uid (exported_count h) made) else NotRunning)
+    finished true made = ap (λ l. Finished l) (new-ids config.uid (exported_count h) false made)
     finished false made = refl
 
     found : (s : Option ObjId) → reply_found (table config h) s ≡ found_reply (rows_of h (table config h)) s
     found None = refl
     found (Some o) = ap (λ k. Found o (unwrap_or k 0)) (sym (kind-is h (table config h) o))
 
-    go : (a : Ask) → reply config h (record e { ask = a }) ≡ reply_at config (next h) (rows_of h (table config h)) (names h) (stood_for h a) (is_effective config h e.by a) a
+    go : (a : Ask) → reply config h (record e { ask = a }) ≡ reply_at config (exported_count h) (rows_of h (table config h)) (names h) (stood_for h a) (is_effective config h e.by a) a
     go (Open kind pinned) = refl
     go (Begin o) =
         reply-found (option_map (λ (x : Exported). x.kind) (find (λ x. same_id x.id o) (table config h))) (has (table config h) o) (found-some (table config h) o)
@@ -360,7 +356,7 @@ reply-is config h e opened rows effective k rs f = go e.ask ∙ ap (λ n. reply_
     go (Clean x y z w) = refl
     go (Ack u) = refl
     go Tick = refl
-    go (Finish x y z w) = finished (nat_lt 0 (running h e.by x)) y
+    go (Finish x y z w) = finished (nat_lt 0 (running_calls_by h e.by x)) y
     go (Bind n o) = ap (λ b. if has (table config h) o && is_none (stands_for h n) then Bound else if b then AlreadyBound else NoObject) (sym (exported-has h (table config h) o))
     go (Rebind n o) = refl
     go (Unbind n) = refl

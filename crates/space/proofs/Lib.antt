@@ -3,9 +3,7 @@ pub mod Acting
 pub mod AheadLaws
 pub mod AnswerLaws
 pub mod AskLaws
-pub mod AskedRowLaws
 pub mod AwaitLaws
-pub mod BalanceLaws
 pub mod Bindings
 pub mod Clients
 pub mod CollectLaws
@@ -16,7 +14,6 @@ pub mod Found
 pub mod Fresh
 pub mod Holding
 pub mod Keeping
-pub mod LegalLaws
 pub mod LimitLaws
 pub mod ListLaws
 pub mod LiveLaws
@@ -38,6 +35,5 @@ pub mod Settling
 pub mod StepsLaws
 pub mod SummaryLaws
 pub mod TextLaws
-pub mod TieSteps
 pub mod TurnLaws
 pub mod WithdrawalLaws

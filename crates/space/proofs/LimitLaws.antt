@@ -1,9 +1,10 @@
 -- The entries of a history's tables and their limits, generic in the ask: what an event that is not refused leaves, and what time leaves.
-use Rattle.std.proofs.Common.{◌≡◌, ℕ, ◌+◌, ◌≤◌, ◌⊎◌, inl, inr, List, [], ◌∷◌, ◌++◌, length, refl, ap, sym, subst, ◌∙◌, cond, map, max, arith, Option, Some, None, append-nil, length-append}
+use Rattle.std.proofs.Common.{◌≡◌, ℕ, ◌+◌, ◌≤◌, ◌⊎◌, inl, inr, List, [], ◌∷◌, ◌++◌, length, refl, ap, sym, subst, ◌∙◌, map, max, arith, Option, Some, None, append-nil, length-append}
 use Rattle.std.specs.Prelude.{Bool, true, false, ◌&&◌, ◌||◌, not, filter, flat_map, nat_lt, if◌then◌else◌, option_to_list, is_none}
 use Rattle.std.specs.List.{list_any}
 use Rattle.std.proofs.lemmas.Bool.{ltb-false, and_parts, and_from, or_left, or_right, or_cases}
 use Rattle.std.proofs.lemmas.List.Folds.{list_any-append}
+use Rattle.sequence.proofs.Lists.{filter-shorter}
 use Rattle.object_ids.specs.declared.ids.ObjId.{ObjId}
 use Rattle.object_ids.specs.declared.ids.FullKind.TheVariants.{Exports, Awaiting, Clients, Pairs, Names}
 use Rattle.object_ids.specs.Same.{same_client, same_id, same_bytes}
@@ -13,42 +14,44 @@ use Rattle.history.specs.declared.asks.Ask.{Ask}
 use Rattle.history.specs.declared.asks.Ask.TheVariants.{Dirty, Clean}
 use Rattle.history.specs.declared.calls.Call.{Call}
 use Rattle.history.specs.declared.calls.Pair.{Pair}
-use Rattle.history.specs.declared.limits.TheConstants.{MAX_EXPORTS, MAX_AWAITING, MAX_CLIENTS, MAX_PAIRS, MAX_NAMES, MAX_UNITS}
+use Rattle.history.specs.declared.limits.TheConstants.{MAX_EXPORTS, MAX_AWAITING, MAX_CLIENTS, MAX_PAIRS, MAX_NAMES, MAX_HISTORY_UNITS}
 use Rattle.history.specs.declared.places.Exported.{Exported}
 use Rattle.history.specs.declared.places.Returned.{Returned}
 use Rattle.history.specs.declared.replies.Refused.TheVariants.{HistoryFull, Full}
-use Rattle.history.specs.Awaiting.{same_returned, returned, returns, is_ack_of, awaits, awaiting, until_of}
+use Rattle.history.specs.Awaiting.{same_returned, returned_references, returns, is_ack_of, awaits, awaiting_references, until_of}
 use Rattle.history.specs.LeaseCalls.{call_with, lease_calls}
 use Rattle.history.specs.Leases.{is_dirty, calls_of, clients_with_time_left, is_remembered, same_pair, pairs_with, pairs, new_pairs}
-use Rattle.history.specs.Limits.{units_of, units, starts, ends, reserved, limits, exports_with_event, awaiting_with_event, lease_call, clients_with_event, pairs_with_event, names_with_event, is_full, refusal}
+use Rattle.history.specs.Limits.{units_of, units, starts, ends, reserved_units, limits, exports_with_event, awaiting_with_event, lease_call, clients_with_event, pairs_with_event, names_with_event, is_full, refusal}
 use Rattle.history.specs.Lists.{distinct, AllOnce}
 use Rattle.history.specs.Names.{name_bound, names}
-use Rattle.history.specs.Places.{History, has, now, added}
+use Rattle.history.specs.Places.{History, has, now, ever_exported}
 use Rattle.history.specs.Replies.{ids}
 use Rattle.history.specs.Table.{is_kept, table, place_of, places}
 use Rattle.history.proofs.AlikeCalls.{AllAlike-append, AllAlike-self, is_remembered-alike, calls_of-alike}
-use Rattle.history.proofs.AwaitingLaws.{returned-equality, awaits-acknowledged, awaits-passed, awaiting-member, awaiting-once}
+use Rattle.history.proofs.AwaitingLaws.{returned-equality, awaits-acknowledged, awaits-passed, awaiting_references-member, awaiting_references-once}
 use Rattle.history.proofs.ListLemmas.{every-append, IsEquality, length-fewer, list_any-filter, list_any-distinct}
 use Rattle.history.proofs.NameLaws.{unbinds, name_begun, names-push, names-once, bytes-equality}
 use Rattle.history.proofs.NamedCalls.{call_with-alike}
 use Rattle.history.proofs.NumberLaws.{has-filter}
 use Rattle.history.proofs.Partitions.{one_if}
-use Rattle.history.proofs.RunningLaws.{reserved-push}
+use Rattle.history.proofs.RunningLaws.{reserved_units-push}
 use Rattle.history.proofs.TableLaws.{places-push, table-place, now-push, moment-place_of, ask-place_of, units-push}
+use Rattle.history.proofs.PairLaws.{pair-equality, any-pairs_with, remembered-named}
+use Rattle.history.proofs.Equalities.{client-equality}
 use Rattle.dgc_server.specs.Counts.{clients_with_call, pairs_with_call}
 use Rattle.space.specs.Kept.{live_calls, IsWithin}
-use Rattle.space.proofs.Clients.{distinct-fewer, client-equality, left-more}
+use Rattle.space.proofs.Clients.{distinct-fewer, left-more}
 use Rattle.space.proofs.LiveLaws.{pairs-live, new_pairs-live, left-live}
 use Rattle.space.proofs.Named.{NamesOnly, call-names, calls-names, naming-has, any-ids, lease_calls-push}
 use Rattle.export_table.proofs.ThereLaws.{new-not-old}
-use Rattle.space.proofs.Pairs.{pair-equality, any-pairs_with, remembered-named, remembered-earlier, pair-after}
+use Rattle.space.proofs.Pairs.{remembered-earlier, pair-after}
 use Rattle.export_table.proofs.WaitLaws.{awaits-until, numbered-place, distinct-same}
 use Rattle.dgc_server.proofs.Steps.{earlier}
 
 -- ---- an event that is not refused
 
 pub record IsTaken (config : SpaceConfig) (h : History) (e : Event) : Type 0 where
-  pub history : is_full MAX_UNITS config h e ≡ false
+  pub history : is_full MAX_HISTORY_UNITS config h e ≡ false
   pub exports : nat_lt MAX_EXPORTS (exports_with_event config h e) ≡ false
   pub awaits : nat_lt MAX_AWAITING (awaiting_with_event config h e) ≡ false
   pub clients : nat_lt MAX_CLIENTS (clients_with_event config h e) ≡ false
@@ -69,41 +72,33 @@ unchained false false false false false false h = (refl, refl, refl, refl, refl,
 pub taken-all : (config : SpaceConfig) (h : History) (e : Event) → refusal limits config h e ≡ None → IsTaken config h e
 unfolding refusal
 taken-all config h e r =
-    let all = unchained (is_full MAX_UNITS config h e) (nat_lt MAX_EXPORTS (exports_with_event config h e)) (nat_lt MAX_AWAITING (awaiting_with_event config h e)) (nat_lt MAX_CLIENTS (clients_with_event config h e)) (nat_lt MAX_PAIRS (pairs_with_event config h e)) (nat_lt MAX_NAMES (names_with_event config h e)) r in
+    let all = unchained (is_full MAX_HISTORY_UNITS config h e) (nat_lt MAX_EXPORTS (exports_with_event config h e)) (nat_lt MAX_AWAITING (awaiting_with_event config h e)) (nat_lt MAX_CLIENTS (clients_with_event config h e)) (nat_lt MAX_PAIRS (pairs_with_event config h e)) (nat_lt MAX_NAMES (names_with_event config h e)) r in
     record { history = all.0; exports = all.1; awaits = all.2; clients = all.3; pairs = all.4; names = all.5 }
 
 -- ---- units
 
 -- The history with the event has the units that were tested.
 pub units-next : (limit : ℕ) (config : SpaceConfig) (events : List Event) (e : Event) → is_full limit config (places config events) e ≡ false →
-    units (place_of config (places config events) e ∷ places config events) + reserved (place_of config (places config events) e ∷ places config events) ≤ limit
+    units (place_of config (places config events) e ∷ places config events) + reserved_units (place_of config (places config events) e ∷ places config events) ≤ limit
 unfolding is_full one_if
 units-next limit config events e f =
-    let few = ltb-false (limit + (if ends (place_of config (places config events) e) then 1 else 0)) (units (places config events) + reserved (places config events) + units_of e.ask + (if starts (place_of config (places config events) e) then 1 else 0)) f in
+    let few = ltb-false (limit + (if ends (place_of config (places config events) e) then 1 else 0)) (units (places config events) + reserved_units (places config events) + units_of e.ask + (if starts (place_of config (places config events) e) then 1 else 0)) f in
     let more = units-push (place_of config (places config events) e) (places config events) in
     let same : units_of (place_of config (places config events) e).event.ask ≡ units_of e.ask = ap units_of (ask-place_of config (places config events) e) in
-    let step = reserved-push config events e in
+    let step = reserved_units-push config events e in
     go (ends (place_of config (places config events) e)) (starts (place_of config (places config events) e)) few more same step
   where
-    go : (a b : Bool) → units (places config events) + reserved (places config events) + units_of e.ask + (if b then 1 else 0) ≤ limit + (if a then 1 else 0) →
+    go : (a b : Bool) → units (places config events) + reserved_units (places config events) + units_of e.ask + (if b then 1 else 0) ≤ limit + (if a then 1 else 0) →
         units (place_of config (places config events) e ∷ places config events) ≡ units_of (place_of config (places config events) e).event.ask + units (places config events) →
         units_of (place_of config (places config events) e).event.ask ≡ units_of e.ask →
-        reserved (place_of config (places config events) e ∷ places config events) + one_if a ≡ reserved (places config events) + one_if b →
-        units (place_of config (places config events) e ∷ places config events) + reserved (place_of config (places config events) e ∷ places config events) ≤ limit
+        reserved_units (place_of config (places config events) e ∷ places config events) + one_if a ≡ reserved_units (places config events) + one_if b →
+        units (place_of config (places config events) e ∷ places config events) + reserved_units (place_of config (places config events) e ∷ places config events) ≤ limit
     go true true f m s r = omega arith
     go true false f m s r = omega arith
     go false true f m s r = omega arith
     go false false f m s r = omega arith
 
 -- ---- exported objects
-
-filter-shorter : {X : Type 0} (test : X → Bool) (xs : List X) → length (filter test xs) ≤ length xs
-filter-shorter test [] = omega arith
-filter-shorter {X} test (x ∷ xs) = go (test x) (filter-shorter test xs)
-  where
-    go : (b : Bool) → length (filter test xs) ≤ length xs → length (cond b (x ∷ filter test xs) (filter test xs)) ≤ length (x ∷ xs)
-    go true h = omega arith
-    go false h = omega arith
 
 pub exports-next : (config : SpaceConfig) (events : List Event) (e : Event) → length (table config (place_of config (places config events) e ∷ places config events)) ≤ exports_with_event config (places config events) e
 unfolding exports_with_event
@@ -120,37 +115,37 @@ distinct-longer same e xs ys once f =
     length-fewer same e xs (distinct same ys) once (λ k h. list_any-distinct same (same k) (λ a b s. ap (same k) (e.equal a b s)) ys ∙ f k h)
 
 pub awaiting-next : (config : SpaceConfig) (events : List Event) (e : Event) →
-    length (awaiting config.ack_ms (now (place_of config (places config events) e ∷ places config events)) (place_of config (places config events) e ∷ places config events)) ≤ awaiting_with_event config (places config events) e
+    length (awaiting_references config.ack_ms (now (place_of config (places config events) e ∷ places config events)) (place_of config (places config events) e ∷ places config events)) ≤ awaiting_with_event config (places config events) e
 unfolding awaiting_with_event
 awaiting-next config events e =
     distinct-longer same_returned returned-equality
-    (awaiting config.ack_ms (now (place_of config (places config events) e ∷ places config events)) (place_of config (places config events) e ∷ places config events))
-    (awaiting config.ack_ms (place_of config (places config events) e).moment (places config events) ++ returned (place_of config (places config events) e))
-    (awaiting-once config.ack_ms (now (place_of config (places config events) e ∷ places config events)) (place_of config (places config events) e ∷ places config events))
-    (λ r h. list_any-append (same_returned r) (awaiting config.ack_ms (place_of config (places config events) e).moment (places config events)) (returned (place_of config (places config events) e))
+    (awaiting_references config.ack_ms (now (place_of config (places config events) e ∷ places config events)) (place_of config (places config events) e ∷ places config events))
+    (awaiting_references config.ack_ms (place_of config (places config events) e).moment (places config events) ++ returned_references (place_of config (places config events) e))
+    (awaiting_references-once config.ack_ms (now (place_of config (places config events) e ∷ places config events)) (place_of config (places config events) e ∷ places config events))
+    (λ r h. list_any-append (same_returned r) (awaiting_references config.ack_ms (place_of config (places config events) e).moment (places config events)) (returned_references (place_of config (places config events) e))
     ∙ go r (returns r (place_of config (places config events) e)) (is_ack_of r.uid (place_of config (places config events) e).event.ask) refl refl
-    (sym (awaiting-member config.ack_ms (now (place_of config (places config events) e ∷ places config events)) (place_of config (places config events) e ∷ places config events) r) ∙ h))
+    (sym (awaiting_references-member config.ack_ms (now (place_of config (places config events) e ∷ places config events)) (place_of config (places config events) e ∷ places config events) r) ∙ h))
   where
     time : now (place_of config (places config events) e ∷ places config events) ≡ (place_of config (places config events) e).moment
     time = now-push config (places config events) e ∙ sym (moment-place_of config (places config events) e)
 
     go : (r : Returned) (b c : Bool) → returns r (place_of config (places config events) e) ≡ b → is_ack_of r.uid (place_of config (places config events) e).event.ask ≡ c →
         awaits config.ack_ms (now (place_of config (places config events) e ∷ places config events)) (place_of config (places config events) e ∷ places config events) r ≡ true →
-        (list_any (same_returned r) (awaiting config.ack_ms (place_of config (places config events) e).moment (places config events)) || list_any (same_returned r) (returned (place_of config (places config events) e))) ≡ true
-    go r true c s t a = or_right (list_any (same_returned r) (awaiting config.ack_ms (place_of config (places config events) e).moment (places config events))) (list_any (same_returned r) (returned (place_of config (places config events) e))) s
+        (list_any (same_returned r) (awaiting_references config.ack_ms (place_of config (places config events) e).moment (places config events)) || list_any (same_returned r) (returned_references (place_of config (places config events) e))) ≡ true
+    go r true c s t a = or_right (list_any (same_returned r) (awaiting_references config.ack_ms (place_of config (places config events) e).moment (places config events))) (list_any (same_returned r) (returned_references (place_of config (places config events) e))) s
     go r false true s t a =
         absurd (let never = awaits-acknowledged config.ack_ms (now (place_of config (places config events) e ∷ places config events)) (place_of config (places config events) e) (places config events) r (numbered-place config events e) s t in cc)
     go r false false s t a =
-        or_left (list_any (same_returned r) (awaiting config.ack_ms (place_of config (places config events) e).moment (places config events))) (list_any (same_returned r) (returned (place_of config (places config events) e)))
-        (awaiting-member config.ack_ms (place_of config (places config events) e).moment (places config events) r
+        or_left (list_any (same_returned r) (awaiting_references config.ack_ms (place_of config (places config events) e).moment (places config events))) (list_any (same_returned r) (returned_references (place_of config (places config events) e)))
+        (awaiting_references-member config.ack_ms (place_of config (places config events) e).moment (places config events) r
         ∙ ap (λ n. awaits config.ack_ms n (places config events) r) (sym time)
         ∙ sym (awaits-passed config.ack_ms (now (place_of config (places config events) e ∷ places config events)) (place_of config (places config events) e) (places config events) r s t) ∙ a)
 
 -- As time passes no more of them await.
-pub awaiting-later : (ack t u : ℕ) (h : History) → t ≤ u → length (awaiting ack u h) ≤ length (awaiting ack t h)
+pub awaiting-later : (ack t u : ℕ) (h : History) → t ≤ u → length (awaiting_references ack u h) ≤ length (awaiting_references ack t h)
 awaiting-later ack t u h le =
-    length-fewer same_returned returned-equality (awaiting ack u h) (awaiting ack t h) (awaiting-once ack u h)
-    (λ r a. awaiting-member ack t h r ∙ awaits-until ack t h r ∙ earlier t u (until_of ack h r) le (sym (awaits-until ack u h r) ∙ sym (awaiting-member ack u h r) ∙ a))
+    length-fewer same_returned returned-equality (awaiting_references ack u h) (awaiting_references ack t h) (awaiting_references-once ack u h)
+    (λ r a. awaiting_references-member ack t h r ∙ awaits-until ack t h r ∙ earlier t u (until_of ack h r) le (sym (awaits-until ack u h r) ∙ sym (awaiting_references-member ack u h r) ∙ a))
 
 -- ---- clients
 
@@ -159,9 +154,9 @@ pub clients-next : (config : SpaceConfig) (h : History) (e : Event) →
 unfolding clients_with_event
 clients-next config h e =
     let fewer = distinct-fewer same_client client-equality
-    (clients_with_time_left config.lease_ms (max e.moment (now h)) (call_with (has (added h)) (max e.moment (now h)) e.ask ++ lease_calls h))
+    (clients_with_time_left config.lease_ms (max e.moment (now h)) (call_with (has (ever_exported h)) (max e.moment (now h)) e.ask ++ lease_calls h))
     (clients_with_time_left config.lease_ms (max e.moment (now h)) (lease_calls h) ++ map (λ x. x.client) (filter is_dirty (lease_call config h e)))
-    (left-more config.lease_ms (max e.moment (now h)) (has (added h)) (has (table config h)) e.ask (lease_calls h)) in
+    (left-more config.lease_ms (max e.moment (now h)) (has (ever_exported h)) (has (table config h)) e.ask (lease_calls h)) in
     let time = ap (λ n. length (distinct same_client (clients_with_time_left config.lease_ms n (lease_calls (place_of config h e ∷ h))))) (now-push config h e) in
     let calls = ap (λ l. length (distinct same_client (clients_with_time_left config.lease_ms (max e.moment (now h)) l))) (lease_calls-push config h e) in
     omega (arith, fewer, time, calls)
@@ -169,7 +164,7 @@ clients-next config h e =
 -- ---- pairs
 
 -- For an object that was exported, what was in the table before an event and is there after it.
-was-there : (config : SpaceConfig) (events : List Event) (e : Event) (o : ObjId) → has (added (places config events)) o ≡ true → has (table config (place_of config (places config events) e ∷ places config events)) o ≡ true → has (table config (places config events)) o ≡ true
+was-there : (config : SpaceConfig) (events : List Event) (e : Event) (o : ObjId) → has (ever_exported (places config events)) o ≡ true → has (table config (place_of config (places config events) e ∷ places config events)) o ≡ true → has (table config (places config events)) o ≡ true
 was-there config events e o old new =
     go (or_cases (has (table config (places config events)) o) (has (place_of config (places config events) e).exported_here o)
     (sym (list_any-append (λ (x : Exported). same_id x.id o) (table config (places config events)) (place_of config (places config events) e).exported_here) ∙ within (has (table config (places config events) ++ (place_of config (places config events) e).exported_here) o) refl))
@@ -189,7 +184,7 @@ was-there config events e o old new =
     go (inr h) = absurd (let never = new-not-old config events e o h in cc)
 
 pairs-more : (config : SpaceConfig) (events : List Event) (e : Event) (p : Pair) →
-    list_any (same_pair p) (pairs_with config.lease_ms (max e.moment (now (places config events))) (call_with (has (added (places config events))) (max e.moment (now (places config events))) e.ask ++ lease_calls (places config events)) (ids (table config (place_of config (places config events) e ∷ places config events)))) ≡ true →
+    list_any (same_pair p) (pairs_with config.lease_ms (max e.moment (now (places config events))) (call_with (has (ever_exported (places config events))) (max e.moment (now (places config events))) e.ask ++ lease_calls (places config events)) (ids (table config (place_of config (places config events) e ∷ places config events)))) ≡ true →
     list_any (same_pair p) (pairs_with config.lease_ms (max e.moment (now (places config events))) (lease_calls (places config events)) (ids (table config (places config events))) ++ flat_map (new_pairs config.lease_ms (lease_calls (places config events))) (lease_call config (places config events) e)) ≡ true
 pairs-more config events e p r =
     list_any-append (same_pair p) (pairs_with config.lease_ms m (lease_calls (places config events)) (ids (table config (places config events)))) (flat_map (new_pairs config.lease_ms (lease_calls (places config events))) (lease_call config (places config events) e))
@@ -198,17 +193,17 @@ pairs-more config events e p r =
     m : ℕ
     m = max e.moment (now (places config events))
 
-    parts : (has (table config (place_of config (places config events) e ∷ places config events)) p.object ≡ true) × (is_remembered config.lease_ms (max e.moment (now (places config events))) (calls_of p.client (call_with (has (added (places config events))) (max e.moment (now (places config events))) e.ask ++ lease_calls (places config events))) p.object ≡ true)
+    parts : (has (table config (place_of config (places config events) e ∷ places config events)) p.object ≡ true) × (is_remembered config.lease_ms (max e.moment (now (places config events))) (calls_of p.client (call_with (has (ever_exported (places config events))) (max e.moment (now (places config events))) e.ask ++ lease_calls (places config events))) p.object ≡ true)
     parts =
-        let two = and_parts (list_any (same_id p.object) (ids (table config (place_of config (places config events) e ∷ places config events)))) (is_remembered config.lease_ms (max e.moment (now (places config events))) (calls_of p.client (call_with (has (added (places config events))) (max e.moment (now (places config events))) e.ask ++ lease_calls (places config events))) p.object)
-        (sym (any-pairs_with config.lease_ms (max e.moment (now (places config events))) (call_with (has (added (places config events))) (max e.moment (now (places config events))) e.ask ++ lease_calls (places config events)) (ids (table config (place_of config (places config events) e ∷ places config events))) p) ∙ r) in
+        let two = and_parts (list_any (same_id p.object) (ids (table config (place_of config (places config events) e ∷ places config events)))) (is_remembered config.lease_ms (max e.moment (now (places config events))) (calls_of p.client (call_with (has (ever_exported (places config events))) (max e.moment (now (places config events))) e.ask ++ lease_calls (places config events))) p.object)
+        (sym (any-pairs_with config.lease_ms (max e.moment (now (places config events))) (call_with (has (ever_exported (places config events))) (max e.moment (now (places config events))) e.ask ++ lease_calls (places config events)) (ids (table config (place_of config (places config events) e ∷ places config events))) p) ∙ r) in
         (sym (any-ids (table config (place_of config (places config events) e ∷ places config events)) p.object) ∙ two.0, two.1)
 
-    exported : has (added (places config events)) p.object ≡ true
+    exported : has (ever_exported (places config events)) p.object ≡ true
     exported =
-        naming-has (added (places config events)) p.object (call_with (has (added (places config events))) (max e.moment (now (places config events))) e.ask ++ lease_calls (places config events))
-        (every-append (NamesOnly (added (places config events))) (call_with (has (added (places config events))) (max e.moment (now (places config events))) e.ask) (lease_calls (places config events)) (call-names (added (places config events)) (max e.moment (now (places config events))) e.ask) (calls-names (places config events)))
-        (remembered-named config.lease_ms (max e.moment (now (places config events))) p.client (call_with (has (added (places config events))) (max e.moment (now (places config events))) e.ask ++ lease_calls (places config events)) p.object parts.1)
+        naming-has (ever_exported (places config events)) p.object (call_with (has (ever_exported (places config events))) (max e.moment (now (places config events))) e.ask ++ lease_calls (places config events))
+        (every-append (NamesOnly (ever_exported (places config events))) (call_with (has (ever_exported (places config events))) (max e.moment (now (places config events))) e.ask) (lease_calls (places config events)) (call-names (ever_exported (places config events)) (max e.moment (now (places config events))) e.ask) (calls-names (places config events)))
+        (remembered-named config.lease_ms (max e.moment (now (places config events))) p.client (call_with (has (ever_exported (places config events))) (max e.moment (now (places config events))) e.ask ++ lease_calls (places config events)) p.object parts.1)
 
     there : has (table config (places config events)) p.object ≡ true
     there = was-there config events e p.object exported parts.0
@@ -216,13 +211,13 @@ pairs-more config events e p r =
     reported : is_remembered config.lease_ms (max e.moment (now (places config events))) (calls_of p.client (call_with (has (table config (places config events))) (max e.moment (now (places config events))) e.ask ++ lease_calls (places config events))) p.object ≡ true
     reported =
         sym (is_remembered-alike p.object config.lease_ms (max e.moment (now (places config events)))
-        (calls_of p.client (call_with (has (added (places config events))) (max e.moment (now (places config events))) e.ask ++ lease_calls (places config events)))
+        (calls_of p.client (call_with (has (ever_exported (places config events))) (max e.moment (now (places config events))) e.ask ++ lease_calls (places config events)))
         (calls_of p.client (call_with (has (table config (places config events))) (max e.moment (now (places config events))) e.ask ++ lease_calls (places config events)))
         (calls_of-alike p.object p.client
-        (call_with (has (added (places config events))) (max e.moment (now (places config events))) e.ask ++ lease_calls (places config events))
+        (call_with (has (ever_exported (places config events))) (max e.moment (now (places config events))) e.ask ++ lease_calls (places config events))
         (call_with (has (table config (places config events))) (max e.moment (now (places config events))) e.ask ++ lease_calls (places config events))
-        (AllAlike-append p.object (call_with (has (added (places config events))) (max e.moment (now (places config events))) e.ask) (call_with (has (table config (places config events))) (max e.moment (now (places config events))) e.ask) (lease_calls (places config events)) (lease_calls (places config events))
-        (call_with-alike (has (added (places config events))) (has (table config (places config events))) p.object (exported ∙ sym there) (max e.moment (now (places config events))) e.ask) (AllAlike-self p.object (lease_calls (places config events))))))
+        (AllAlike-append p.object (call_with (has (ever_exported (places config events))) (max e.moment (now (places config events))) e.ask) (call_with (has (table config (places config events))) (max e.moment (now (places config events))) e.ask) (lease_calls (places config events)) (lease_calls (places config events))
+        (call_with-alike (has (ever_exported (places config events))) (has (table config (places config events))) p.object (exported ∙ sym there) (max e.moment (now (places config events))) e.ask) (AllAlike-self p.object (lease_calls (places config events))))))
         ∙ parts.1
 
     old : (v : Bool) → is_remembered config.lease_ms (max e.moment (now (places config events))) (calls_of p.client (lease_calls (places config events))) p.object ≡ true →
@@ -251,7 +246,7 @@ unfolding pairs_with_event
 pairs-next config events e =
     let h' : History = place_of config (places config events) e ∷ places config events in
     let fewer = distinct-fewer same_pair pair-equality
-    (pairs_with config.lease_ms (max e.moment (now (places config events))) (call_with (has (added (places config events))) (max e.moment (now (places config events))) e.ask ++ lease_calls (places config events)) (ids (table config (place_of config (places config events) e ∷ places config events))))
+    (pairs_with config.lease_ms (max e.moment (now (places config events))) (call_with (has (ever_exported (places config events))) (max e.moment (now (places config events))) e.ask ++ lease_calls (places config events)) (ids (table config (place_of config (places config events) e ∷ places config events))))
     (pairs_with config.lease_ms (max e.moment (now (places config events))) (lease_calls (places config events)) (ids (table config (places config events))) ++ flat_map (new_pairs config.lease_ms (lease_calls (places config events))) (lease_call config (places config events) e))
     (pairs-more config events e) in
     let time = ap (λ n. length (distinct same_pair (pairs_with config.lease_ms n (lease_calls (place_of config (places config events) e ∷ places config events)) (ids (table config (place_of config (places config events) e ∷ places config events)))))) (now-push config (places config events) e) in
@@ -325,7 +320,7 @@ pub within-next : (config : SpaceConfig) (events : List Event) (e : Event) → r
 within-next config events e r =
     let t = taken-all config (places config events) e r in
     record {
-      history = units-next MAX_UNITS config events e t.history;
+      history = units-next MAX_HISTORY_UNITS config events e t.history;
       exports = (let few = ltb-false MAX_EXPORTS (exports_with_event config (places config events) e) t.exports in omega (arith, few, exports-next config events e));
       awaits = (let few = ltb-false MAX_AWAITING (awaiting_with_event config (places config events) e) t.awaits in omega (arith, few, awaiting-next config events e));
       clients = (let few = ltb-false MAX_CLIENTS (clients_with_event config (places config events) e) t.clients in omega (arith, few, clients-next config (places config events) e));

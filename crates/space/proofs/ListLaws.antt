@@ -17,11 +17,11 @@ use Rattle.history.proofs.StepLaws.{Steps-append}
 use Rattle.export_table.specs.declared.rows.Export.{Export}
 use Rattle.export_table.specs.declared.rows.ExportRow.{ExportRow}
 use Rattle.export_table.specs.declared.waits.Wait.{Wait}
-use Rattle.export_table.specs.Rows.{kind_of, row_at}
+use Rattle.export_table.specs.ExportRows.{kind_of, row_at}
 use Rattle.space.specs.declared.lists.ObjectKind.{ObjectKind}
 use Rattle.space.specs.Built.{SpaceHistory}
-use Rattle.space.specs.Lists.{Takes, kind_among, with_kind, row_kind}
-use Rattle.export_table.specs.Stands.{row_of, rows_of}
+use Rattle.space.specs.EventLists.{Takes, kind_among, with_kind, row_kind}
+use Rattle.export_table.specs.StandsForHistory.{row_of, rows_of}
 
 -- ---- one event
 

@@ -25,10 +25,10 @@ use Rattle.history.proofs.AlikeCalls.{AllAlike, AllAlike-append, AllAlike-map, h
 use Rattle.history.proofs.ListLemmas.{list_any-filter, list_any-same, and_false}
 use Rattle.history.proofs.NamedCalls.{call_with-alike}
 use Rattle.history.proofs.NumberLaws.{AllApart}
+use Rattle.history.proofs.PairLaws.{any-pairs_with, any-pairs, remembered-named}
 use Rattle.dgc_server.specs.Counts.{without_all}
 use Rattle.space.specs.Kept.{live_call, live_calls}
 use Rattle.space.proofs.Named.{NamesOnly, naming-has, any-ids, passing}
-use Rattle.space.proofs.Pairs.{any-pairs_with, any-pairs, remembered-named}
 
 -- ---- what is said of an object of the table
 

@@ -1,11 +1,11 @@
 -- Steps of loops over what a return brings, from the front.
-use Rattle.std.proofs.Common.{◌≡◌, ℕ, ◌+◌, ◌<◌, ◌≤◌, List, [], ◌∷◌, ◌++◌, length, drop, get_or, refl, ap, sym, ◌∙◌, arith, add-one, append_assoc, append-nil}
-use Rattle.std.proofs.Math.Seq.{drop-cons}
+use Rattle.std.proofs.Common.{◌≡◌, ℕ, ◌+◌, ◌<◌, ◌≤◌, List, [], ◌∷◌, ◌++◌, length, drop, get_or, refl, ap, sym, ◌∙◌, arith, append_assoc, append-nil}
 use Rattle.std.specs.Prelude.{Bool, true, false, not, ◌&&◌, ◌||◌, filter, if◌then◌else◌}
 use Rattle.std.specs.List.{list_any, AllByRecursion}
 use Rattle.std.proofs.lemmas.Bool.{or_left, or_right}
 use Rattle.std.proofs.lemmas.List.{drop_all}
 use Rattle.std.proofs.lemmas.List.Folds.{list_any-append}
+use Rattle.sequence.proofs.Lists.{drop-at}
 use Rattle.object_ids.specs.declared.ids.Uid.{Uid}
 use Rattle.object_ids.specs.declared.ids.ObjId.{ObjId}
 use Rattle.object_ids.specs.Same.{same_id}
@@ -14,14 +14,10 @@ use Rattle.history.specs.Lists.{distinct}
 use Rattle.history.specs.Places.{id_at}
 use Rattle.history.proofs.ListLemmas.{every-append, every-weaker}
 use Rattle.export_table.specs.declared.rows.Export.{Export}
-use Rattle.export_table.specs.Rows.{is_of, is_exported, new_row, changed, ended}
+use Rattle.export_table.specs.ExportRows.{is_of, is_exported, new_row, with_row_changed, with_call_ended}
 use Rattle.export_table.proofs.RowLaws.{exported-changed}
 use Rattle.space.proofs.Named.{passing}
 use Rattle.space.specs.Acts.{new_ids, new_rows}
-
--- From a place on: the item there, and the rest.
-pub front : {X : Type 0} (xs : List X) (i : ℕ) (d : X) → i < length xs → drop i xs ≡ get_or xs i d ∷ drop (i + 1) xs
-front xs i d h = drop-cons xs i d h ∙ ap (λ n. get_or xs i d ∷ drop n xs) (sym (add-one i))
 
 pub drop-none : {X : Type 0} (xs : List X) → drop 0 xs ≡ xs
 drop-none xs = refl
@@ -33,7 +29,7 @@ pub ids-more : (space : Uid) (k i : ℕ) (kinds : List ℕ) (ids all : List ObjI
 ids-more space k i kinds ids all h e =
     append_assoc ids (id_at space (k + i) ∷ []) (new_ids space (k + (i + 1)) (drop (i + 1) kinds))
     ∙ ap (λ n. ids ++ id_at space (k + i) ∷ new_ids space n (drop (i + 1) kinds)) (sym (next k i))
-    ∙ ap (λ l. ids ++ new_ids space (k + i) l) (sym (front kinds i 0 h)) ∙ e
+    ∙ ap (λ l. ids ++ new_ids space (k + i) l) (sym (drop-at kinds i 0 h)) ∙ e
 
 pub ids-all : (space : Uid) (k i : ℕ) (kinds : List ℕ) (ids all : List ObjId) → length kinds ≤ i → ids ++ new_ids space (k + i) (drop i kinds) ≡ all → ids ≡ all
 ids-all space k i kinds ids all h e = none ids ∙ ap (λ l. ids ++ new_ids space (k + i) l) (sym (drop_all i kinds h)) ∙ e
@@ -47,7 +43,7 @@ rows-more space k i kinds rows all kind h g e =
     append_assoc rows (new_row (id_at space (k + i)) kind false ∷ []) (new_rows space (k + (i + 1)) (drop (i + 1) kinds))
     ∙ ap (λ n. rows ++ new_row (id_at space (k + i)) kind false ∷ new_rows space n (drop (i + 1) kinds)) (sym (next k i))
     ∙ ap (λ x. rows ++ new_row (id_at space (k + i)) x false ∷ new_rows space (k + i + 1) (drop (i + 1) kinds)) g
-    ∙ ap (λ l. rows ++ new_rows space (k + i) l) (sym (front kinds i 0 h)) ∙ e
+    ∙ ap (λ l. rows ++ new_rows space (k + i) l) (sym (drop-at kinds i 0 h)) ∙ e
 
 pub rows-all : (space : Uid) (k i : ℕ) (kinds : List ℕ) (rows all : List Export) → length kinds ≤ i → rows ++ new_rows space (k + i) (drop i kinds) ≡ all → rows ≡ all
 rows-all space k i kinds rows all h e = none rows ∙ ap (λ l. rows ++ new_rows space (k + i) l) (sym (drop_all i kinds h)) ∙ e
@@ -69,30 +65,20 @@ counted-more p o os b e = go (list_any (same_id o) os) (p o) refl refl ∙ ap (�
 pub counted-next : (p : ObjId → Bool) (os : List ObjId) (i count all : ℕ) (o : ObjId) (b : Bool) → i < length os → o ≡ get_or os i o → b ≡ (not (list_any (same_id o) (drop (i + 1) os)) && p o) →
     count + length (filter p (distinct same_id (drop i os))) ≡ all → count + (if b then 1 else 0) + length (filter p (distinct same_id (drop (i + 1) os))) ≡ all
 counted-next p os i count all o b h g e s =
-    let first : drop i os ≡ o ∷ drop (i + 1) os = front os i o h ∙ ap (λ x. x ∷ drop (i + 1) os) (sym g) in
+    let first : drop i os ≡ o ∷ drop (i + 1) os = drop-at os i o h ∙ ap (λ x. x ∷ drop (i + 1) os) (sym g) in
     let one = ap (λ l. length (filter p (distinct same_id l))) first ∙ counted-more p o (drop (i + 1) os) b e in
     omega (arith, one, s)
 
 pub counted-all : (p : ObjId → Bool) (os : List ObjId) (i count all : ℕ) → length os ≤ i → count + length (filter p (distinct same_id (drop i os))) ≡ all → count ≡ all
 counted-all p os i count all h s = (let none = ap (λ l. length (filter p (distinct same_id l))) (drop_all i os h) in omega (arith, none, s))
 
--- Fewer are counted than there are.
-pub counted-few : (p : ObjId → Bool) (os : List ObjId) → length (filter p (distinct same_id os)) ≤ length os
-counted-few p [] = omega arith
-counted-few p (o ∷ os) =
-    let one = counted-more p o os (not (list_any (same_id o) os) && p o) refl in let rest = counted-few p os in let least = small (not (list_any (same_id o) os) && p o) in omega (arith, one, rest, least)
-  where
-    small : (b : Bool) → (if b then 1 else 0) ≤ 1
-    small true = omega arith
-    small false = omega arith
-
 -- ---- the objects of a return are exported once those made are added
 
-end-same : (o x : ObjId) (rows more : List Export) → is_exported (changed ended x rows ++ more) o ≡ is_exported (rows ++ more) o
+end-same : (o x : ObjId) (rows more : List Export) → is_exported (with_row_changed with_call_ended x rows ++ more) o ≡ is_exported (rows ++ more) o
 end-same o x rows more =
-    list_any-append (is_of o) (changed ended x rows) more ∙ ap (λ v. v || is_exported more o) (exported-changed ended x o (λ r. refl) rows) ∙ sym (list_any-append (is_of o) rows more)
+    list_any-append (is_of o) (with_row_changed with_call_ended x rows) more ∙ ap (λ v. v || is_exported more o) (exported-changed with_call_ended x o (λ r. refl) rows) ∙ sym (list_any-append (is_of o) rows more)
 
-pub there-after : (x : ObjId) (rows more all : List Export) (os : List ObjId) → all ≡ changed ended x rows ++ more → AllByRecursion (λ o. is_exported (rows ++ more) o ≡ true) os → AllByRecursion (λ o. is_exported all o ≡ true) os
+pub there-after : (x : ObjId) (rows more all : List Export) (os : List ObjId) → all ≡ with_row_changed with_call_ended x rows ++ more → AllByRecursion (λ o. is_exported (rows ++ more) o ≡ true) os → AllByRecursion (λ o. is_exported all o ≡ true) os
 there-after x rows more all os e = every-weaker (λ o. is_exported (rows ++ more) o ≡ true) (λ o. is_exported all o ≡ true) (λ o h. ap (λ l. is_exported l o) e ∙ end-same o x rows more ∙ h) os
 
 new-there : (space : Uid) (k : ℕ) (made : List ℕ) → AllByRecursion (λ o. is_exported (new_rows space k made) o ≡ true) (new_ids space k made)

@@ -15,11 +15,11 @@ use Rattle.history.specs.declared.calls.Call.{Call}
 use Rattle.history.specs.declared.places.Exported.{Exported}
 use Rattle.history.specs.LeaseCalls.{call_with, lease_calls}
 use Rattle.history.specs.Leases.{is_naming}
-use Rattle.history.specs.Places.{History, has, now, added}
+use Rattle.history.specs.Places.{History, has, now, ever_exported}
 use Rattle.history.specs.Replies.{ids}
 use Rattle.history.specs.Table.{place_of}
 use Rattle.history.proofs.ListLemmas.{every-append, every-weaker, list_any-map, list_any-same}
-use Rattle.dgc_server.proofs.Fresh.{same_id-turned}
+use Rattle.history.proofs.Equalities.{same_id-turned}
 use Rattle.space.specs.Kept.{live_call, live_calls}
 
 -- A call names only objects that are among these.
@@ -46,13 +46,13 @@ names-more objects more calls e =
     (λ y h. list_any-append (λ (z : Exported). same_id z.id y) objects more ∙ or_left (has objects y) (has more y) h) x.objects n) calls e
 
 -- THE CALLS OF A HISTORY name only objects that it exported.
-pub calls-names : (h : History) → AllByRecursion (NamesOnly (added h)) (lease_calls h)
-unfolding added lease_calls
+pub calls-names : (h : History) → AllByRecursion (NamesOnly (ever_exported h)) (lease_calls h)
+unfolding ever_exported lease_calls
 calls-names [] = tt
 calls-names (p ∷ h) =
-    every-append (NamesOnly (added h ++ p.exported_here)) (call_with (has (added h)) p.moment p.event.ask) (lease_calls h)
-    (names-more (added h) p.exported_here (call_with (has (added h)) p.moment p.event.ask) (call-names (added h) p.moment p.event.ask))
-    (names-more (added h) p.exported_here (lease_calls h) (calls-names h))
+    every-append (NamesOnly (ever_exported h ++ p.exported_here)) (call_with (has (ever_exported h)) p.moment p.event.ask) (lease_calls h)
+    (names-more (ever_exported h) p.exported_here (call_with (has (ever_exported h)) p.moment p.event.ask) (call-names (ever_exported h) p.moment p.event.ask))
+    (names-more (ever_exported h) p.exported_here (lease_calls h) (calls-names h))
 
 -- An object that is named is among them.
 pub naming-has : (objects : List Exported) (o : ObjId) (calls : List Call) → AllByRecursion (NamesOnly objects) calls → list_any (is_naming o) calls ≡ true → has objects o ≡ true
@@ -83,6 +83,6 @@ live-same objects (x ∷ calls) e = ap (λ l. live_call objects x ∷ l) (live-s
     all (y ∷ ys) e = rw (e.0, all ys e.1) refl
 
 -- One more event's call names the objects that were exported before it.
-pub lease_calls-push : (config : SpaceConfig) (h : History) (e : Event) → lease_calls (place_of config h e ∷ h) ≡ call_with (has (added h)) (max e.moment (now h)) e.ask ++ lease_calls h
+pub lease_calls-push : (config : SpaceConfig) (h : History) (e : Event) → lease_calls (place_of config h e ∷ h) ≡ call_with (has (ever_exported h)) (max e.moment (now h)) e.ask ++ lease_calls h
 unfolding lease_calls place_of
 lease_calls-push config h e = refl

@@ -16,18 +16,18 @@ use Rattle.history.specs.Awaiting.{same_returned, awaits, is_awaited}
 use Rattle.history.specs.LeaseCalls.{call_with, lease_calls}
 use Rattle.history.specs.Leases.{is_naming, is_held}
 use Rattle.history.specs.Names.{is_named}
-use Rattle.history.specs.Places.{has, now, added}
-use Rattle.history.specs.Replies.{ids, gone}
+use Rattle.history.specs.Places.{has, now, ever_exported}
+use Rattle.history.specs.Replies.{ids, gone_objects}
 use Rattle.history.specs.Running.{running_calls}
-use Rattle.history.specs.Table.{is_pinned, is_kept, table, place_of, places, withdrawn}
+use Rattle.history.specs.Table.{is_kept_locally, is_kept, table, place_of, places, withdrawn_objects}
 use Rattle.history.proofs.AlikeCalls.{AllAlike, is_held-alike}
 use Rattle.history.proofs.AwaitingLaws.{is_awaited-members}
-use Rattle.history.proofs.GoneLaws.{pending, gone-push}
+use Rattle.history.proofs.GoneLaws.{unreported_objects, gone_objects-push}
 use Rattle.history.proofs.ListLemmas.{every-append, every-weaker}
 use Rattle.history.proofs.KeptSince.{table-apart}
 use Rattle.history.proofs.NumberLaws.{NumberedFrom-apart, adds-numbered, has-self, AllApart, table-exported}
 use Rattle.history.proofs.RunningLaws.{is_running-calls}
-use Rattle.history.proofs.TableLaws.{places-numbered, table-place, now-push, withdrawn-place}
+use Rattle.history.proofs.TableLaws.{places-numbered, table-place, now-push, withdrawn_objects-place}
 use Rattle.dgc_server.specs.Counts.{without_all}
 use Rattle.space.specs.Kept.{live_calls}
 use Rattle.space.proofs.LiveLaws.{IsNext, gone_of, live-push, reported-alike}
@@ -49,11 +49,11 @@ pub table-all-apart : (config : SpaceConfig) (events : List Event) (e : Event) �
 table-all-apart config events e =
     apart-append (table config (places config events)) (place_of config (places config events) e).exported_here
     (table-apart config events)
-    (NumberedFrom-apart config.uid (length (added (places config events))) (place_of config (places config events) e).exported_here (adds-numbered config (places config events) e))
+    (NumberedFrom-apart config.uid (length (ever_exported (places config events))) (place_of config (places config events) e).exported_here (adds-numbered config (places config events) e))
     (λ y h. old-not-new config events e y (table-exported config (places config events) y h))
 
 pub is-next : (config : SpaceConfig) (events : List Event) (e : Event) →
-    IsNext (table config (places config events)) (place_of config (places config events) e).exported_here (added (places config events)) (table config (place_of config (places config events) e ∷ places config events))
+    IsNext (table config (places config events)) (place_of config (places config events) e).exported_here (ever_exported (places config events)) (table config (place_of config (places config events) e ∷ places config events))
     (is_kept config (place_of config (places config events) e ∷ places config events))
 is-next config events e = record {
   apart = table-all-apart config events e;
@@ -65,15 +65,15 @@ is-next config events e = record {
 -- ---- what leaves it
 
 pub withdrawn-ids : (config : SpaceConfig) (events : List Event) (e : Event) →
-    ids (withdrawn config (place_of config (places config events) e ∷ places config events))
+    ids (withdrawn_objects config (place_of config (places config events) e ∷ places config events))
     ≡ gone_of (table config (places config events) ++ (place_of config (places config events) e).exported_here) (is_kept config (place_of config (places config events) e ∷ places config events))
-withdrawn-ids config events e = ap ids (withdrawn-place config (places config events) e)
+withdrawn-ids config events e = ap ids (withdrawn_objects-place config (places config events) e)
 
 -- WHAT A TURN TELLS as gone: what was still to be told, and what goes now.
 pub gone-next : (config : SpaceConfig) (events : List Event) (e : Event) →
-    gone config (places config events) e
-    ≡ pending config (places config events) ++ gone_of (table config (places config events) ++ (place_of config (places config events) e).exported_here) (is_kept config (place_of config (places config events) e ∷ places config events))
-gone-next config events e = gone-push config (places config events) e (places-numbered config events) ∙ ap (λ l. pending config (places config events) ++ l) (withdrawn-ids config events e)
+    gone_objects config (places config events) e
+    ≡ unreported_objects config (places config events) ++ gone_of (table config (places config events) ++ (place_of config (places config events) e).exported_here) (is_kept config (place_of config (places config events) e ∷ places config events))
+gone-next config events e = gone_objects-push config (places config events) e (places-numbered config events) ∙ ap (λ l. unreported_objects config (places config events) ++ l) (withdrawn-ids config events e)
 
 -- ---- the live calls
 
@@ -84,18 +84,18 @@ pub live-next : (config : SpaceConfig) (events : List Event) (e : Event) →
     (call_with (has (table config (places config events))) (max e.moment (now (places config events))) e.ask ++ live_calls (table config (places config events)) (lease_calls (places config events)))
 live-next config events e =
     ap (live_calls (table config (place_of config (places config events) e ∷ places config events))) (lease_calls-push config (places config events) e)
-    ∙ live-push (table config (places config events)) (place_of config (places config events) e).exported_here (added (places config events)) (table config (place_of config (places config events) e ∷ places config events))
+    ∙ live-push (table config (places config events)) (place_of config (places config events) e).exported_here (ever_exported (places config events)) (table config (place_of config (places config events) e ∷ places config events))
     (is_kept config (place_of config (places config events) e ∷ places config events)) (is-next config events e) (max e.moment (now (places config events))) e.ask (lease_calls (places config events)) (calls-names (places config events))
 
 -- ---- new objects were nowhere before
 
 -- No call names one.
-pub not-exported-named : (config : SpaceConfig) (events : List Event) (y : ObjId) → has (added (places config events)) y ≡ false → list_any (is_naming y) (lease_calls (places config events)) ≡ false
+pub not-exported-named : (config : SpaceConfig) (events : List Event) (y : ObjId) → has (ever_exported (places config events)) y ≡ false → list_any (is_naming y) (lease_calls (places config events)) ≡ false
 not-exported-named config events y h = go (list_any (is_naming y) (lease_calls (places config events))) refl
   where
     go : (b : Bool) → list_any (is_naming y) (lease_calls (places config events)) ≡ b → b ≡ false
     go false t = refl
-    go true t = absurd (let there = naming-has (added (places config events)) y (lease_calls (places config events)) (calls-names (places config events)) t in cc)
+    go true t = absurd (let there = naming-has (ever_exported (places config events)) y (lease_calls (places config events)) (calls-names (places config events)) t in cc)
 
 -- No name stands for one, and no reference to one awaits.
 pub not-there-named : (config : SpaceConfig) (events : List Event) (y : ObjId) → has (table config (places config events)) y ≡ false → is_named (places config events) y ≡ false
@@ -115,13 +115,13 @@ not-there-awaits config events r h = go (awaits config.ack_ms (now (places confi
 -- ---- what is kept, before anything goes
 
 -- The event's own call and the live calls say whether an object of the table, or a new one, is held.
-reported-both : (config : SpaceConfig) (events : List Event) (e : Event) (o : ObjId) → has (added (places config events)) o ≡ has (table config (places config events)) o →
+reported-both : (config : SpaceConfig) (events : List Event) (e : Event) (o : ObjId) → has (ever_exported (places config events)) o ≡ has (table config (places config events)) o →
     AllAlike o (lease_calls (place_of config (places config events) e ∷ places config events))
     (call_with (has (table config (places config events))) (max e.moment (now (places config events))) e.ask ++ live_calls (table config (places config events)) (lease_calls (places config events)))
 reported-both config events e o same =
     let P : List Call → Type 0 = λ l. AllAlike o l (call_with (has (table config (places config events))) (max e.moment (now (places config events))) e.ask ++ live_calls (table config (places config events)) (lease_calls (places config events))) in
     subst P (sym (lease_calls-push config (places config events) e))
-    (reported-alike (table config (places config events)) (added (places config events)) o (max e.moment (now (places config events))) e.ask (lease_calls (places config events)) same
+    (reported-alike (table config (places config events)) (ever_exported (places config events)) o (max e.moment (now (places config events))) e.ask (lease_calls (places config events)) same
     (λ h. not-exported-named config events o (same ∙ h)))
 
 pub held-next : (config : SpaceConfig) (events : List Event) (e : Event) (t : ℕ) →
@@ -135,7 +135,7 @@ held-next config events e t =
     (every-weaker (λ (x : Exported). has (place_of config (places config events) e).exported_here x.id ≡ true) _
     (λ x h. (let new = new-not-old config events e x.id h in one x (new ∙ sym (not-exported-nowhere config events x.id new)))) (place_of config (places config events) e).exported_here (has-self (place_of config (places config events) e).exported_here))
   where
-    one : (x : Exported) → has (added (places config events)) x.id ≡ has (table config (places config events)) x.id →
+    one : (x : Exported) → has (ever_exported (places config events)) x.id ≡ has (table config (places config events)) x.id →
         is_held config.lease_ms t (lease_calls (place_of config (places config events) e ∷ places config events)) x.id
         ≡ is_held config.lease_ms t (call_with (has (table config (places config events))) (max e.moment (now (places config events))) e.ask ++ live_calls (table config (places config events)) (lease_calls (places config events))) x.id
     one x same =
@@ -153,7 +153,7 @@ pub kept-next : (config : SpaceConfig) (events : List Event) (e : Event) (waits 
     || is_held config.lease_ms (max e.moment (now (places config events)))
     (call_with (has (table config (places config events))) (max e.moment (now (places config events))) e.ask ++ live_calls (table config (places config events)) (lease_calls (places config events))) x.id))
     (table config (places config events) ++ (place_of config (places config events) e).exported_here)
-unfolding is_kept is_pinned
+unfolding is_kept is_kept_locally
 kept-next config events e waits await =
     every-weaker _ _ (λ x held.
     ap (λ v. (x.pinned || is_named (place_of config (places config events) e ∷ places config events) x.id || v)

@@ -13,14 +13,14 @@ use Rattle.history.specs.declared.replies.Refused.TheVariants.{OutOfMemory}
 use Rattle.history.specs.declared.replies.Reply.TheVariants.{Started, NoObject, Finished, NotRunning, Done, Bound, AlreadyBound, Unbound, NotBound, Names}
 use Rattle.history.specs.declared.replies.Turn.{Turn}
 use Rattle.history.specs.Limits.{limits, refusal}
-use Rattle.history.specs.Places.{History, exported_from, has, kind_of, next}
+use Rattle.history.specs.Places.{History, exported_from, has, kind_of, exported_count}
 use Rattle.history.specs.Names.{names, stands_for}
 use Rattle.history.specs.Replies.{ids, reply, reply_found}
 use Rattle.history.specs.Steps.{turn_of, answer_with, history_with, Step}
 use Rattle.history.specs.Table.{is_effective, exports, table, place_of, places}
+use Rattle.history.proofs.NumberLaws.{length-exported_from}
 use Rattle.space.specs.Built.{SpaceHistory}
-use Rattle.space.specs.Noted.{NoteFitsIn, made_by, turned}
-use Rattle.space.proofs.Quiet.{exported_from-length}
+use Rattle.space.specs.Noted.{NoteFitsIn, made_by, turn_answer}
 
 -- ---- what a step says
 
@@ -57,14 +57,14 @@ reply-ids config h e os s = go e.ask s
     ended true n t = absurd (cc)
     ended false n t = absurd (cc)
 
-    made-few : (made : List ℕ) → ids (exported_from config.uid (next h) false made) ≡ os → length os ≤ length made
+    made-few : (made : List ℕ) → ids (exported_from config.uid (exported_count h) false made) ≡ os → length os ≤ length made
     made-few made t =
         let same = ap length t in
-        let all = length-map (exported_from config.uid (next h) false made) (λ (x : Exported). x.id) in
-        let long = exported_from-length config.uid (next h) false made in
+        let all = length-map (exported_from config.uid (exported_count h) false made) (λ (x : Exported). x.id) in
+        let long = length-exported_from config.uid (exported_count h) false made in
         omega (arith, same, all, long)
 
-    finished : (v : Bool) (made : List ℕ) → (if v then Finished (ids (if v then exported_from config.uid (next h) false made else [])) else NotRunning) ≡ Finished os → length os ≤ length made
+    finished : (v : Bool) (made : List ℕ) → (if v then Finished (ids (if v then exported_from config.uid (exported_count h) false made else [])) else NotRunning) ≡ Finished os → length os ≤ length made
     finished true made t = made-few made (cc)
     finished false made t = absurd (cc)
 
@@ -164,7 +164,7 @@ turn-small config events h2 e s turn v t =
 
 -- The same as there is room for a copy.
 pub fits-turn : (config : SpaceConfig) (events h2 : List Event) (e : Event) (s : SpaceHistory) (answer : Result (Turn × List ObjId) Refused) (ids_room : ℕ) (listed : List (List ℕ)) →
-    record { configuration = config; events = events } ≡ s → Step s.configuration s.events e (turned answer) h2 →
+    record { configuration = config; events = events } ≡ s → Step s.configuration s.events e (turn_answer answer) h2 →
     (e.ask ≡ ListNames → listed ≡ names (places config events)) → made_by e.ask ≤ ids_room → IfOk answer (λ x. x.1 ≡ x.0.gone) → NoteFitsIn answer ids_room listed
 fits-turn config events h2 e s (Ok x) ids_room listed v t l i g =
     let small = turn-small config events h2 e s x.0 v t in
@@ -180,16 +180,12 @@ pub if-ok : {T E : Type 0} (r : Result T E) (P Q : T → Type 0) → IfOk r P �
 if-ok (Ok x) P Q p f = f x p
 if-ok (Err e) P Q p f = tt
 
-pub on-err : {T E P Q : Type 0} (r : Result T E) → OnErr r P → (P → Q) → OnErr r Q
-on-err (Ok x) p f = tt
-on-err (Err e) p f = f p
-
 -- A turn without memory was refused.
-pub stays : (answer : Result (Turn × List ObjId) Refused) (P : Type 0) → turned answer ≡ Err OutOfMemory → OnErr answer P → P
+pub stays : (answer : Result (Turn × List ObjId) Refused) (P : Type 0) → turn_answer answer ≡ Err OutOfMemory → OnErr answer P → P
 stays (Ok x) P e p = absurd (cc)
 stays (Err refused) P e p = p
 
 -- What holds where a turn is taken holds where its answer alone is looked at.
-pub turned-ok : (answer : Result (Turn × List ObjId) Refused) (P : Type 0) → OnOk answer P → OnOk (turned answer) P
+pub turned-ok : (answer : Result (Turn × List ObjId) Refused) (P : Type 0) → OnOk answer P → OnOk (turn_answer answer) P
 turned-ok (Ok x) P p = p
 turned-ok (Err refused) P p = p

@@ -15,15 +15,15 @@ use Rattle.history.specs.declared.asks.Ask.TheVariants.{Finish, Lookup}
 use Rattle.history.specs.declared.places.Place.{Place}
 use Rattle.history.specs.declared.places.Exported.{Exported}
 use Rattle.history.specs.declared.places.Returned.{Returned}
-use Rattle.history.specs.Awaiting.{same_returned, returns, return_uid, is_ack_of, awaits, awaiting, is_awaited, until_of}
+use Rattle.history.specs.Awaiting.{same_returned, returns, return_uid, is_ack_of, awaits, awaiting_references, is_awaited, until_of}
 use Rattle.history.specs.LeaseCalls.{lease_calls}
 use Rattle.history.specs.Leases.{is_held}
 use Rattle.history.specs.Lists.{option_any}
 use Rattle.history.specs.Names.{stands_for, names, is_name_of, is_named}
 use Rattle.history.specs.Places.{History, has, now}
-use Rattle.history.specs.Running.{running}
-use Rattle.history.specs.Table.{is_pinned, is_kept, table, is_effective, exports, lists, place_of, places}
-use Rattle.history.proofs.AwaitingLaws.{returned-equality, awaits-acknowledged, awaits-passed, awaits-none, awaiting-member}
+use Rattle.history.specs.Running.{running_calls_by}
+use Rattle.history.specs.Table.{is_kept_locally, is_kept, table, is_effective, exports, returned_objects, place_of, places}
+use Rattle.history.proofs.AwaitingLaws.{returned-equality, awaits-acknowledged, awaits-passed, awaits-none, awaiting_references-member}
 use Rattle.history.proofs.TableLaws.{places-push, places-none, now-push}
 use Rattle.dgc_server.proofs.Steps.{earlier}
 use Rattle.space.proofs.Named.{any-ids}
@@ -58,7 +58,7 @@ named-there config events o h = go (names (places config events)) h
 
 kept-awaited : (config : SpaceConfig) (h : History) (x : Exported) → is_awaited config.ack_ms (now h) h x.id ≡ true → is_kept config h x ≡ true
 unfolding is_kept
-kept-awaited config h x a = rw a (go (is_pinned h x) (is_held config.lease_ms (now h) (lease_calls h) x.id))
+kept-awaited config h x a = rw a (go (is_kept_locally h x) (is_held config.lease_ms (now h) (lease_calls h) x.id))
   where
     go : (a b : Bool) → (a || true || b) ≡ true
     go true b = refl
@@ -66,7 +66,7 @@ kept-awaited config h x a = rw a (go (is_pinned h x) (is_held config.lease_ms (n
 
 awaited-by : (ack t : ℕ) (h : History) (r : Returned) → awaits ack t h r ≡ true → is_awaited ack t h r.object ≡ true
 unfolding is_awaited
-awaited-by ack t h r a = any-at same_returned returned-equality.equal (λ s. same_id s.object r.object) r (awaiting ack t h) (awaiting-member ack t h r ∙ a) (same_id-self r.object)
+awaited-by ack t h r a = any-at same_returned returned-equality.equal (λ s. same_id s.object r.object) r (awaiting_references ack t h) (awaiting_references-member ack t h r ∙ a) (same_id-self r.object)
 
 pub exported-ids : (o : ObjId) (xs : List Exported) → list_any (same_id o) (map (λ x. x.id) xs) ≡ true → has xs o ≡ true
 exported-ids o xs h = sym (any-ids xs o) ∙ h
@@ -85,7 +85,7 @@ filter-there objects o (y ∷ os) h = go (has objects y) refl h (filter-there ob
 -- What a place returns is in the table before it, or new.
 listed-there : (config : SpaceConfig) (events : List Event) (e : Event) (o : ObjId) → list_any (same_id o) (place_of config (places config events) e).returned_here ≡ true →
     has (table config (places config events) ++ (place_of config (places config events) e).exported_here) o ≡ true
-unfolding place_of is_effective lists
+unfolding place_of is_effective returned_objects
 listed-there config events e o h = go e.ask h
   where
     nowhere : (b : Bool) → list_any (same_id o) (if b then [] else []) ≡ true → ⊥
@@ -113,7 +113,7 @@ listed-there config events e o h = go e.ask h
 
     go : (a : Ask) → list_any (same_id o) (place_of config (places config events) (record e { ask = a })).returned_here ≡ true →
         has (table config (places config events) ++ (place_of config (places config events) (record e { ask = a })).exported_here) o ≡ true
-    go (Finish x made listed uid) t = finish (nat_lt 0 (running (places config events) e.by x)) (exports config (places config events) (Finish x made listed uid)) listed t
+    go (Finish x made listed uid) t = finish (nat_lt 0 (running_calls_by (places config events) e.by x)) (exports config (places config events) (Finish x made listed uid)) listed t
     go (Lookup n uid) t = in-front (table config (places config events)) (place_of config (places config events) (record e { ask = Lookup n uid })).exported_here o (looked (stands_for (places config events) n) n refl t)
     go a t = absurd (nowhere (place_of config (places config events) (record e { ask = a })).effective t)
 

@@ -5,7 +5,7 @@ use Rattle.object_ids.specs.declared.ids.Uid.{Uid}
 use Rattle.object_ids.specs.declared.ids.ObjId.{ObjId}
 use Rattle.history.specs.declared.asks.Ask.TheVariants.{Finish, Abandon, Lookup}
 use Rattle.history.specs.declared.asks.Event.{Event}
-use Rattle.history.specs.declared.limits.TheConstants.{MAX_EXPORTS, MAX_AWAITING, END_OF_NUMBERS, END_OF_TIME}
+use Rattle.history.specs.declared.limits.TheConstants.{MAX_EXPORTS, MAX_AWAITING, END_OF_OBJECT_COUNT, END_OF_TIME}
 use Rattle.history.specs.declared.places.Withdrawal.{Withdrawal}
 use Rattle.history.specs.LeaseCalls.{call_with}
 use Rattle.history.specs.Limits.{units_of}
@@ -13,18 +13,18 @@ use Rattle.history.specs.Names.{name_in, names, object_bound}
 use Rattle.history.specs.Places.{id_at}
 use Rattle.history.specs.Steps.{Step}
 use Rattle.history.specs.Table.{places}
-use Rattle.dgc_server.specs.Stands.{LeaseTable, StandsFor, ForEachLog}
+use Rattle.dgc_server.specs.StandsForCalls.{LeaseTable, StandsFor, ForEachLog}
 use Rattle.event_log.specs.Log.{EventRecord}
-use Rattle.export_table.specs.Rows.{is_exported, is_settled_but, held_by, pins_of, running_of}
+use Rattle.export_table.specs.ExportRows.{is_exported, is_settled_but, held_by, pins_of, running_of}
 use Rattle.export_table.specs.Table.{ExportTable}
 use Rattle.rmi_registry.specs.declared.binding.Binding.{Binding}
-use Rattle.rmi_registry.specs.Named.{names_in, object_of}
-use Rattle.rmi_registry.specs.Stands.{AreBindings}
+use Rattle.rmi_registry.specs.Bindings.{names_in, object_of}
+use Rattle.rmi_registry.specs.StandsForHistory.{AreBindings}
 use Rattle.space.specs.declared.prepared.Admitted.{Admitted}
 use Rattle.space.specs.declared.prepared.Prepared.{Prepared}
 use Rattle.space.specs.declared.runs.Run.{Run}
 use Rattle.space.specs.declared.tables.Tables.{Tables}
-use Rattle.space.specs.Acts.{ForEachLogBy, acted, acted_names, acted_runs, await_refusal, awaiting_with, effective_by, opens, reply_at, returned_by, room_refusal, reported_after, told_refusal, withdrawal_at}
+use Rattle.space.specs.Acts.{ForEachLogBy, acted_exports, acted_names, acted_runs, await_refusal, awaiting_with, effective_by, opens, reply_at, returned_by, room_refusal, reported_after, told_refusal, withdrawal_at}
 use Rattle.space.specs.Ahead.{HasRoom}
 use Rattle.space.specs.Doubts.{AreInDoubt, HasLog, taken_by}
 use Rattle.space.specs.Kept.{Keeps}
@@ -104,7 +104,7 @@ pub asked-when-ready : {t : Tables} {e : Event} {a : Admitted} {p : Prepared} {n
 asked-when-ready {t} {e} {a} {p} {noted} r = record { keeps = r.keeps; tested = r.effective_is ∙ ap (λ o. effective_by t.exports.rows t.runs.items o e.by e.ask) r.stood_is }
 
 pub acted-when-ready : {t : Tables} {e : Event} {a : Admitted} {p : Prepared} {noted : Bool} {time : ℕ} (r : IsReady t e a p noted) → time ≡ max e.moment t.moment →
-    HasActed t.config t.events.items e r.before t.leases t.exports (acted a.stood a.effective time e.ask t.exports) t.runs.items t.withdrawn.items t.reported t.added t.units t.moment a.effective
+    HasActed t.config t.events.items e r.before t.leases t.exports (acted_exports a.stood a.effective time e.ask t.exports) t.runs.items t.withdrawn.items t.reported t.added t.units t.moment a.effective
 acted-when-ready {t} {e} {a} {p} {noted} {time} r at =
     let N : Option ObjId → Type 0 = λ o. ForEachLogBy (max e.moment t.moment) r.before (λ lease calls. told_refusal lease (max e.moment t.moment) calls (call_with (is_exported t.exports.rows) (max e.moment t.moment) e.ask)
     (length (names (places t.config t.events.items))) o a.effective e.ask ≡ None) in
@@ -115,27 +115,27 @@ acted-when-ready {t} {e} {a} {p} {noted} {time} r at =
       fit = ap (λ o. await_refusal (max e.moment t.moment) t.exports.rows t.exports.waits o a.effective e.ask) (sym r.stood_is) ∙ r.unawaited;
       unrefused = subst N r.stood_is r.unrefused;
       told_leases = r.leases_told;
-      act = ap (λ n. acted a.stood a.effective n e.ask t.exports) at ∙ ap (λ o. acted o a.effective (max e.moment t.moment) e.ask t.exports) r.stood_is;
+      act = ap (λ n. acted_exports a.stood a.effective n e.ask t.exports) at ∙ ap (λ o. acted_exports o a.effective (max e.moment t.moment) e.ask t.exports) r.stood_is;
     }
 
 -- WHAT IT ANSWERS.
 pub step-when-ready : {t : Tables} {e : Event} {a : Admitted} {p : Prepared} {noted : Bool} {time place : ℕ} {leases : LeaseTable} {exports : ExportTable} {gone : List ObjId} → IsReady t e a p noted → time ≡ max e.moment t.moment →
-    place ≡ length t.events.items → HasWithdrawn t.leases leases (acted a.stood a.effective time e.ask t.exports) exports time p.untold.gone.items gone →
+    place ≡ length t.events.items → HasWithdrawn t.leases leases (acted_exports a.stood a.effective time e.ask t.exports) exports time p.untold.gone.items gone →
     Step t.config t.events.items e (Ok (record { place = place; reply = p.reply; gone = gone })) (t.events.items ++ e ∷ [])
 step-when-ready {t} {e} {a} {p} {noted} {time} {place} {leases} {exports} {gone} r at pl w =
-    turn-step t.config t.events.items e r.before t.leases leases t.exports (acted a.stood a.effective time e.ask t.exports) exports t.runs.items t.withdrawn.items t.reported t.added t.units t.moment time a.effective p.untold.gone.items gone
+    turn-step t.config t.events.items e r.before t.leases leases t.exports (acted_exports a.stood a.effective time e.ask t.exports) exports t.runs.items t.withdrawn.items t.reported t.added t.units t.moment time a.effective p.untold.gone.items gone
     (acted-when-ready r at) at w place p.reply gone (t.events.items ++ e ∷ []) pl refl
     (r.reply_is ∙ ap (λ o. reply_at t.config t.added t.exports.rows (names (places t.config t.events.items)) o a.effective e.ask) r.stood_is) r.gone_are refl
 
 -- WHAT IT LEAVES.
 pub whole-when-ready : {t : Tables} {e : Event} {a : Admitted} {p : Prepared} {noted : Bool} {time place reported added used withdrawn_room : ℕ} {leases : LeaseTable} {exports : ExportTable} {gone : List ObjId} {runs : List Run} {withdrawn : List Withdrawal} →
-    IsReady t e a p noted → time ≡ max e.moment t.moment → place ≡ length t.events.items → HasWithdrawn t.leases leases (acted a.stood a.effective time e.ask t.exports) exports time p.untold.gone.items gone →
+    IsReady t e a p noted → time ≡ max e.moment t.moment → place ≡ length t.events.items → HasWithdrawn t.leases leases (acted_exports a.stood a.effective time e.ask t.exports) exports time p.untold.gone.items gone →
     AreSame runs (acted_runs a.effective e.by e.ask t.runs.items) → withdrawn ≡ t.withdrawn.items ++ map (withdrawal_at place) (drop (length p.untold.gone.items) gone) → t.withdrawn.room ≤ withdrawn_room →
     reported ≡ reported_after t.reported (length withdrawn) e.ask → added ≡ t.added + p.opened → used ≡ t.units + units_of e.ask →
     Keeps t.config (t.events.items ++ e ∷ []) leases exports runs withdrawn reported added used time × HasRoom (t.events.items ++ e ∷ []) t.events.capacity runs withdrawn withdrawn_room exports × AreBindings (places t.config (t.events.items ++ e ∷ [])) t.names
 whole-when-ready {t} {e} {a} {p} {noted} {time} {place} {reported} {added} {used} {withdrawn_room} {leases} {exports} {gone} {runs} {withdrawn} r at pl w ru wi grow tl ad us =
     let kept : Keeps t.config (t.events.items ++ e ∷ []) leases exports runs withdrawn reported added used time =
-    turn-keeps t.config t.events.items e r.before t.leases leases t.exports (acted a.stood a.effective time e.ask t.exports) exports t.runs.items t.withdrawn.items t.reported t.added t.units t.moment time a.effective p.untold.gone.items gone
+    turn-keeps t.config t.events.items e r.before t.leases leases t.exports (acted_exports a.stood a.effective time e.ask t.exports) exports t.runs.items t.withdrawn.items t.reported t.added t.units t.moment time a.effective p.untold.gone.items gone
     (acted-when-ready r at) at w place reported added used (t.events.items ++ e ∷ []) runs withdrawn pl refl ru wi tl (ad ∙ ap (λ n. t.added + n) r.opened_is) us in
     let room = r.withdrawal_room in (
       kept,
@@ -155,7 +155,7 @@ abandoned-when-ready {t} {e} {a} r o f s = abandon-counted t.config t.events.ite
 pub finished-when-ready : {t : Tables} {e : Event} {a : Admitted} {p : Prepared} {noted : Bool} → IsReady t e a p noted → (o : ObjId) (made : List ℕ) (listed : List ObjId) (u : Uid) → a.effective ≡ true → e.ask ≡ Finish o made listed u → 0 < running_of t.exports.rows o
 finished-when-ready {t} {e} {a} r o made listed u f s = finish-counted t.config t.events.items e r.before t.exports t.runs.items t.withdrawn.items t.reported t.added t.units t.moment a.effective (asked-when-ready r) o made listed u f s
 
-pub countable-when-ready : {t : Tables} {e : Event} {a : Admitted} {p : Prepared} {noted : Bool} → IsReady t e a p noted → t.exports.added + opens a.effective e.ask < END_OF_NUMBERS
+pub countable-when-ready : {t : Tables} {e : Event} {a : Admitted} {p : Prepared} {noted : Bool} → IsReady t e a p noted → t.exports.added + opens a.effective e.ask < END_OF_OBJECT_COUNT
 countable-when-ready {t} {e} {a} r =
     let within = r.keeps.stands.within.history in let few = r.keeps.few_opened in let used = r.keeps.stands.used_is in let added = r.keeps.stands.added_is in
     let exported = room-exports t.units (length t.runs.items) (length t.exports.rows) a.effective e.ask r.unfilled in
@@ -215,9 +215,9 @@ few-calls-when-ready {t} r = few-calls t.config t.events.items r.before t.export
 
 pub log-when-ready : {t : Tables} {e : Event} {a : Admitted} {p : Prepared} {noted : Bool} → IsReady t e a p noted → HasLog t.leases
 log-when-ready {t} {e} {a} r =
-    has-log t.config t.events.items e r.before t.leases t.exports (acted a.stood a.effective (max e.moment t.moment) e.ask t.exports) t.runs.items t.withdrawn.items t.reported t.added t.units t.moment a.effective (acted-when-ready r refl)
+    has-log t.config t.events.items e r.before t.leases t.exports (acted_exports a.stood a.effective (max e.moment t.moment) e.ask t.exports) t.runs.items t.withdrawn.items t.reported t.added t.units t.moment a.effective (acted-when-ready r refl)
 
-pub withdrawal-room-when-ready : {t : Tables} {e : Event} {a : Admitted} {p : Prepared} {noted : Bool} (time : ℕ) {exports : ExportTable} → IsReady t e a p noted → exports ≡ record (acted a.stood a.effective time e.ask t.exports) { room = exports.room } →
+pub withdrawal-room-when-ready : {t : Tables} {e : Event} {a : Admitted} {p : Prepared} {noted : Bool} (time : ℕ) {exports : ExportTable} → IsReady t e a p noted → exports ≡ record (acted_exports a.stood a.effective time e.ask t.exports) { room = exports.room } →
     length t.withdrawn.items + length exports.rows ≤ t.withdrawn.room
 withdrawal-room-when-ready {t} {e} {a} {p} {noted} time {exports} r x = let rows = acted-few a.stood a.effective time e.ask t.exports exports x in let room = r.withdrawal_room in omega (arith, rows, room)
 
@@ -225,14 +225,14 @@ pub gone-room-when-ready : {t : Tables} {e : Event} {a : Admitted} {p : Prepared
 gone-room-when-ready r see = let same = ap length see in let room = r.gone_room in omega (arith, same, room)
 
 pub among-when-ready : {t : Tables} {e : Event} {a : Admitted} {p : Prepared} {noted : Bool} {time : ℕ} {exports : ExportTable} {seen : List ObjId} → IsReady t e a p noted → time ≡ max e.moment t.moment →
-    exports ≡ record (acted a.stood a.effective time e.ask t.exports) { room = exports.room } → seen ≡ p.listed.doubtful.items →
+    exports ≡ record (acted_exports a.stood a.effective time e.ask t.exports) { room = exports.room } → seen ≡ p.listed.doubtful.items →
     ForEachLog t.leases (λ lease m calls. is_settled_but seen time (held_by lease (max time m) calls) exports.waits exports.rows ≡ true)
 among-when-ready {t} {e} {a} {p} {noted} {time} {exports} {seen} r at x see =
     let N : ℕ → Type 0 = λ n. AreInDoubt r.before n t.exports.waits (taken_by t.exports.waits (id_at t.config.uid t.added) a.stood p.listed.references.items e.ask) p.listed.doubtful.items in
     let L : List ObjId → Type 0 = λ l. AreInDoubt r.before time t.exports.waits (taken_by t.exports.waits (id_at t.config.uid t.added) a.stood l e.ask) p.listed.doubtful.items in
     let O : Option ObjId → Type 0 = λ o. AreInDoubt r.before time t.exports.waits (taken_by t.exports.waits (id_at t.config.uid t.added) o (returned_by t.config.uid t.added t.exports.rows o a.effective e.ask) e.ask) p.listed.doubtful.items in
-    settled-roomy t.leases (acted a.stood a.effective time e.ask t.exports) exports time p.listed.doubtful.items seen x see
-    (settled-but t.config t.events.items e r.before t.leases t.exports (acted a.stood a.effective time e.ask t.exports) t.runs.items t.withdrawn.items t.reported t.added t.units t.moment a.effective (acted-when-ready r at) time p.listed.doubtful.items at
+    settled-roomy t.leases (acted_exports a.stood a.effective time e.ask t.exports) exports time p.listed.doubtful.items seen x see
+    (settled-but t.config t.events.items e r.before t.leases t.exports (acted_exports a.stood a.effective time e.ask t.exports) t.runs.items t.withdrawn.items t.reported t.added t.units t.moment a.effective (acted-when-ready r at) time p.listed.doubtful.items at
     (subst O r.stood_is (subst L r.references_are (subst N (sym at) r.doubtful_are))))
 
 -- There is room for the copy of what goes.

@@ -12,19 +12,19 @@ use Rattle.history.specs.declared.asks.SpaceConfig.{SpaceConfig}
 use Rattle.history.specs.declared.asks.Event.{Event}
 use Rattle.history.specs.declared.asks.Ask.{Ask}
 use Rattle.history.specs.declared.asks.Ask.TheVariants.{Dirty, Clean, Bind, Rebind}
-use Rattle.history.specs.declared.limits.TheConstants.{MAX_EXPORTS, MAX_AWAITING, MAX_CLIENTS, MAX_PAIRS, MAX_NAMES, MAX_UNITS}
+use Rattle.history.specs.declared.limits.TheConstants.{MAX_EXPORTS, MAX_AWAITING, MAX_CLIENTS, MAX_PAIRS, MAX_NAMES, MAX_HISTORY_UNITS}
 use Rattle.history.specs.declared.replies.Refused.{Refused}
 use Rattle.history.specs.declared.replies.Refused.TheVariants.{HistoryFull, Full}
-use Rattle.history.specs.Awaiting.{same_returned, returned, awaiting}
+use Rattle.history.specs.Awaiting.{same_returned, returned_references, awaiting_references}
 use Rattle.history.specs.LeaseCalls.{lease_calls}
 use Rattle.history.specs.Leases.{clients_with_time_left, same_pair, pairs_with}
-use Rattle.history.specs.Limits.{units_of, units, reserved, is_begin, is_end, limits, exports_with_event, awaiting_with_event, lease_call, clients_with_event, pairs_with_event, names_with_event, is_full, refusal}
+use Rattle.history.specs.Limits.{units_of, units, reserved_units, is_begin, is_end, limits, exports_with_event, awaiting_with_event, lease_call, clients_with_event, pairs_with_event, names_with_event, is_full, refusal}
 use Rattle.history.specs.Lists.{distinct, AllOnce}
 use Rattle.history.specs.Names.{name_bound, names, stands_for}
 use Rattle.history.specs.Places.{History, has, now}
 use Rattle.history.specs.Replies.{ids}
 use Rattle.history.specs.Table.{is_effective, table, place_of, places}
-use Rattle.history.proofs.AwaitingLaws.{returned-equality, awaiting-member}
+use Rattle.history.proofs.AwaitingLaws.{returned-equality, awaiting_references-member}
 use Rattle.history.proofs.ListLemmas.{AllOnce-distinct, AllOnce-push, length-members, list_any-distinct, or_false}
 use Rattle.history.proofs.NameLaws.{bytes-equality, names-member, names-once}
 use Rattle.history.proofs.TableLaws.{moment-place_of}
@@ -41,7 +41,7 @@ use Rattle.export_table.proofs.WaitLaws.{count-awaiting}
 
 pub full-is : (limit : ℕ) (config : SpaceConfig) (h : History) (e : Event) →
     is_full limit config h e
-    ≡ nat_lt (limit + (if is_effective config h e.by e.ask && is_end e.ask then 1 else 0)) (units h + reserved h + units_of e.ask + (if is_effective config h e.by e.ask && is_begin e.ask then 1 else 0))
+    ≡ nat_lt (limit + (if is_effective config h e.by e.ask && is_end e.ask then 1 else 0)) (units h + reserved_units h + units_of e.ask + (if is_effective config h e.by e.ask && is_begin e.ask then 1 else 0))
 unfolding is_full place_of
 full-is limit config h e = refl
 
@@ -54,15 +54,15 @@ exports-is config h e = ap (λ n. length (table config h) + n) (adds-length conf
 none-more : {X : Type 0} (xs : List X) → xs ++ [] ≡ xs
 none-more xs = rw append-nil refl
 
-pub awaiting-few : (config : SpaceConfig) (h : History) (e : Event) → returned (place_of config h e) ≡ [] → IsWithin config h → awaiting_with_event config h e ≤ MAX_AWAITING
+pub awaiting-few : (config : SpaceConfig) (h : History) (e : Event) → returned_references (place_of config h e) ≡ [] → IsWithin config h → awaiting_with_event config h e ≤ MAX_AWAITING
 unfolding awaiting_with_event
 awaiting-few config h e b w =
     let moment = moment-place_of config h e in
-    let none = ap (λ rs. length (distinct same_returned (awaiting config.ack_ms (place_of config h e).moment h ++ rs))) b in
-    let whole = ap (λ rs. length (distinct same_returned rs)) (none-more (awaiting config.ack_ms (place_of config h e).moment h)) in
-    let once = count-awaiting config.ack_ms (place_of config h e).moment h (distinct same_returned (awaiting config.ack_ms (place_of config h e).moment h))
-    (AllOnce-distinct same_returned returned-equality (awaiting config.ack_ms (place_of config h e).moment h))
-    (λ r. list_any-distinct same_returned (same_returned r) (λ x y s. ap (same_returned r) (returned-equality.equal x y s)) (awaiting config.ack_ms (place_of config h e).moment h) ∙ awaiting-member config.ack_ms (place_of config h e).moment h r) in
+    let none = ap (λ rs. length (distinct same_returned (awaiting_references config.ack_ms (place_of config h e).moment h ++ rs))) b in
+    let whole = ap (λ rs. length (distinct same_returned rs)) (none-more (awaiting_references config.ack_ms (place_of config h e).moment h)) in
+    let once = count-awaiting config.ack_ms (place_of config h e).moment h (distinct same_returned (awaiting_references config.ack_ms (place_of config h e).moment h))
+    (AllOnce-distinct same_returned returned-equality (awaiting_references config.ack_ms (place_of config h e).moment h))
+    (λ r. list_any-distinct same_returned (same_returned r) (λ x y s. ap (same_returned r) (returned-equality.equal x y s)) (awaiting_references config.ack_ms (place_of config h e).moment h) ∙ awaiting_references-member config.ack_ms (place_of config h e).moment h r) in
     let later = awaiting-later config.ack_ms (now h) (place_of config h e).moment h (omega arith) in
     let few = w.awaits in
     omega (arith, none, whole, once, later, few)
@@ -204,14 +204,14 @@ pub refusal-is : (config : SpaceConfig) (h : History) (e : Event) (await named :
     (if nat_lt MAX_AWAITING (awaiting_with_event config h e) then Some (Full Awaiting) else None) ≡ await →
     (if nat_lt MAX_NAMES (names_with_event config h e) then Some (Full Names) else None) ≡ named →
     refusal limits config h e
-    ≡ first_of_two (room_refusal (units h) (reserved h) (length (table config h)) (is_effective config h e.by e.ask) e.ask)
+    ≡ first_of_two (room_refusal (units h) (reserved_units h) (length (table config h)) (is_effective config h e.by e.ask) e.ask)
     (first_of_two await (first_of_two (lease_refusal config.lease_ms (max e.moment (now h)) (live_calls (table config h) (lease_calls h)) (lease_call config h e)) named))
 unfolding refusal
 refusal-is config h e await named w g k =
-    chain (is_full MAX_UNITS config h e) (nat_lt MAX_EXPORTS (exports_with_event config h e)) (nat_lt MAX_AWAITING (awaiting_with_event config h e)) (nat_lt MAX_CLIENTS (clients_with_event config h e)) (nat_lt MAX_PAIRS (pairs_with_event config h e)) (nat_lt MAX_NAMES (names_with_event config h e))
+    chain (is_full MAX_HISTORY_UNITS config h e) (nat_lt MAX_EXPORTS (exports_with_event config h e)) (nat_lt MAX_AWAITING (awaiting_with_event config h e)) (nat_lt MAX_CLIENTS (clients_with_event config h e)) (nat_lt MAX_PAIRS (pairs_with_event config h e)) (nat_lt MAX_NAMES (names_with_event config h e))
     await (lease_refusal config.lease_ms (max e.moment (now h)) (live_calls (table config h) (lease_calls h)) (lease_call config h e)) named
     g k (call-is config h e w)
-    ∙ two _ _ _ _ (full-is MAX_UNITS config h e) (exports-is config h e)
+    ∙ two _ _ _ _ (full-is MAX_HISTORY_UNITS config h e) (exports-is config h e)
   where
     later : Option Refused
     later = first_of_two await (first_of_two (lease_refusal config.lease_ms (max e.moment (now h)) (live_calls (table config h) (lease_calls h)) (lease_call config h e)) named)

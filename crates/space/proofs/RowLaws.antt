@@ -2,19 +2,18 @@
 use Rattle.std.proofs.Common.{◌≡◌, ℕ, List, [], ◌∷◌, ◌++◌, length, refl, ap, sym, ◌∙◌, arith}
 use Rattle.std.specs.Prelude.{Bool, true, false, ◌&&◌, ◌||◌, not, filter, flat_map, nat_lt}
 use Rattle.std.specs.List.{list_any, AllByRecursion}
-use Rattle.std.proofs.lemmas.Bool.{and_parts, or_parts}
+use Rattle.std.proofs.lemmas.Bool.{and_parts, or_parts, not-true}
 use Rattle.std.proofs.lemmas.List.Folds.{list_any-append}
 use Rattle.object_ids.specs.declared.ids.ObjId.{ObjId}
 use Rattle.object_ids.specs.Client.{Client}
 use Rattle.object_ids.specs.Same.{same_client, same_id}
-use Rattle.object_ids.proofs.Exact.{same_id-equal, same_id-self}
 use Rattle.history.specs.declared.asks.SpaceConfig.{SpaceConfig}
 use Rattle.history.specs.declared.asks.Event.{Event}
 use Rattle.history.specs.declared.calls.Call.{Call}
 use Rattle.history.specs.declared.calls.Pair.{Pair}
 use Rattle.history.specs.declared.places.Exported.{Exported}
 use Rattle.history.specs.declared.places.Returned.{Returned}
-use Rattle.history.specs.Awaiting.{awaiting_of}
+use Rattle.history.specs.Awaiting.{awaiting_references_to}
 use Rattle.history.specs.LeaseCalls.{lease_calls}
 use Rattle.history.specs.Leases.{calls_of, clients, holders, is_remembered, same_pair, pairs_of, pairs_with, pairs, objects_named}
 use Rattle.history.specs.Lists.{distinct, AllOnce}
@@ -24,17 +23,18 @@ use Rattle.history.specs.Places.{History, has, now}
 use Rattle.history.specs.Replies.{ids}
 use Rattle.history.specs.Running.{running_calls}
 use Rattle.history.specs.Table.{table, places}
-use Rattle.history.proofs.ListLemmas.{every-weaker, AllOnce-filter, AllOnce-distinct, IsEquality, length-members}
+use Rattle.history.proofs.ListLemmas.{every-weaker, AllOnce-filter, AllOnce-distinct, length-members}
 use Rattle.history.proofs.KeptSince.{table-apart}
 use Rattle.history.proofs.NumberLaws.{AllApart, has-self}
-use Rattle.dgc_server.proofs.Distinct.{all_once, absent_is}
+use Rattle.history.proofs.PairLaws.{pair-equality, any-pairs_of}
+use Rattle.history.proofs.Equalities.{object-equality}
+use Rattle.dgc_server.proofs.Distinct.{all_once}
 use Rattle.dgc_server.proofs.Rising.{rising-clients, rising-once}
 use Rattle.space.specs.Kept.{live_calls}
 use Rattle.space.proofs.LiveLaws.{holders-live, pairs-live}
 use Rattle.space.proofs.Named.{any-ids}
-use Rattle.space.proofs.Pairs.{pair-equality, any-pairs_of}
 use Rattle.space.specs.Runs.{is_run_on, RunsStand}
-use Rattle.export_table.specs.Stands.{WaitsStand}
+use Rattle.export_table.specs.StandsForHistory.{WaitsStand}
 use Rattle.export_table.proofs.StandLaws.{awaiting_of-counted}
 
 -- ---- THE ROW of an object of the table, by running calls, waits and live calls.
@@ -56,19 +56,16 @@ pub row-kept : {R W : Type 0} (by : R → ℕ) (object : R → ObjId) (ref : W �
     }) (table config h)
 row-kept by object ref until config h runs ws r s =
     every-weaker (λ (x : Exported). has (table config h) x.id ≡ true) _
-    (λ x there. four x (running_calls h x.id) (length (awaiting_of config.ack_ms (now h) h x.id)) (length (holders config.lease_ms (now h) (lease_calls h) x.id)) (length (names_of h x.id))
+    (λ x there. four x (running_calls h x.id) (length (awaiting_references_to config.ack_ms (now h) h x.id)) (length (holders config.lease_ms (now h) (lease_calls h) x.id)) (length (names_of h x.id))
     (length (filter (is_run_on object x.id) runs)) (length (filter (λ w. nat_lt (now h) (until w) && same_id (ref w).object x.id) ws)) (length (holders config.lease_ms (now h) (live_calls (table config h) (lease_calls h)) x.id))
     (sym (r.calls x.id)) (awaiting_of-counted ref until config.ack_ms (now h) (now h) h x.id ws (omega arith) s) (ap length (holders-live (table config h) x.id config.lease_ms (now h) (lease_calls h) there)))
     (table config h) (has-self (table config h))
 
 -- ---- how many pairs
 
-pub object-equality : IsEquality same_id
-object-equality = record { self = same_id-self; equal = same_id-equal }
-
 client-once : (cs : List Client) → all_once same_client cs ≡ true → AllOnce same_client cs
 client-once [] h = tt
-client-once (c ∷ cs) h = let two = and_parts (not (list_any (same_client c) cs)) (all_once same_client cs) h in (absent_is (list_any (same_client c) cs) two.0, client-once cs two.1)
+client-once (c ∷ cs) h = let two = and_parts (not (list_any (same_client c) cs)) (all_once same_client cs) h in (not-true (list_any (same_client c) cs) two.0, client-once cs two.1)
 
 pairs-absent : (p : Pair) (f : Client → List ObjId) (cs : List Client) → list_any (same_client p.client) cs ≡ false → list_any (same_pair p) (flat_map (λ c. pairs_of c (f c)) cs) ≡ false
 pairs-absent p f [] h = refl

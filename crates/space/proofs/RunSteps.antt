@@ -12,13 +12,14 @@ use Rattle.history.specs.declared.asks.SpaceConfig.{SpaceConfig}
 use Rattle.history.specs.declared.asks.Event.{Event}
 use Rattle.history.specs.declared.asks.Ask.{Ask}
 use Rattle.history.specs.declared.asks.Ask.TheVariants.{Begin, Finish, Abandon}
-use Rattle.history.specs.Limits.{is_begin, is_end, starts, ends, reserved}
+use Rattle.history.specs.Limits.{is_begin, is_end, starts, ends, reserved_units}
 use Rattle.history.specs.Places.{has}
-use Rattle.history.specs.Running.{is_begin_of, is_end_of, begins_call, ends_call, running, running_calls}
+use Rattle.history.specs.Running.{is_begin_of, is_end_of, begins_call, ends_call, running_calls_by, running_calls}
 use Rattle.history.specs.Table.{is_effective, table, place_of, places}
 use Rattle.space.specs.Runs.{without_first, is_run_of, is_run_on, RunsStand}
 use Rattle.history.proofs.Partitions.{one_if, length-filter-cons}
-use Rattle.history.proofs.RunningLaws.{begins_any, ends_any, running-push, running_calls-push, reserved-push}
+use Rattle.history.proofs.RunningLaws.{begins_any, ends_any, running_calls_by-push, running_calls-push, reserved_units-push}
+use Rattle.history.proofs.ListLemmas.{and_false}
 
 -- ---- lists
 
@@ -84,7 +85,7 @@ none-counted {R} test (r ∷ rs) h = go (test r) h (none-counted test rs)
 -- ---- running calls: each is of a connection and an object
 
 pub runs-none : {R : Type 0} (by : R → ℕ) (object : R → ObjId) → RunsStand by object [] []
-unfolding running running_calls reserved
+unfolding running_calls_by running_calls reserved_units
 runs-none by object = record { lines = λ b o. refl; calls = λ o. refl; all = refl }
 
 step-same : (a b x y : ℕ) (ends begins : Bool) → a + one_if ends ≡ b + one_if begins → ends ≡ false → begins ≡ false → x ≡ b → x ≡ a
@@ -98,9 +99,9 @@ pub runs-other : {R : Type 0} (by : R → ℕ) (object : R → ObjId) (config : 
     starts (place_of config (places config events) e) ≡ false → ends (place_of config (places config events) e) ≡ false →
     RunsStand by object (places config events) runs → RunsStand by object (place_of config (places config events) e ∷ places config events) runs
 runs-other by object config events e runs bc ec ba ea s t r = record {
-  lines = λ b o. step-same (running (place_of config (places config events) e ∷ places config events) b o) (running (places config events) b o) (length (filter (is_run_of by object b o) runs)) 0 (ends_call b o (place_of config (places config events) e)) (begins_call b o (place_of config (places config events) e)) (running-push config events e b o) (ec b o) (bc b o) (r.lines b o);
+  lines = λ b o. step-same (running_calls_by (place_of config (places config events) e ∷ places config events) b o) (running_calls_by (places config events) b o) (length (filter (is_run_of by object b o) runs)) 0 (ends_call b o (place_of config (places config events) e)) (begins_call b o (place_of config (places config events) e)) (running_calls_by-push config events e b o) (ec b o) (bc b o) (r.lines b o);
   calls = λ o. step-same (running_calls (place_of config (places config events) e ∷ places config events) o) (running_calls (places config events) o) (length (filter (is_run_on object o) runs)) 0 (ends_any o (place_of config (places config events) e)) (begins_any o (place_of config (places config events) e)) (running_calls-push config events e o) (ea o) (ba o) (r.calls o);
-  all = step-same (reserved (place_of config (places config events) e ∷ places config events)) (reserved (places config events)) (length runs) 0 (ends (place_of config (places config events) e)) (starts (place_of config (places config events) e)) (reserved-push config events e) t s r.all;
+  all = step-same (reserved_units (place_of config (places config events) e ∷ places config events)) (reserved_units (places config events)) (length runs) 0 (ends (place_of config (places config events) e)) (starts (place_of config (places config events) e)) (reserved_units-push config events e) t s r.all;
 }
 
 step-more : (a b x y : ℕ) (ends begins new : Bool) → a + one_if ends ≡ b + one_if begins → ends ≡ false → begins ≡ new → x ≡ b → y ≡ x + one_if new → y ≡ a
@@ -111,23 +112,19 @@ step-less : (a b x y : ℕ) (ends begins old : Bool) → a + one_if ends ≡ b +
 unfolding one_if
 step-less a b x y ends begins old s e f h g = let one = ap one_if e in let two = ap one_if f in omega arith
 
-and_false : (b : Bool) → (b && false) ≡ false
-and_false true = refl
-and_false false = refl
-
 -- An effective Begin is one more.
 pub runs-begin : {R : Type 0} (by : R → ℕ) (object : R → ObjId) (config : SpaceConfig) (events : List Event) (e : Event) (x : ObjId) (runs : List R) (new : R) → e.ask ≡ Begin x → has (table config (places config events)) x ≡ true →
     by new ≡ e.by → object new ≡ x → RunsStand by object (places config events) runs → RunsStand by object (place_of config (places config events) e ∷ places config events) (runs ++ new ∷ [])
 unfolding place_of is_effective one_if
 runs-begin {R} by object config events e x runs new asked there b n r = record {
-  lines = λ k o. step-more (running (place_of config (places config events) e ∷ places config events) k o) (running (places config events) k o) (length (filter (is_run_of by object k o) runs)) (length (filter (is_run_of by object k o) (runs ++ new ∷ [])))
-      (ends_call k o (place_of config (places config events) e)) (begins_call k o (place_of config (places config events) e)) (is_run_of by object k o new) (running-push config events e k o)
+  lines = λ k o. step-more (running_calls_by (place_of config (places config events) e ∷ places config events) k o) (running_calls_by (places config events) k o) (length (filter (is_run_of by object k o) runs)) (length (filter (is_run_of by object k o) (runs ++ new ∷ [])))
+      (ends_call k o (place_of config (places config events) e)) (begins_call k o (place_of config (places config events) e)) (is_run_of by object k o new) (running_calls_by-push config events e k o)
       (rw asked (and_false (has (table config (places config events)) x && e.by == k))) (rw (asked, there, b, n) refl) (r.lines k o) (count-last (is_run_of by object k o) runs new);
   calls = λ o. step-more (running_calls (place_of config (places config events) e ∷ places config events) o) (running_calls (places config events) o) (length (filter (is_run_on object o) runs)) (length (filter (is_run_on object o) (runs ++ new ∷ [])))
       (ends_any o (place_of config (places config events) e)) (begins_any o (place_of config (places config events) e)) (is_run_on object o new) (running_calls-push config events e o)
       (rw asked (and_false (has (table config (places config events)) x))) (rw (asked, there, n) refl) (r.calls o) (count-last (is_run_on object o) runs new);
-  all = step-more (reserved (place_of config (places config events) e ∷ places config events)) (reserved (places config events)) (length runs) (length (runs ++ new ∷ []))
-      (ends (place_of config (places config events) e)) (starts (place_of config (places config events) e)) true (reserved-push config events e)
+  all = step-more (reserved_units (place_of config (places config events) e ∷ places config events)) (reserved_units (places config events)) (length runs) (length (runs ++ new ∷ []))
+      (ends (place_of config (places config events) e)) (starts (place_of config (places config events) e)) true (reserved_units-push config events e)
       (rw asked (and_false (has (table config (places config events)) x))) (rw (asked, there) refl) r.all (length-append runs (new ∷ []));
 }
 
@@ -145,21 +142,21 @@ pub abandon-ends : (x : ObjId) (a : Ask) → a ≡ Abandon x → EndsCall x a
 abandon-ends x a e = record { ends_of = λ o. ap (is_end_of o) e; begins_of = λ o. ap (is_begin_of o) e; is_ended = ap is_end e; is_begun = ap is_begin e }
 
 -- An effective Finish or Abandon is one less.
-pub runs-end : {R : Type 0} (by : R → ℕ) (object : R → ObjId) (config : SpaceConfig) (events : List Event) (e : Event) (x : ObjId) (runs : List R) → EndsCall x e.ask → 0 < running (places config events) e.by x →
+pub runs-end : {R : Type 0} (by : R → ℕ) (object : R → ObjId) (config : SpaceConfig) (events : List Event) (e : Event) (x : ObjId) (runs : List R) → EndsCall x e.ask → 0 < running_calls_by (places config events) e.by x →
     is_effective config (places config events) e.by e.ask ≡ true →
     RunsStand by object (places config events) runs → RunsStand by object (place_of config (places config events) e ∷ places config events) (without_first (is_run_of by object e.by x) runs)
 unfolding place_of one_if
 runs-end {R} by object config events e x runs c run eff r = record {
-  lines = λ k o. step-less (running (place_of config (places config events) e ∷ places config events) k o) (running (places config events) k o) (length (filter (is_run_of by object k o) runs)) (length (filter (is_run_of by object k o) (without_first (is_run_of by object e.by x) runs)))
-      (ends_call k o (place_of config (places config events) e)) (begins_call k o (place_of config (places config events) e)) (e.by == k && same_id x o) (running-push config events e k o)
+  lines = λ k o. step-less (running_calls_by (place_of config (places config events) e ∷ places config events) k o) (running_calls_by (places config events) k o) (length (filter (is_run_of by object k o) runs)) (length (filter (is_run_of by object k o) (without_first (is_run_of by object e.by x) runs)))
+      (ends_call k o (place_of config (places config events) e)) (begins_call k o (place_of config (places config events) e)) (e.by == k && same_id x o) (running_calls_by-push config events e k o)
       (rw (c.begins_of o) (and_false (is_effective config (places config events) e.by e.ask && e.by == k))) (rw (eff, c.ends_of o) refl) (r.lines k o)
       (count-without (is_run_of by object e.by x) (is_run_of by object k o) (e.by == k && same_id x o) (λ q h. line_found q k o h) runs there);
   calls = λ o. step-less (running_calls (place_of config (places config events) e ∷ places config events) o) (running_calls (places config events) o) (length (filter (is_run_on object o) runs)) (length (filter (is_run_on object o) (without_first (is_run_of by object e.by x) runs)))
       (ends_any o (place_of config (places config events) e)) (begins_any o (place_of config (places config events) e)) (same_id x o) (running_calls-push config events e o)
       (rw (c.begins_of o) (and_false (is_effective config (places config events) e.by e.ask))) (rw (eff, c.ends_of o) refl) (r.calls o)
       (count-without (is_run_of by object e.by x) (is_run_on object o) (same_id x o) (λ q h. ap (λ y. same_id y o) (same_id-equal (object q) x (and_parts (by q == e.by) (same_id (object q) x) h).1)) runs there);
-  all = step-less (reserved (place_of config (places config events) e ∷ places config events)) (reserved (places config events)) (length runs) (length (without_first (is_run_of by object e.by x) runs))
-      (ends (place_of config (places config events) e)) (starts (place_of config (places config events) e)) true (reserved-push config events e)
+  all = step-less (reserved_units (place_of config (places config events) e ∷ places config events)) (reserved_units (places config events)) (length runs) (length (without_first (is_run_of by object e.by x) runs))
+      (ends (place_of config (places config events) e)) (starts (place_of config (places config events) e)) true (reserved_units-push config events e)
       (rw c.is_begun (and_false (is_effective config (places config events) e.by e.ask))) (rw (eff, c.is_ended) refl) r.all (length-without (is_run_of by object e.by x) runs there);
 }
   where

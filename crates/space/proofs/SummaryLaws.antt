@@ -1,13 +1,14 @@
 -- The summary and the journal, by what is kept.
-use Rattle.std.proofs.Common.{◌≡◌, ℕ, suc, ◌<◌, List, [], ◌∷◌, ◌++◌, length, refl, ap, sym, subst, ◌∙◌, arith, map, max, flat_map}
+use Rattle.std.proofs.Common.{◌≡◌, ℕ, ◌<◌, List, [], ◌∷◌, ◌++◌, length, refl, ap, sym, subst, ◌∙◌, arith, max, flat_map}
 use Rattle.std.specs.Prelude.{pos}
 use Rattle.std.specs.List.{AllByRecursion}
+use Rattle.std.proofs.lemmas.List.{length-map}
 use Rattle.history.specs.declared.asks.SpaceConfig.{SpaceConfig}
 use Rattle.history.specs.declared.asks.Event.{Event}
 use Rattle.history.specs.declared.calls.Call.{Call}
 use Rattle.history.specs.declared.calls.LeaseRow.{LeaseRow}
 use Rattle.history.specs.declared.places.Withdrawal.{Withdrawal}
-use Rattle.history.specs.Awaiting.{awaiting}
+use Rattle.history.specs.Awaiting.{awaiting_references}
 use Rattle.history.specs.LeaseCalls.{lease_calls}
 use Rattle.history.specs.Leases.{clients_with_time_left, lease_rows, lease_end, calls_of, pairs, pairs_with}
 use Rattle.history.specs.Limits.{units}
@@ -20,17 +21,17 @@ use Rattle.history.specs.declared.limits.TheConstants.{END_OF_TIME}
 use Rattle.history.proofs.TableLaws.{length-places, places-push, now-push}
 use Rattle.journal.specs.Rows.{events_text}
 use Rattle.journal.specs.Grammar.{SpellsConfig, JournalText}
-use Rattle.journal.specs.Written.{ended, config_text, event_line, journal_text, ConfigFits, EventFits}
+use Rattle.journal.specs.Written.{with_line_end, config_text, event_line, journal_text, ConfigFits, EventFits}
 use Rattle.journal.proofs.Ended.{journal_after}
-use Rattle.dgc_server.specs.Stands.{LeaseTable, StandsFor}
+use Rattle.dgc_server.specs.StandsForCalls.{LeaseTable, StandsFor}
 use Rattle.export_table.specs.Table.{ExportTable}
-use Rattle.export_table.specs.Waits.{waiting}
+use Rattle.export_table.specs.Waits.{still_waiting}
 use Rattle.space.specs.declared.journal_text.Counts.{Counts}
 use Rattle.space.specs.declared.runs.Run.{Run}
 use Rattle.space.specs.Built.{SpaceHistory}
 use Rattle.space.specs.Kept.{HasDurations, live_calls, Keeps}
 use Rattle.space.specs.Summary.{counts_text}
-use Rattle.export_table.specs.Stands.{reference_of, end_of, row_of}
+use Rattle.export_table.specs.StandsForHistory.{reference_of, end_of, row_of}
 use Rattle.space.proofs.LiveLaws.{left-live}
 use Rattle.space.proofs.RowLaws.{pairs-counted-live}
 use Rattle.export_table.proofs.StandLaws.{awaiting-counted}
@@ -38,13 +39,9 @@ use Rattle.history.proofs.NamedLaws.{by-events}
 
 -- ---- counts
 
-length-map : {X Y : Type 0} (f : X → Y) (xs : List X) → length (map f xs) ≡ length xs
-length-map f [] = refl
-length-map f (x ∷ xs) = ap suc (length-map f xs)
-
 rows-counted : (lease t : ℕ) (calls : List Call) → length (lease_rows lease t calls) ≡ length (clients_with_time_left lease t calls)
 unfolding lease_rows
-rows-counted lease t calls = length-map (λ c. record { client = c; until = lease_end lease (calls_of c calls) }) (clients_with_time_left lease t calls)
+rows-counted lease t calls = length-map (clients_with_time_left lease t calls) (λ c. record { client = c; until = lease_end lease (calls_of c calls) })
 
 -- How many entries the tables of a history have.
 abbrev counted : SpaceConfig → History → Counts
@@ -52,7 +49,7 @@ counted config h = record {
   objects = length (table config h);
   clients = length (clients_with_time_left config.lease_ms (now h) (lease_calls h));
   pairs = length (pairs_with config.lease_ms (now h) (lease_calls h) (ids (table config h)));
-  awaiting = length (awaiting config.ack_ms (now h) h);
+  awaiting = length (awaiting_references config.ack_ms (now h) h);
   names = length (names h);
   withdrawn = length (withdrawals config h);
 }
@@ -70,18 +67,18 @@ counts-are : (config : SpaceConfig) (events : List Event) (leases : LeaseTable) 
     (clients pairs_left bound : ℕ) → clients ≡ length (lease_rows config.lease_ms moment (live_calls (table config (places config events)) (lease_calls (places config events)))) →
     pairs_left ≡ length (pairs config.lease_ms moment (live_calls (table config (places config events)) (lease_calls (places config events)))) →
     bound ≡ length (names (places config events)) →
-    ◌≡◌ {A = Counts} (record { objects = length exports.rows; clients = clients; pairs = pairs_left; awaiting = length (waiting moment exports.waits); names = bound; withdrawn = length withdrawn })
+    ◌≡◌ {A = Counts} (record { objects = length exports.rows; clients = clients; pairs = pairs_left; awaiting = length (still_waiting moment exports.waits); names = bound; withdrawn = length withdrawn })
     (counted config (places config events))
 counts-are config events leases exports runs withdrawn reported opened used moment k clients pairs_left bound c p n =
     let h = places config events in let live = live_calls (table config (places config events)) (lease_calls (places config events)) in
-    six (length exports.rows) clients pairs_left (length (waiting moment exports.waits)) bound (length withdrawn)
+    six (length exports.rows) clients pairs_left (length (still_waiting moment exports.waits)) bound (length withdrawn)
     (length (table config h)) (length (clients_with_time_left config.lease_ms (now h) (lease_calls h))) (length (pairs_with config.lease_ms (now h) (lease_calls h) (ids (table config h))))
-    (length (awaiting config.ack_ms (now h) h)) (length (names h)) (length (withdrawals config h))
-    (ap length k.stands.rows_are ∙ length-map (row_of h) (table config h))
+    (length (awaiting_references config.ack_ms (now h) h)) (length (names h)) (length (withdrawals config h))
+    (ap length k.stands.rows_are ∙ length-map (table config h) (row_of h))
     (c ∙ rows-counted config.lease_ms moment live ∙ ap length (left-live (table config h) config.lease_ms moment (lease_calls h))
     ∙ ap (λ t. length (clients_with_time_left config.lease_ms t (lease_calls h))) k.stands.moment_is)
     (p ∙ sym (pairs-counted-live config events moment) ∙ ap (λ t. length (pairs_with config.lease_ms t (lease_calls h) (ids (table config h)))) k.stands.moment_is)
-    (sym (awaiting-counted reference_of end_of config.ack_ms moment moment h exports.waits (omega arith) k.stands.waits_stand) ∙ ap (λ t. length (awaiting config.ack_ms t h)) k.stands.moment_is)
+    (sym (awaiting-counted reference_of end_of config.ack_ms moment moment h exports.waits (omega arith) k.stands.waits_stand) ∙ ap (λ t. length (awaiting_references config.ack_ms t h)) k.stands.moment_is)
     n
     (ap length k.stands.withdrawn_are)
 
@@ -99,7 +96,7 @@ pub summarized : (config : SpaceConfig) (events : List Event) (leases : LeaseTab
     record { configuration = config; events = events } ≡ s → Keeps config events leases exports runs withdrawn reported opened used moment →
     ((lease m : ℕ) (calls : List Call) → StandsFor lease leases m calls → rows ≡ lease_rows lease (max moment m) calls) →
     ((lease m : ℕ) (calls : List Call) → StandsFor lease leases m calls → counts.pairs ≡ length (pairs lease (max moment m) calls)) →
-    counts.objects ≡ length exports.rows → counts.clients ≡ length rows → counts.awaiting ≡ length (waiting moment exports.waits) → counts.names ≡ length (names (places config events)) → counts.withdrawn ≡ length withdrawn →
+    counts.objects ≡ length exports.rows → counts.clients ≡ length rows → counts.awaiting ≡ length (still_waiting moment exports.waits) → counts.names ≡ length (names (places config events)) → counts.withdrawn ≡ length withdrawn →
     start ≡ [] → first ≡ start ++ events_text (length events) used moment → second ≡ first ++ counts_text counts →
     second ≡ summary s.configuration s.events
 summarized config events leases exports runs withdrawn reported opened used moment rows counts start first second s v k of_rows of_pairs o c a n w empty one two =
@@ -108,7 +105,7 @@ summarized config events leases exports runs withdrawn reported opened used mome
     let P : SpaceHistory → Type 0 = λ x. second ≡ summary x.configuration x.events in
     let clients = c ∙ ap length (of_rows config.lease_ms moment live k.stands.leases_stand ∙ ap (λ (t : ℕ). lease_rows config.lease_ms t live) same) in
     let pairs_left = of_pairs config.lease_ms moment live k.stands.leases_stand ∙ ap (λ (t : ℕ). length (pairs config.lease_ms t live)) same in
-    let all = six counts.objects counts.clients counts.pairs counts.awaiting counts.names counts.withdrawn (length exports.rows) counts.clients counts.pairs (length (waiting moment exports.waits)) counts.names (length withdrawn) o refl refl a refl w
+    let all = six counts.objects counts.clients counts.pairs counts.awaiting counts.names counts.withdrawn (length exports.rows) counts.clients counts.pairs (length (still_waiting moment exports.waits)) counts.names (length withdrawn) o refl refl a refl w
     ∙ counts-are config events leases exports runs withdrawn reported opened used moment k counts.clients counts.pairs counts.names clients pairs_left n in
     subst P v (
     two ∙ ap (λ (x : Counts). first ++ counts_text x) all
@@ -117,11 +114,11 @@ summarized config events leases exports runs withdrawn reported opened used mome
     ∙ sym (summary-is config events))
 
 pub journalled : (config : SpaceConfig) (events : List Event) (start first second : List ℕ) (s : SpaceHistory) → record { configuration = config; events = events } ≡ s →
-    start ≡ [] → first ≡ start ++ ended (config_text config) → second ≡ first ++ flat_map (event_line config.uid) events → second ≡ journal_text s.configuration s.events
+    start ≡ [] → first ≡ start ++ with_line_end (config_text config) → second ≡ first ++ flat_map (event_line config.uid) events → second ≡ journal_text s.configuration s.events
 unfolding journal_text
 journalled config events start first second s v empty one two =
     let P : SpaceHistory → Type 0 = λ x. second ≡ journal_text x.configuration x.events in
-    subst P v (two ∙ ap (λ (t : List ℕ). t ++ flat_map (event_line config.uid) events) (one ∙ ap (λ (t : List ℕ). t ++ ended (config_text config)) empty))
+    subst P v (two ∙ ap (λ (t : List ℕ). t ++ flat_map (event_line config.uid) events) (one ∙ ap (λ (t : List ℕ). t ++ with_line_end (config_text config)) empty))
 
 -- No event of a history is of a later moment than its greatest.
 moments-early : (config : SpaceConfig) (events : List Event) → now (places config events) < END_OF_TIME → AllByRecursion (λ e. e.moment < END_OF_TIME) events

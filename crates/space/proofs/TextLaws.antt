@@ -10,7 +10,7 @@ use Rattle.history.specs.declared.asks.Event.{Event}
 use Rattle.history.specs.declared.calls.Call.{Call}
 use Rattle.history.specs.declared.places.Exported.{Exported}
 use Rattle.history.specs.declared.places.Withdrawal.{Withdrawal}
-use Rattle.history.specs.Awaiting.{awaiting_of}
+use Rattle.history.specs.Awaiting.{awaiting_references_to}
 use Rattle.history.specs.LeaseCalls.{lease_calls}
 use Rattle.history.specs.Leases.{lease_rows, holders}
 use Rattle.history.specs.Limits.{units}
@@ -27,21 +27,21 @@ use Rattle.history.proofs.ListLemmas.{every-weaker}
 use Rattle.history.proofs.NumberLaws.{has-self}
 use Rattle.history.proofs.TableLaws.{length-places}
 use Rattle.journal.specs.Rows.{events_text}
-use Rattle.dgc_server.specs.Stands.{LeaseTable, StandsFor}
+use Rattle.dgc_server.specs.StandsForCalls.{LeaseTable, StandsFor}
 use Rattle.export_table.specs.declared.rows.ExportRow.{ExportRow}
 use Rattle.export_table.specs.declared.waits.Wait.{Wait}
-use Rattle.export_table.specs.Rows.{row_at}
+use Rattle.export_table.specs.ExportRows.{row_at}
 use Rattle.export_table.specs.Table.{ExportTable}
 use Rattle.export_table.specs.Waits.{awaiting_of as waits_of}
 use Rattle.space.specs.declared.runs.Run.{Run}
 use Rattle.space.specs.Built.{SpaceHistory}
 use Rattle.space.specs.Kept.{live_calls, Keeps}
-use Rattle.space.specs.Rows.{held_row, binding_text}
-use Rattle.export_table.specs.Stands.{WaitsStand, reference_of, end_of, row_of, rows_of}
+use Rattle.space.specs.OutlineRows.{held_row, binding_text}
+use Rattle.export_table.specs.StandsForHistory.{WaitsStand, reference_of, end_of, row_of, rows_of}
 use Rattle.space.proofs.LiveLaws.{holders-live, lease_rows-live}
 use Rattle.rmi_registry.specs.declared.binding.Binding.{Binding}
-use Rattle.rmi_registry.specs.Named.{names_in, object_of}
-use Rattle.rmi_registry.specs.Stands.{AreBindings}
+use Rattle.rmi_registry.specs.Bindings.{names_in, object_of}
+use Rattle.rmi_registry.specs.StandsForHistory.{AreBindings}
 use Rattle.export_table.proofs.StandLaws.{awaiting_of-counted}
 
 -- One more line of a list's lines.
@@ -72,7 +72,7 @@ row-is : (config : SpaceConfig) (h : History) (waits : List Wait) → WaitsStand
     AllByRecursion (λ x. object_row config h x ≡ held_row config.lease_ms (now h) (live_calls (table config h) (lease_calls h)) (row_at (now h) waits (row_of h x))) (table config h)
 row-is config h waits w =
     every-weaker (λ (x : Exported). has (table config h) x.id ≡ true) _
-    (λ x there. five x (running_calls h x.id) (length (awaiting_of config.ack_ms (now h) h x.id)) (length (holders config.lease_ms (now h) (lease_calls h) x.id)) (length (names_of h x.id))
+    (λ x there. five x (running_calls h x.id) (length (awaiting_references_to config.ack_ms (now h) h x.id)) (length (holders config.lease_ms (now h) (lease_calls h) x.id)) (length (names_of h x.id))
     (length (waits_of (now h) x.id waits)) (length (holders config.lease_ms (now h) (live_calls (table config h) (lease_calls h)) x.id)) (length (names_of h x.id))
     (awaiting_of-counted reference_of end_of config.ack_ms (now h) (now h) h x.id waits (omega arith) w) (ap length (holders-live (table config h) x.id config.lease_ms (now h) (lease_calls h) there))
     refl)

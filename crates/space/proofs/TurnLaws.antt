@@ -16,13 +16,13 @@ use Rattle.history.specs.Places.{has, now}
 use Rattle.history.specs.Steps.{Step}
 use Rattle.history.specs.Table.{is_effective, table, place_of, places}
 use Rattle.dgc_server.specs.Counts.{without_all}
-use Rattle.dgc_server.specs.Stands.{LeaseTable, StandsFor, ForEachLog}
-use Rattle.export_table.specs.Rows.{is_row_kept as row_kept, held_by, withdrawn as rows_withdrawn, is_exported}
+use Rattle.dgc_server.specs.StandsForCalls.{LeaseTable, StandsFor, ForEachLog}
+use Rattle.export_table.specs.ExportRows.{is_row_kept as row_kept, held_by, withdrawn_ids as rows_withdrawn, is_exported}
 use Rattle.export_table.specs.Table.{ExportTable, Room}
-use Rattle.export_table.specs.Waits.{waiting}
+use Rattle.export_table.specs.Waits.{still_waiting}
 use Rattle.space.specs.declared.runs.Run.{Run}
 use Rattle.space.specs.RunTable.{AreSame}
-use Rattle.space.specs.Acts.{ForEachLogBy, effective_by, acted, acted_runs, opens, reply_at, withdrawal_at, reported_after, room_refusal, await_refusal, told_refusal, first_of_two, Agrees}
+use Rattle.space.specs.Acts.{ForEachLogBy, effective_by, acted_exports, acted_runs, opens, reply_at, withdrawal_at, reported_after, room_refusal, await_refusal, told_refusal, first_of_two, Agrees}
 use Rattle.space.specs.Built.{SpaceHistory}
 use Rattle.space.specs.Kept.{live_calls, Keeps}
 use Rattle.std.specs.Prelude.{false, filter}
@@ -34,7 +34,7 @@ use Rattle.history.specs.declared.limits.TheConstants.{END_OF_TIME}
 use Rattle.export_table.specs.declared.rows.Export.{Export}
 use Rattle.export_table.specs.declared.waits.Wait.{Wait}
 use Rattle.space.specs.Runs.{RunsStand, caller_of, object_of}
-use Rattle.export_table.specs.Stands.{WaitsStand, reference_of, end_of}
+use Rattle.export_table.specs.StandsForHistory.{WaitsStand, reference_of, end_of}
 use Rattle.space.proofs.Acting.{rows-act, waits-act, runs-act, effective-is, stood_for}
 use Rattle.space.proofs.RunLists.{stand-same}
 use Rattle.space.proofs.Keeping.{IsActed, told_calls, going_now, left, withdrawn_then, keeps-push, call-alike, rows-has, refusal-kept, turn-is, step-refused, step-taken, step-agrees}
@@ -131,7 +131,7 @@ pub record HasActed (config : SpaceConfig) (events : List Event) (e : Event) (le
   pub fit : await_refusal (max e.moment moment) exports.rows exports.waits (stood_for (places config events) e.ask) effective e.ask ≡ None
   pub unrefused : ForEachLogBy (max e.moment moment) leases (λ lease calls. told_refusal lease (max e.moment moment) calls (call_with (is_exported exports.rows) (max e.moment moment) e.ask) (length (names (places config events))) (stood_for (places config events) e.ask) effective e.ask ≡ None)
   pub told_leases : ForEachLogBy (max e.moment moment) leases (λ lease calls. StandsFor lease leases1 (max e.moment moment) (call_with (is_exported exports.rows) (max e.moment moment) e.ask ++ calls))
-  pub act : t ≡ acted (stood_for (places config events) e.ask) effective (max e.moment moment) e.ask exports
+  pub act : t ≡ acted_exports (stood_for (places config events) e.ask) effective (max e.moment moment) e.ask exports
 
 pub is-acted : (config : SpaceConfig) (events : List Event) (e : Event) (leases leases1 : LeaseTable) (exports t : ExportTable) (runs : List Run) (withdrawn : List Withdrawal) (reported opened used moment : ℕ) (effective : Bool) →
     HasActed config events e leases leases1 exports t runs withdrawn reported opened used moment effective → IsActed config events e leases1 t (acted_runs effective e.by e.ask runs)
@@ -147,7 +147,7 @@ is-acted config events e leases leases1 exports t runs withdrawn reported opened
       leases_stand = subst T k.stands.moment_is
           (subst L (call-alike (is_exported exports.rows) (has (table config (places config events))) (rows-has config events leases exports runs withdrawn reported opened used moment k) (max e.moment moment) e.ask)
           (a.told_leases config.lease_ms moment (live_calls (table config (places config events)) (lease_calls (places config events))) k.stands.leases_stand (omega arith)));
-      rows_are = ap (λ (x : ExportTable). x.rows) (a.act ∙ ap (λ b. acted (stood_for (places config events) e.ask) b (max e.moment moment) e.ask exports) eff) ∙ rows-act config events e exports (max e.moment moment) k.stands.space_is (k.stands.added_is ∙ k.stands.opened_is) k.stands.rows_are;
+      rows_are = ap (λ (x : ExportTable). x.rows) (a.act ∙ ap (λ b. acted_exports (stood_for (places config events) e.ask) b (max e.moment moment) e.ask exports) eff) ∙ rows-act config events e exports (max e.moment moment) k.stands.space_is (k.stands.added_is ∙ k.stands.opened_is) k.stands.rows_are;
       waits_stand = subst W (sym a.act) (waits-act config events e exports effective (max e.moment moment) (ap (max e.moment) k.stands.moment_is) eff k.stands.space_is k.stands.ack_is (k.stands.added_is ∙ k.stands.opened_is) k.stands.rows_are (subst N k.stands.moment_is k.stands.waits_stand));
       runs_stand = subst R (sym eff) (runs-act config events e runs k.stands.runs_stand);
     }
@@ -221,7 +221,7 @@ pub record ActsOn (effective : Bool) (a : Ask) (x t : ExportTable) : Type 0 wher
   pub ack : t.ack ≡ x.ack
   pub added : t.added ≡ x.added + opens effective a
 
-pub acts-on : (stood : Option ObjId) (effective : Bool) (at : ℕ) (a : Ask) (x : ExportTable) → ActsOn effective a x (acted stood effective at a x)
+pub acts-on : (stood : Option ObjId) (effective : Bool) (at : ℕ) (a : Ask) (x : ExportTable) → ActsOn effective a x (acted_exports stood effective at a x)
 acts-on stood effective at (Open kind pinned) x = record { space = refl; ack = refl; added = refl }
 acts-on stood true at (Begin o) x = record { space = refl; ack = refl; added = omega arith }
 acts-on stood false at (Begin o) x = record { space = refl; ack = refl; added = omega arith }
@@ -258,7 +258,7 @@ goes-alike lease n k calls us ws rs ss p q r =
 
 -- WHAT THE WITHDRAWAL answered, after the table t.
 pub record HasWithdrawn (leases1 leases2 : LeaseTable) (t x3 : ExportTable) (time : ℕ) (told_gone all_gone : List ObjId) : Type 0 where
-  pub kept : ForEachLog leases1 (λ lease moment calls. x3 ≡ record t { rows = filter (row_kept time (held_by lease (max time moment) calls) t.waits) t.rows; waits = waiting time t.waits; room = x3.room })
+  pub kept : ForEachLog leases1 (λ lease moment calls. x3 ≡ record t { rows = filter (row_kept time (held_by lease (max time moment) calls) t.waits) t.rows; waits = still_waiting time t.waits; room = x3.room })
   pub gone : ForEachLog leases1 (λ lease moment calls. all_gone ≡ told_gone ++ rows_withdrawn time (held_by lease (max time moment) calls) t.waits t.rows)
   pub dropped : ForEachLog leases1 (λ lease moment calls. StandsFor lease leases2 moment (map (without_all (rows_withdrawn time (held_by lease (max time moment) calls) t.waits t.rows)) calls))
 
@@ -299,7 +299,7 @@ turn-keeps config events e leases leases1 leases2 exports t x3 runs withdrawn re
     (reported_after reported (length (withdrawn_then config events e t withdrawn)) e.ask) (opened + opens effective e.ask) (used + units_of e.ask) (max e.moment (now (places config events)))
     (ap (λ (x : ExportTable). x.space) kept) (ap (λ (x : ExportTable). x.ack) kept) (ap (λ (x : ExportTable). x.added) kept)
     (ap (λ (x : ExportTable). x.rows) kept ∙ kept-alike config.lease_ms time (max e.moment (now (places config events))) (told_calls config events e) t.waits t.waits t.rows t.rows same refl refl)
-    (ap (λ (x : ExportTable). x.waits) kept ∙ ap (λ n. waiting n t.waits) same) pushed in
+    (ap (λ (x : ExportTable). x.waits) kept ∙ ap (λ n. still_waiting n t.waits) same) pushed in
     let N : ℕ → Type 0 = λ n. Keeps config (events ++ e ∷ []) leases2 x3 (acted_runs effective e.by e.ask runs) (withdrawn_then config events e t withdrawn) (reported_after reported (length (withdrawn_then config events e t withdrawn)) e.ask) (opened + opens effective e.ask) (used + units_of e.ask) n in
     let U : ℕ → Type 0 = λ n. Keeps config (events ++ e ∷ []) leases2 x3 (acted_runs effective e.by e.ask runs) (withdrawn_then config events e t withdrawn) (reported_after reported (length (withdrawn_then config events e t withdrawn)) e.ask) (opened + opens effective e.ask) n time in
     let O : ℕ → Type 0 = λ n. Keeps config (events ++ e ∷ []) leases2 x3 (acted_runs effective e.by e.ask runs) (withdrawn_then config events e t withdrawn) (reported_after reported (length (withdrawn_then config events e t withdrawn)) e.ask) n used' time in

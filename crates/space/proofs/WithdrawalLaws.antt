@@ -5,39 +5,39 @@ use Rattle.std.proofs.lemmas.List.{length-replicate}
 use Rattle.std.proofs.lemmas.Option.{none-some, same_Some}
 use Rattle.object_ids.specs.declared.ids.ObjId.{ObjId}
 use Rattle.history.specs.declared.places.Withdrawal.{Withdrawal}
-use Rattle.dgc_server.specs.Stands.{LeaseTable, ForEachLog}
-use Rattle.export_table.specs.Rows.{held_by, withdrawn}
+use Rattle.dgc_server.specs.StandsForCalls.{LeaseTable, ForEachLog}
+use Rattle.export_table.specs.ExportRows.{held_by, withdrawn_ids}
 use Rattle.export_table.specs.Table.{ExportTable}
 use Rattle.space.specs.Acts.{withdrawal_at}
 use Rattle.space.specs.Doubts.{HasLog}
-use Rattle.space.specs.Withdrawals.{paired}
+use Rattle.space.specs.Withdrawals.{paired_withdrawals}
 use Rattle.space.proofs.AskLaws.{gone-few}
 
-pub paired-length : (os : List ObjId) (ps : List ℕ) → length os ≡ length ps → length (paired os ps) ≡ length os
+pub paired-length : (os : List ObjId) (ps : List ℕ) → length os ≡ length ps → length (paired_withdrawals os ps) ≡ length os
 paired-length [] ps e = refl
 paired-length (o ∷ os) [] e = absurd (omega (arith, e))
 paired-length (o ∷ os) (p ∷ ps) e = ap suc (paired-length os ps (omega (arith, e)))
 
 -- Their objects, from a place of the list on.
-pub paired-objects : (k : ℕ) (os : List ObjId) (ps : List ℕ) → length os ≡ length ps → map (λ (w : Withdrawal). w.object) (drop k (paired os ps)) ≡ drop k os
+pub paired-objects : (k : ℕ) (os : List ObjId) (ps : List ℕ) → length os ≡ length ps → map (λ (w : Withdrawal). w.object) (drop k (paired_withdrawals os ps)) ≡ drop k os
 paired-objects zero [] ps e = refl
 paired-objects (suc k) [] ps e = refl
 paired-objects k (o ∷ os) [] e = absurd (omega (arith, e))
 paired-objects zero (o ∷ os) (p ∷ ps) e = ap (λ l. o ∷ l) (paired-objects zero os ps (omega (arith, e)))
 paired-objects (suc k) (o ∷ os) (p ∷ ps) e = paired-objects k os ps (omega (arith, e))
 
-pub paired-get : (k : ℕ) (os : List ObjId) (ps : List ℕ) (o : ObjId) (p : ℕ) → slice_get os k ≡ Some o → slice_get ps k ≡ Some p → slice_get (paired os ps) k ≡ Some (withdrawal_at p o)
+pub paired-get : (k : ℕ) (os : List ObjId) (ps : List ℕ) (o : ObjId) (p : ℕ) → slice_get os k ≡ Some o → slice_get ps k ≡ Some p → slice_get (paired_withdrawals os ps) k ≡ Some (withdrawal_at p o)
 paired-get k [] ps o p e f = absurd (none-some o e)
 paired-get k (x ∷ os) [] o p e f = absurd (none-some p f)
 paired-get zero (x ∷ os) (y ∷ ps) o p e f = ap (λ (z : ObjId). Some (withdrawal_at y z)) (same_Some x o e) ∙ ap (λ (z : ℕ). Some (withdrawal_at z o)) (same_Some y p f)
 paired-get (suc k) (x ∷ os) (y ∷ ps) o p e f = paired-get k os ps o p e f
 
-paired-one : (gone : List ObjId) (place : ℕ) → paired gone (replicate (length gone) place) ≡ map (withdrawal_at place) gone
+paired-one : (gone : List ObjId) (place : ℕ) → paired_withdrawals gone (replicate (length gone) place) ≡ map (withdrawal_at place) gone
 paired-one [] place = refl
 paired-one (o ∷ gone) place = ap (λ l. withdrawal_at place o ∷ l) (paired-one gone place)
 
 -- More of them, all at one place.
-pub paired-more : (os gone : List ObjId) (ps : List ℕ) (place : ℕ) → length os ≡ length ps → paired (os ++ gone) (ps ++ replicate (length gone) place) ≡ paired os ps ++ map (withdrawal_at place) gone
+pub paired-more : (os gone : List ObjId) (ps : List ℕ) (place : ℕ) → length os ≡ length ps → paired_withdrawals (os ++ gone) (ps ++ replicate (length gone) place) ≡ paired_withdrawals os ps ++ map (withdrawal_at place) gone
 paired-more [] gone [] place e = paired-one gone place
 paired-more [] gone (p ∷ ps) place e = absurd (omega (arith, e))
 paired-more (o ∷ os) gone [] place e = absurd (omega (arith, e))
@@ -49,9 +49,9 @@ replicate-last (suc n) x = ap (λ l. x ∷ l) (replicate-last n x)
 
 -- Objects that are noted at a place, with the place as often.
 pub noted : (os all gone : List ObjId) (ps places : List ℕ) (place count : ℕ) → length os ≡ length ps → all ≡ os ++ gone → places ≡ ps ++ replicate count place → count ≡ length gone →
-    paired all places ≡ paired os ps ++ map (withdrawal_at place) gone
+    paired_withdrawals all places ≡ paired_withdrawals os ps ++ map (withdrawal_at place) gone
 noted os all gone ps places place count e objects more many =
-    ap (λ l. paired l places) objects ∙ ap (paired (os ++ gone)) (more ∙ ap (λ n. ps ++ replicate n place) many) ∙ paired-more os gone ps place e
+    ap (λ l. paired_withdrawals l places) objects ∙ ap (paired_withdrawals (os ++ gone)) (more ∙ ap (λ n. ps ++ replicate n place) many) ∙ paired-more os gone ps place e
 
 pub noted-even : (os all gone : List ObjId) (ps places : List ℕ) (place count : ℕ) → length os ≡ length ps → all ≡ os ++ gone → places ≡ ps ++ replicate count place → count ≡ length gone → length all ≡ length places
 noted-even os all gone ps places place count e objects more many =
@@ -61,17 +61,17 @@ noted-even os all gone ps places place count e objects more many =
 -- ---- what goes, after others
 
 pub gone-is : (leases : LeaseTable) (time : ℕ) (x : ExportTable) (before all : List ObjId) →
-    ForEachLog leases (λ lease m calls. all ≡ before ++ withdrawn time (held_by lease (max time m) calls) x.waits x.rows) →
-    ForEachLog leases (λ lease m calls. drop (length before) all ≡ withdrawn time (held_by lease (max time m) calls) x.waits x.rows)
-gone-is leases time x before all goes lease m calls s = ap (drop (length before)) (goes lease m calls s) ∙ drop-append_seam before (withdrawn time (held_by lease (max time m) calls) x.waits x.rows)
+    ForEachLog leases (λ lease m calls. all ≡ before ++ withdrawn_ids time (held_by lease (max time m) calls) x.waits x.rows) →
+    ForEachLog leases (λ lease m calls. drop (length before) all ≡ withdrawn_ids time (held_by lease (max time m) calls) x.waits x.rows)
+gone-is leases time x before all goes lease m calls s = ap (drop (length before)) (goes lease m calls s) ∙ drop-append_seam before (withdrawn_ids time (held_by lease (max time m) calls) x.waits x.rows)
 
 pub gone-after : (leases : LeaseTable) (time : ℕ) (x : ExportTable) (before all : List ObjId) → HasLog leases →
-    ForEachLog leases (λ lease m calls. all ≡ before ++ withdrawn time (held_by lease (max time m) calls) x.waits x.rows) → all ≡ before ++ drop (length before) all
+    ForEachLog leases (λ lease m calls. all ≡ before ++ withdrawn_ids time (held_by lease (max time m) calls) x.waits x.rows) → all ≡ before ++ drop (length before) all
 gone-after leases time x before all log goes =
     goes log.lease log.moment log.calls log.stands ∙ ap (λ l. before ++ l) (sym (gone-is leases time x before all goes log.lease log.moment log.calls log.stands))
 
 pub gone-within : (leases : LeaseTable) (time : ℕ) (x : ExportTable) (before all : List ObjId) → HasLog leases →
-    ForEachLog leases (λ lease m calls. all ≡ before ++ withdrawn time (held_by lease (max time m) calls) x.waits x.rows) → length (drop (length before) all) ≤ length x.rows
+    ForEachLog leases (λ lease m calls. all ≡ before ++ withdrawn_ids time (held_by lease (max time m) calls) x.waits x.rows) → length (drop (length before) all) ≤ length x.rows
 gone-within leases time x before all log goes =
     let same = ap length (gone-is leases time x before all goes log.lease log.moment log.calls log.stands) in
     let few = gone-few time (held_by log.lease (max time log.moment) log.calls) x.waits x.rows in omega (arith, same, few)

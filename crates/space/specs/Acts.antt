@@ -10,7 +10,7 @@ use Rattle.history.specs.declared.asks.Event.{Event}
 use Rattle.history.specs.declared.asks.Ask.{Ask}
 use Rattle.history.specs.declared.asks.Ask.TheVariants.{Open, Begin, Finish, Abandon, Dirty, Ack, Bind, Rebind, Unbind, Lookup, List as ListNames}
 use Rattle.history.specs.declared.calls.Call.{Call}
-use Rattle.history.specs.declared.limits.TheConstants.{MAX_EXPORTS, MAX_AWAITING, MAX_CLIENTS, MAX_PAIRS, MAX_NAMES, MAX_UNITS}
+use Rattle.history.specs.declared.limits.TheConstants.{MAX_EXPORTS, MAX_AWAITING, MAX_CLIENTS, MAX_PAIRS, MAX_NAMES, MAX_HISTORY_UNITS}
 use Rattle.history.specs.declared.places.Withdrawal.{Withdrawal}
 use Rattle.history.specs.Awaiting.{same_returned}
 use Rattle.history.specs.declared.replies.Refused.{Refused}
@@ -23,17 +23,17 @@ use Rattle.history.specs.Lists.{distinct}
 use Rattle.history.specs.Places.{id_at}
 use Rattle.history.specs.Replies.{is_abandon}
 use Rattle.dgc_server.specs.Counts.{clients_with_call, pairs_with_call}
-use Rattle.dgc_server.specs.Stands.{LeaseTable, ForEachLog}
+use Rattle.dgc_server.specs.StandsForCalls.{LeaseTable, ForEachLog}
 use Rattle.export_table.specs.declared.rows.Export.{Export}
-use Rattle.export_table.specs.Rows.{is_exported, kind_of, new_row, changed, begun, ended, pinned_once, unpinned}
+use Rattle.export_table.specs.ExportRows.{is_exported, kind_of, new_row, with_row_changed, with_call_begun, with_call_ended, pinned_once, with_pin_removed}
 use Rattle.export_table.specs.Table.{ExportTable}
-use Rattle.export_table.specs.Waits.{waiting, is_waiting, listed_each, acknowledged}
+use Rattle.export_table.specs.Waits.{still_waiting, is_waiting, with_each_listed, without_acknowledged}
 use Rattle.export_table.specs.declared.waits.Wait.{Wait}
 use Rattle.space.specs.declared.runs.Run.{Run}
 use Rattle.space.specs.Runs.{is_run, without_first}
-use Rattle.export_table.specs.Stands.{reference_of, references, added_rows}
+use Rattle.export_table.specs.StandsForHistory.{reference_of, references, added_rows}
 use Rattle.rmi_registry.specs.declared.binding.Binding.{Binding}
-use Rattle.rmi_registry.specs.Named.{rebound, without}
+use Rattle.rmi_registry.specs.Bindings.{with_binding, without_name}
 
 abbrev pub event_of : ℕ → ℕ → Ask → Event
 event_of by moment ask = record { by = by; moment = moment; ask = ask }
@@ -74,36 +74,36 @@ returned_by space k rows stood effective _ = []
 
 -- How many references await at the moment t, with those to objects in a return.
 abbrev pub awaiting_with : ℕ → Uid → List ObjId → List Wait → ℕ
-awaiting_with t uid os waits = length (distinct same_returned (map reference_of (waiting t waits) ++ references uid os))
+awaiting_with t uid os waits = length (distinct same_returned (map reference_of (still_waiting t waits) ++ references uid os))
 
 -- The table after a call of an object returns at the moment t: it has ended, objects of the kinds `made` are added, and references to the
 -- objects `os` await.
 abbrev pub returned_from : ℕ → ObjId → List ℕ → List ObjId → Uid → ExportTable → ExportTable
 returned_from t object made os uid x = record x {
   added = x.added + length made;
-  rows = changed ended object x.rows ++ new_rows x.space x.added made;
-  waits = listed_each x.ack t uid os x.waits;
+  rows = with_row_changed with_call_ended object x.rows ++ new_rows x.space x.added made;
+  waits = with_each_listed x.ack t uid os x.waits;
 }
 
 -- The export table after an ask at the moment t, whose name stood for `stood`, before anything is withdrawn.
-abbrev pub acted : Option ObjId → Bool → ℕ → Ask → ExportTable → ExportTable
-acted stood effective t (Open kind pinned) x = record x { added = x.added + 1; rows = x.rows ++ new_row (id_at x.space x.added) kind pinned ∷ [] }
-acted stood effective t (Begin object) x = if effective then record x { rows = changed begun object x.rows } else x
-acted stood effective t (Finish object made listed uid) x =
+abbrev pub acted_exports : Option ObjId → Bool → ℕ → Ask → ExportTable → ExportTable
+acted_exports stood effective t (Open kind pinned) x = record x { added = x.added + 1; rows = x.rows ++ new_row (id_at x.space x.added) kind pinned ∷ [] }
+acted_exports stood effective t (Begin object) x = if effective then record x { rows = with_row_changed with_call_begun object x.rows } else x
+acted_exports stood effective t (Finish object made listed uid) x =
     if effective then returned_from t object made (new_ids x.space x.added made ++ filter (is_exported x.rows) listed) uid x else x
-acted stood effective t (Abandon object) x = if effective then record x { rows = changed ended object x.rows } else x
-acted stood effective t (Ack uid) x = record x { waits = acknowledged uid x.waits }
-acted stood effective t (Bind name object) x = if effective then record x { rows = unpinned stood (changed pinned_once object x.rows) } else x
-acted stood effective t (Rebind name object) x = if effective then record x { rows = unpinned stood (changed pinned_once object x.rows) } else x
-acted stood effective t (Unbind name) x = if effective then record x { rows = unpinned stood x.rows } else x
-acted stood effective t (Lookup name uid) x = record x { waits = listed_each x.ack t uid (option_to_list stood) x.waits }
-acted stood effective t _ x = x
+acted_exports stood effective t (Abandon object) x = if effective then record x { rows = with_row_changed with_call_ended object x.rows } else x
+acted_exports stood effective t (Ack uid) x = record x { waits = without_acknowledged uid x.waits }
+acted_exports stood effective t (Bind name object) x = if effective then record x { rows = with_pin_removed stood (with_row_changed pinned_once object x.rows) } else x
+acted_exports stood effective t (Rebind name object) x = if effective then record x { rows = with_pin_removed stood (with_row_changed pinned_once object x.rows) } else x
+acted_exports stood effective t (Unbind name) x = if effective then record x { rows = with_pin_removed stood x.rows } else x
+acted_exports stood effective t (Lookup name uid) x = record x { waits = with_each_listed x.ack t uid (option_to_list stood) x.waits }
+acted_exports stood effective t _ x = x
 
 -- The bindings after an ask.
 abbrev pub acted_names : Bool → Ask → List Binding → List Binding
-acted_names effective (Bind name object) bindings = if effective then rebound bindings name object else bindings
-acted_names effective (Rebind name object) bindings = if effective then rebound bindings name object else bindings
-acted_names effective (Unbind name) bindings = if effective then without bindings name else bindings
+acted_names effective (Bind name object) bindings = if effective then with_binding bindings name object else bindings
+acted_names effective (Rebind name object) bindings = if effective then with_binding bindings name object else bindings
+acted_names effective (Unbind name) bindings = if effective then without_name bindings name else bindings
 acted_names effective _ bindings = bindings
 
 -- The running calls after an ask of a connection.
@@ -155,13 +155,13 @@ reported_after reported all ask = if is_abandon ask then reported else all
 -- objects.
 abbrev pub room_refusal : ℕ → ℕ → ℕ → Bool → Ask → Option Refused
 room_refusal used running exported effective ask =
-    if nat_lt (MAX_UNITS + (if effective && is_end ask then 1 else 0)) (used + running + units_of ask + (if effective && is_begin ask then 1 else 0)) then Some HistoryFull
+    if nat_lt (MAX_HISTORY_UNITS + (if effective && is_end ask then 1 else 0)) (used + running + units_of ask + (if effective && is_begin ask then 1 else 0)) then Some HistoryFull
     else if nat_lt MAX_EXPORTS (exported + opens effective ask) then Some (Full Exports)
     else None
 
 -- How many references await at the moment t once so many new objects, and these exported ones, are listed in a return.
 abbrev pub awaiting_after : ℕ → Uid → ℕ → List ObjId → List Wait → ℕ
-awaiting_after t uid made live waits = length (waiting t waits) + made + length (filter (λ o. not (is_waiting t o uid waits)) (distinct same_id live))
+awaiting_after t uid made live waits = length (still_waiting t waits) + made + length (filter (λ o. not (is_waiting t o uid waits)) (distinct same_id live))
 
 abbrev pub return_refusal : ℕ → Uid → ℕ → List ObjId → List Wait → Option Refused
 return_refusal t uid made live waits = if nat_lt MAX_AWAITING (awaiting_after t uid made live waits) then Some (Full Awaiting) else None

@@ -8,9 +8,9 @@ use Rattle.history.specs.declared.asks.Ask.{Ask}
 use Rattle.history.specs.declared.asks.Ask.TheVariants.{Open, Finish, Abandon, Clean, Ack, Bind, Rebind, Unbind}
 use Rattle.history.specs.declared.calls.Call.{Call}
 use Rattle.history.specs.Leases.{is_held}
-use Rattle.dgc_server.specs.Stands.{LeaseTable, StandsFor, ForEachLog}
+use Rattle.dgc_server.specs.StandsForCalls.{LeaseTable, StandsFor, ForEachLog}
 use Rattle.export_table.specs.declared.waits.Wait.{Wait}
-use Rattle.export_table.specs.Waits.{over, of_return, objects}
+use Rattle.export_table.specs.Waits.{ended_waits, of_return, objects}
 
 -- The objects from which an ask may take what keeps them, and those that it exports, where these wait, its new object is this one, its name stood for
 -- `stood`, and it returns references to the objects `returned`: the object whose call ends, those that a client gives up, those whose references are
@@ -30,7 +30,7 @@ taken_by waits fresh stood returned _ = []
 -- those from which the ask may take what keeps them.
 pub record AreInDoubt (leases : LeaseTable) (t : ℕ) (waits : List Wait) (takes os : List ObjId) : Type 0 where
   pub freed : ForEachLog leases (λ lease moment calls. (o : ObjId) → is_held lease moment calls o ≡ true → is_held lease (max t moment) calls o ≡ false → list_any (same_id o) os ≡ true)
-  pub ended : (o : ObjId) → list_any (same_id o) (objects (over t waits)) ≡ true → list_any (same_id o) os ≡ true
+  pub ended : (o : ObjId) → list_any (same_id o) (objects (ended_waits t waits)) ≡ true → list_any (same_id o) os ≡ true
   pub taken : (o : ObjId) → list_any (same_id o) takes ≡ true → list_any (same_id o) os ≡ true
 
 -- There are calls for which a table of leases stands.

@@ -14,9 +14,9 @@ made_by (Finish object made listed uid) = length made
 made_by _ = 0
 
 -- The answer, where a turn has beside it the objects that it tells as gone.
-abbrev pub turned : Result (Turn × List ObjId) Refused → Result Turn Refused
-turned (Ok x) = Ok x.0
-turned (Err refused) = Err refused
+abbrev pub turn_answer : Result (Turn × List ObjId) Refused → Result Turn Refused
+turn_answer (Ok x) = Ok x.0
+turn_answer (Err refused) = Err refused
 
 -- There is room for so many identifiers, and these are the objects that it tells as gone, and the names.
 pub record HasRoomFor (turn : Turn) (gone : List ObjId) (ids : ℕ) (names : List (List ℕ)) : Type 0 where

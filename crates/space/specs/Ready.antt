@@ -6,9 +6,9 @@ use Rattle.history.specs.Names.{name_in, names, stands_for}
 use Rattle.history.specs.Places.{id_at}
 use Rattle.history.specs.Table.{with_event, places}
 use Rattle.history.specs.declared.limits.TheConstants.{END_OF_TIME}
-use Rattle.dgc_server.specs.Stands.{LeaseTable, StandsFor}
-use Rattle.export_table.specs.Rows.{is_exported}
-use Rattle.rmi_registry.specs.Stands.{AreBindings}
+use Rattle.dgc_server.specs.StandsForCalls.{LeaseTable, StandsFor}
+use Rattle.export_table.specs.ExportRows.{is_exported}
+use Rattle.rmi_registry.specs.StandsForHistory.{AreBindings}
 use Rattle.space.specs.declared.prepared.Admitted.{Admitted}
 use Rattle.space.specs.declared.prepared.Prepared.{Prepared}
 use Rattle.space.specs.declared.tables.Tables.{Tables}

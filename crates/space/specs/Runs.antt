@@ -2,8 +2,8 @@
 use Rattle.std.specs.Prelude.{◌≡◌, ℕ, Bool, ◌&&◌, ◌==◌, List, [], ◌∷◌, length, filter, if◌then◌else◌}
 use Rattle.object_ids.specs.declared.ids.ObjId.{ObjId}
 use Rattle.object_ids.specs.Same.{same_id}
-use Rattle.history.specs.Limits.{reserved}
-use Rattle.history.specs.Running.{running, running_calls}
+use Rattle.history.specs.Limits.{reserved_units}
+use Rattle.history.specs.Running.{running_calls_by, running_calls}
 use Rattle.history.specs.Places.{History}
 use Rattle.space.specs.declared.runs.Run.{Run}
 
@@ -20,9 +20,9 @@ is_run_on object o r = same_id (object r) o
 
 -- The list has each connection's running calls of each object.
 pub record RunsStand {R : Type 0} (by : R → ℕ) (object : R → ObjId) (h : History) (runs : List R) : Type 0 where
-  pub lines : (b : ℕ) (o : ObjId) → length (filter (is_run_of by object b o) runs) ≡ running h b o
+  pub lines : (b : ℕ) (o : ObjId) → length (filter (is_run_of by object b o) runs) ≡ running_calls_by h b o
   pub calls : (o : ObjId) → length (filter (is_run_on object o) runs) ≡ running_calls h o
-  pub all : length runs ≡ reserved h
+  pub all : length runs ≡ reserved_units h
 
 -- Whose a running call is, and of what.
 abbrev pub caller_of : Run → ℕ

@@ -2,7 +2,7 @@
 use Rattle.std.specs.Prelude.{List}
 use Rattle.history.specs.declared.asks.Event.{Event}
 use Rattle.history.specs.Table.{places}
-use Rattle.rmi_registry.specs.Stands.{AreBindings}
+use Rattle.rmi_registry.specs.StandsForHistory.{AreBindings}
 use Rattle.space.specs.declared.tables.Tables.{Tables}
 use Rattle.space.specs.Ahead.{HasRoom}
 use Rattle.space.specs.Kept.{Keeps}

@@ -9,7 +9,7 @@ pub record WithdrawalTable : Type 0 where
   pub room : ℕ
 
 -- The withdrawals of these objects at these places.
-abbrev pub paired : List ObjId → List ℕ → List Withdrawal
-paired [] places = []
-paired (o ∷ objects) [] = []
-paired (o ∷ objects) (p ∷ places) = record { object = o; place = p } ∷ paired objects places
+abbrev pub paired_withdrawals : List ObjId → List ℕ → List Withdrawal
+paired_withdrawals [] places = []
+paired_withdrawals (o ∷ objects) [] = []
+paired_withdrawals (o ∷ objects) (p ∷ places) = record { object = o; place = p } ∷ paired_withdrawals objects places

@@ -2,7 +2,7 @@
 ghost use Rattle.std.specs.Prelude.{◌≡◌, ◌<◌, Ok};
 ghost use Rattle.history.specs.declared.asks.Ask.TheVariants.{Abandon};
 ghost use Rattle.history.specs.Collector.{Collects};
-ghost use Rattle.history.specs.Running.{running};
+ghost use Rattle.history.specs.Running.{running_calls_by};
 ghost use Rattle.history.specs.Steps.{Step, turn_of};
 ghost use Rattle.history.specs.Table.{places, with_event};
 ghost use Rattle.history.specs.declared.limits.TheConstants.{END_OF_TIME};
@@ -19,7 +19,7 @@ impl Space {
     /// takes no memory and is never refused. The objects that it withdraws are told by the next turn.
     pub fn abandon(&mut self, by: u32, moment: u64, object: ObjId)
         requires moment { moment < END_OF_TIME }
-        requires running { 0 < running (places self.old.configuration self.old.events) by object }
+        requires running { 0 < running_calls_by (places self.old.configuration self.old.events) by object }
         ensures events { self.new.events ≡ with_event self.old.events (event_of by moment (Abandon object)) }
         ensures config { self.new.configuration ≡ self.old.configuration }
 

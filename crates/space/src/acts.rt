@@ -3,15 +3,15 @@ ghost use Rattle.std.specs.Prelude.{◌≡◌, ◌⊎◌, ◌≤◌, ◌<◌, �
 ghost use Rattle.std.specs.List.{AllByRecursion};
 ghost use Rattle.object_ids.specs.declared.ids.ObjId.{ObjId};
 ghost use Rattle.object_ids.specs.declared.ids.Uid.{Uid};
-ghost use Rattle.history.specs.declared.limits.TheConstants.{MAX_EXPORTS, MAX_AWAITING, END_OF_NUMBERS, END_OF_TIME};
+ghost use Rattle.history.specs.declared.limits.TheConstants.{MAX_EXPORTS, MAX_AWAITING, END_OF_OBJECT_COUNT, END_OF_TIME};
 ghost use Rattle.history.specs.declared.asks.Ask.TheVariants.{Abandon, Finish, Lookup};
 ghost use Rattle.history.specs.Names.{object_bound};
 ghost use Rattle.event_log.specs.Rows.{IsPlain};
 ghost use Rattle.history.specs.Places.{id_at};
-ghost use Rattle.export_table.specs.Rows.{is_exported, running_of, pins_of, new_row, changed, pinned_once, unpinned};
-ghost use Rattle.space.specs.Acts.{acted, awaiting_with, new_rows, opens, returned_by, returned_from};
-ghost use Rattle.export_table.specs.Stands.{waits_once, reference_of};
-ghost use Rattle.export_table.specs.Waits.{listed_each};
+ghost use Rattle.export_table.specs.ExportRows.{is_exported, running_of, pins_of, new_row, with_row_changed, pinned_once, with_pin_removed};
+ghost use Rattle.space.specs.Acts.{acted_exports, awaiting_with, new_rows, opens, returned_by, returned_from};
+ghost use Rattle.export_table.specs.StandsForHistory.{waits_once, reference_of};
+ghost use Rattle.export_table.specs.Waits.{with_each_listed};
 
 use event_log::EventLog;
 use export_table::Exports;
@@ -32,7 +32,7 @@ pub(crate) fn act(
     requires few { (o : ObjId) → running_of exports.old.rows o < 2 ^ 31 }
     requires runs { (o : ObjId) → effective ≡ true → ask.now ≡ Abandon o → 0 < running_of exports.old.rows o }
     requires returns { (o : ObjId) (made : List ℕ) (listed : List ObjId) (u : Uid) → effective ≡ true → ask.now ≡ Finish o made listed u → 0 < running_of exports.old.rows o }
-    requires countable { exports.old.added + opens effective ask.now < END_OF_NUMBERS }
+    requires countable { exports.old.added + opens effective ask.now < END_OF_OBJECT_COUNT }
     requires within { length exports.old.rows + opens effective ask.now ≤ MAX_EXPORTS }
     requires early { now < END_OF_TIME }
     requires some { 1 ≤ exports.old.ack }
@@ -45,7 +45,7 @@ pub(crate) fn act(
     requires awaiting { (o : ObjId) (made : List ℕ) (listed : List ObjId) (u : Uid) → effective ≡ true → ask.now ≡ Finish o made listed u → awaiting_with now u returned.now exports.old.waits ≤ MAX_AWAITING }
     requires objects_room { opens effective ask.now ≤ exports.old.room.exports }
     requires waits_room { length returned.now ≤ exports.old.room.waits }
-    ensures { exports.new ≡ record (acted stood effective now ask.now exports.old) { room = exports.new.room } }
+    ensures { exports.new ≡ record (acted_exports stood effective now ask.now exports.old) { room = exports.new.room } }
 {
     match ask {
         Ask::Open { kind, pinned } => add(exports, *kind, *pinned),
@@ -95,7 +95,7 @@ fn pin_for_name(exports: &mut Exports, object: &ObjId, before: Option<ObjId>)
     requires exported { is_exported exports.old.rows object.now ≡ true }
     requires few { pins_of exports.old.rows object.now < 2 ^ 31 }
     requires stands { (o : ObjId) → before ≡ Some o → (is_exported exports.old.rows o ≡ true) × 0 < pins_of exports.old.rows o }
-    ensures { exports.new ≡ record exports.old { rows = unpinned before (changed pinned_once object.now exports.old.rows) } }
+    ensures { exports.new ≡ record exports.old { rows = with_pin_removed before (with_row_changed pinned_once object.now exports.old.rows) } }
 {
     exports.pin(*object);
     unpin(exports, before);
@@ -104,7 +104,7 @@ fn pin_for_name(exports: &mut Exports, object: &ObjId, before: Option<ObjId>)
 /// Takes a pin off this object, if there is one.
 fn unpin(exports: &mut Exports, stood: Option<ObjId>)
     requires { (o : ObjId) → stood ≡ Some o → (is_exported exports.old.rows o ≡ true) × 0 < pins_of exports.old.rows o }
-    ensures { exports.new ≡ record exports.old { rows = unpinned stood exports.old.rows } }
+    ensures { exports.new ≡ record exports.old { rows = with_pin_removed stood exports.old.rows } }
 {
     if let Some(object) = stood {
         exports.unpin(object);
@@ -122,7 +122,7 @@ fn end_with(
     uid: &Uid,
 )
     requires runs { 0 < running_of exports.old.rows object.now }
-    requires countable { exports.old.added + length made.now < END_OF_NUMBERS }
+    requires countable { exports.old.added + length made.now < END_OF_OBJECT_COUNT }
     requires within { length exports.old.rows + length made.now ≤ MAX_EXPORTS }
     requires early { now < END_OF_TIME }
     requires some { 1 ≤ exports.old.ack }
@@ -140,7 +140,7 @@ fn end_with(
 
 /// Adds an object, for which there is room.
 fn add(exports: &mut Exports, kind: u32, pinned: bool)
-    requires countable { exports.old.added < END_OF_NUMBERS }
+    requires countable { exports.old.added < END_OF_OBJECT_COUNT }
     requires room { 1 ≤ exports.old.room.exports }
     requires within { length exports.old.rows < MAX_EXPORTS }
     ensures value { let rows = exports.old.rows ++ new_row (id_at exports.old.space exports.old.added) kind pinned ∷ [] in
@@ -156,7 +156,7 @@ fn add(exports: &mut Exports, kind: u32, pinned: bool)
 
 /// Adds objects of these kinds, for which there is room.
 fn add_all(exports: &mut Exports, made: &[u32])
-    requires countable { exports.old.added + length made.now < END_OF_NUMBERS }
+    requires countable { exports.old.added + length made.now < END_OF_OBJECT_COUNT }
     requires room { length made.now ≤ exports.old.room.exports }
     requires within { length exports.old.rows + length made.now ≤ MAX_EXPORTS }
     ensures value { let rows = exports.old.rows ++ new_rows exports.old.space exports.old.added made.now in
@@ -176,7 +176,7 @@ fn await_all(exports: &mut Exports, now: u64, objects: &[ObjId], uid: &Uid)
     requires once { waits_once reference_of exports.old.waits }
     requires awaiting { awaiting_with now uid.now objects.now exports.old.waits ≤ MAX_AWAITING }
     requires room { length objects.now ≤ exports.old.room.waits }
-    ensures { exports.new ≡ record exports.old { waits = listed_each exports.old.ack now uid.now objects.now exports.old.waits; room = exports.new.room } }
+    ensures { exports.new ≡ record exports.old { waits = with_each_listed exports.old.ack now uid.now objects.now exports.old.waits; room = exports.new.room } }
 {
     for object in objects {
         match exports.wait_for(*object, *uid, now) {

@@ -1,18 +1,17 @@
 //! Whether an ask is effective, whether there is room for it, and what it is answered.
 ghost use Rattle.std.specs.Prelude.{◌≡◌, ◌+◌, ◌<◌, ◌^◌, option_and_then, IfOk};
-ghost use Rattle.history.specs.declared.limits.TheConstants.{MAX_UNITS, END_OF_NUMBERS};
+ghost use Rattle.history.specs.declared.limits.TheConstants.{MAX_HISTORY_UNITS, END_OF_OBJECT_COUNT};
 ghost use Rattle.history.specs.Names.{name_in};
-ghost use Rattle.export_table.specs.Rows.{is_exported};
-ghost use Rattle.rmi_registry.specs.Named.{names_in, object_of};
+ghost use Rattle.export_table.specs.ExportRows.{is_exported};
+ghost use Rattle.rmi_registry.specs.Bindings.{names_in, object_of};
 ghost use Rattle.space.specs.Acts.{effective_by, opens, reply_at, room_refusal, started_reply, unbound_reply, found_reply, reported_after};
 
 use crate::returns::new_ids;
 use crate::runs::Runs;
 use export_table::Exports;
-use history::limits::{MAX_EXPORTS, MAX_UNITS};
-use history::plain::limits::{is_begin, is_end, is_past, units_of};
-use history::plain::places::id_at;
-use history::plain::turns::is_abandon;
+use history::asks::{is_abandon, is_begin, is_end, units_of};
+use history::limits::{MAX_EXPORTS, MAX_HISTORY_UNITS, is_past};
+use history::places::id_at;
 use history::{Ask, Refused, Reply, SpaceConfig};
 use object_ids::{FullKind, ObjId, ObjIds};
 use rmi_registry::Names;
@@ -101,7 +100,7 @@ pub(crate) fn room_refusal(
 {
     let used = u128::from(units) + running as u128 + u128::from(units_of(ask));
     if is_past(
-        MAX_UNITS,
+        MAX_HISTORY_UNITS,
         used,
         effective && is_begin(ask),
         effective && is_end(ask),
@@ -125,7 +124,7 @@ pub(crate) fn reply_at(
     effective: bool,
     ask: &Ask,
 ) -> Result<Reply, AllocError>
-    requires { k + opens effective ask.now < END_OF_NUMBERS }
+    requires { k + opens effective ask.now < END_OF_OBJECT_COUNT }
     ensures { IfOk result (λ reply. reply ≡ reply_at config.now k exports.now.rows (names_in names.now) stood effective ask.now) }
 {
     Ok(match ask {

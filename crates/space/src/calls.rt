@@ -3,9 +3,9 @@ ghost use Rattle.std.specs.Prelude.{◌≡◌, ◌<◌, ◌++◌, ◌∷◌, fil
 ghost use Rattle.std.specs.List.{list_all};
 ghost use Rattle.history.specs.LeaseCalls.{call_with};
 ghost use Rattle.history.specs.declared.limits.TheConstants.{END_OF_TIME};
-ghost use Rattle.export_table.specs.Rows.{is_exported};
+ghost use Rattle.export_table.specs.ExportRows.{is_exported};
 ghost use Rattle.dgc_server.specs.Counts.{dirty_call, clean_call};
-ghost use Rattle.dgc_server.specs.Stands.{StandsFor};
+ghost use Rattle.dgc_server.specs.StandsForCalls.{StandsFor};
 ghost use Rattle.space.specs.Acts.{ForEachLogBy, call_refusal, lease_refusal, Agrees};
 ghost use Rattle.space.specs.Faults.{refused_for};
 

@@ -3,9 +3,9 @@
 ghost use Rattle.std.specs.Prelude.{◌≡◌, ◌≤◌, ◌++◌, ◌∷◌, ◌+◌, List, true, false, max, filter, length, map, IfOk, vec_len, vec_capacity};
 ghost use Rattle.object_ids.specs.declared.ids.ObjId.{ObjId};
 ghost use Rattle.dgc_server.specs.Counts.{without_all};
-ghost use Rattle.dgc_server.specs.Stands.{StandsFor, ForEachLog};
-ghost use Rattle.export_table.specs.Rows.{is_row_kept, is_settled_but, held_by, withdrawn};
-ghost use Rattle.export_table.specs.Waits.{waiting};
+ghost use Rattle.dgc_server.specs.StandsForCalls.{StandsFor, ForEachLog};
+ghost use Rattle.export_table.specs.ExportRows.{is_row_kept, is_settled_but, held_by, withdrawn_ids};
+ghost use Rattle.export_table.specs.Waits.{still_waiting};
 ghost use Rattle.space.specs.Doubts.{AreInDoubt, HasLog, taken_by};
 
 use crate::returns::listed;
@@ -29,8 +29,8 @@ pub(crate) fn in_doubt(
 ) -> Result<Vec<ObjId>, AllocError>
     ensures { IfOk result (λ os. AreInDoubt leases.now now exports.now.waits (taken_by exports.now.waits fresh stood returned.now ask.now) os.items) }
 {
-    let freed = leases.freed(alloc, now)?;
-    let ended = exports.ended(alloc, now)?;
+    let freed = leases.freed_objects(alloc, now)?;
+    let ended = exports.ended_objects(alloc, now)?;
     let taken = taken_by(alloc, exports, fresh, stood, returned, ask)?;
     let passed = joined(freed, &ended)?;
     let objects = joined(passed, &taken)?;
@@ -71,7 +71,7 @@ fn taken_by(
             number: _,
             objects: named,
             strong: _,
-        } => copied(alloc, named.as_slice()),
+        } => copy_of_objects(alloc, named.as_slice()),
         Ask::Ack { uid } => exports.of_return(alloc, *uid),
         Ask::Bind { name: _, object: _ } => listed(alloc, stood),
         Ask::Rebind { name: _, object: _ } => listed(alloc, stood),
@@ -89,7 +89,7 @@ fn one_and(alloc: Global, object: &ObjId, others: &[ObjId]) -> Result<Vec<ObjId>
     Ok(objects)
 }
 
-fn copied(alloc: Global, objects: &[ObjId]) -> Result<Vec<ObjId>, AllocError>
+fn copy_of_objects(alloc: Global, objects: &[ObjId]) -> Result<Vec<ObjId>, AllocError>
     ensures { IfOk result (λ os. os.items ≡ objects.now) }
 {
     let mut copy = Vec::new(alloc);
@@ -125,14 +125,14 @@ pub(crate) fn withdraw(
     ensures kept { ForEachLog leases.old (λ lease moment calls.
         let held = held_by lease (max now moment) calls in
         let rows = filter (is_row_kept now held exports.old.waits) exports.old.rows in
-        let waits = waiting now exports.old.waits in
+        let waits = still_waiting now exports.old.waits in
         exports.new ≡ record exports.old { rows = rows; waits = waits; room = exports.new.room }) }
     ensures gone { ForEachLog leases.old (λ lease moment calls.
         let held = held_by lease (max now moment) calls in
-        gone.new.items ≡ gone.old.items ++ withdrawn now held exports.old.waits exports.old.rows) }
+        gone.new.items ≡ gone.old.items ++ withdrawn_ids now held exports.old.waits exports.old.rows) }
     ensures dropped { ForEachLog leases.old (λ lease moment calls.
         let held = held_by lease (max now moment) calls in
-        let dropped = withdrawn now held exports.old.waits exports.old.rows in
+        let dropped = withdrawn_ids now held exports.old.waits exports.old.rows in
         StandsFor lease leases.new moment (map (without_all dropped) calls)) }
     ensures capacity { vec_capacity gone.old ≤ vec_capacity gone.new }
 {
@@ -155,14 +155,14 @@ pub(crate) fn withdraw_few(
     ensures kept { ForEachLog leases.old (λ lease moment calls.
         let held = held_by lease (max now moment) calls in
         let rows = filter (is_row_kept now held exports.old.waits) exports.old.rows in
-        let waits = waiting now exports.old.waits in
+        let waits = still_waiting now exports.old.waits in
         exports.new ≡ record exports.old { rows = rows; waits = waits; room = exports.new.room }) }
     ensures gone { ForEachLog leases.old (λ lease moment calls.
         let held = held_by lease (max now moment) calls in
-        gone.new.items ≡ gone.old.items ++ withdrawn now held exports.old.waits exports.old.rows) }
+        gone.new.items ≡ gone.old.items ++ withdrawn_ids now held exports.old.waits exports.old.rows) }
     ensures dropped { ForEachLog leases.old (λ lease moment calls.
         let held = held_by lease (max now moment) calls in
-        let dropped = withdrawn now held exports.old.waits exports.old.rows in
+        let dropped = withdrawn_ids now held exports.old.waits exports.old.rows in
         StandsFor lease leases.new moment (map (without_all dropped) calls)) }
     ensures few { length gone.new.items ≤ length gone.old.items + length doubtful.now }
 {
@@ -188,14 +188,14 @@ pub(crate) fn withdraw_known(
     ensures kept { ForEachLog leases.old (λ lease moment calls.
         let held = held_by lease (max now moment) calls in
         let rows = filter (is_row_kept now held exports.old.waits) exports.old.rows in
-        let waits = waiting now exports.old.waits in
+        let waits = still_waiting now exports.old.waits in
         exports.new ≡ record exports.old { rows = rows; waits = waits; room = exports.new.room }) }
     ensures gone { ForEachLog leases.old (λ lease moment calls.
         let held = held_by lease (max now moment) calls in
-        gone.new.items ≡ gone.old.items ++ withdrawn now held exports.old.waits exports.old.rows) }
+        gone.new.items ≡ gone.old.items ++ withdrawn_ids now held exports.old.waits exports.old.rows) }
     ensures dropped { ForEachLog leases.old (λ lease moment calls.
         let held = held_by lease (max now moment) calls in
-        let dropped = withdrawn now held exports.old.waits exports.old.rows in
+        let dropped = withdrawn_ids now held exports.old.waits exports.old.rows in
         StandsFor lease leases.new moment (map (without_all dropped) calls)) }
     ensures capacity { vec_capacity gone.old ≤ vec_capacity gone.new }
 {

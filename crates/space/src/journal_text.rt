@@ -87,7 +87,7 @@ pub fn summary(alloc: Global, space: &Space) -> Result<ByteList, AllocError>
         objects: u64::from(space.tables.exports.count()),
         clients: clients.len() as u64,
         pairs: u64::from(space.tables.leases.pairs(space.tables.moment)),
-        awaiting: u64::from(space.tables.exports.waiting(space.tables.moment)),
+        awaiting: u64::from(space.tables.exports.waiting_count(space.tables.moment)),
         names: u64::from(space.tables.names.len()),
         withdrawn: space.tables.withdrawn.len() as u64,
     };

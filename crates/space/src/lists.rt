@@ -4,8 +4,8 @@ ghost use Rattle.std.specs.List.{AllByRecursion};
 ghost use Rattle.history.specs.Steps.{Steps, IsLegal, answers as answers_to};
 ghost use Rattle.history.specs.Limits.{limits};
 ghost use Rattle.history.specs.Table.{places, table};
-ghost use Rattle.history.specs.declared.limits.TheConstants.{END_OF_TIME, MAX_DURATION};
-ghost use Rattle.space.specs.Lists.{CollectsEach, TakesFront, kind_among, with_kind, row_kind};
+ghost use Rattle.history.specs.declared.limits.TheConstants.{END_OF_TIME, MAX_DURATION_MS};
+ghost use Rattle.space.specs.EventLists.{CollectsEach, TakesFront, kind_among, with_kind, row_kind};
 
 use crate::turns::Space;
 use export_table::ExportRow;
@@ -40,9 +40,9 @@ impl Space {
         events: Vec<Event>,
     ) -> Result<(Space, Turns), AllocError>
         requires some_lease { 1 ≤ config.now.lease_ms }
-        requires short_lease { config.now.lease_ms ≤ MAX_DURATION }
+        requires short_lease { config.now.lease_ms ≤ MAX_DURATION_MS }
         requires some_ack { 1 ≤ config.now.ack_ms }
-        requires short_ack { config.now.ack_ms ≤ MAX_DURATION }
+        requires short_ack { config.now.ack_ms ≤ MAX_DURATION_MS }
         requires moments { AllByRecursion (λ e. e.moment < END_OF_TIME) events.items }
         ensures collector { IfOk result (λ p. CollectsEach config.now [] (take (length p.1.turns.items) events.items) p.0.events) }
         ensures taken { IfOk result (λ p. TakesFront config.now [] events.items p.1.turns.items p.1.refused p.0.events) }
@@ -112,7 +112,7 @@ impl Space {
     }
 
     /// The exported objects, by rising number. It is refused only for want of memory.
-    pub fn exported(&self) -> Result<Vec<ObjectKind>, AllocError>
+    pub fn exported_objects(&self) -> Result<Vec<ObjectKind>, AllocError>
         ensures { IfOk result (λ objects. objects.items ≡ map with_kind (table self.now.configuration (places self.now.configuration self.now.events))) }
     {
         let rows = self

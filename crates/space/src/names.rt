@@ -3,9 +3,9 @@ ghost use Rattle.std.specs.Prelude.{◌≡◌, ◌<◌, ◌++◌, length, true, 
 ghost use Rattle.history.specs.LeaseCalls.{call_with};
 ghost use Rattle.history.specs.Names.{name_in, is_name_change};
 ghost use Rattle.history.specs.declared.limits.TheConstants.{END_OF_TIME};
-ghost use Rattle.dgc_server.specs.Stands.{StandsFor};
-ghost use Rattle.export_table.specs.Rows.{is_exported};
-ghost use Rattle.rmi_registry.specs.Named.{object_of, rebound};
+ghost use Rattle.dgc_server.specs.StandsForCalls.{StandsFor};
+ghost use Rattle.export_table.specs.ExportRows.{is_exported};
+ghost use Rattle.rmi_registry.specs.Bindings.{object_of, with_binding};
 ghost use Rattle.space.specs.Acts.{ForEachLogBy, acted_names, binding_refusal, name_refusal, told_refusal, Agrees};
 ghost use Rattle.space.specs.Faults.{unbound_for};
 
@@ -80,7 +80,7 @@ fn rename(alloc: Global, names: &mut Names, effective: bool, ask: &Ask) -> Resul
 
 /// Binds a name, whatever it stood for.
 fn bind(alloc: Global, names: &mut Names, name: &Name, object: ObjId) -> Result<(), Refused>
-    ensures ok { OnOk result (names.new ≡ rebound names.old name.now object) }
+    ensures ok { OnOk result (names.new ≡ with_binding names.old name.now object) }
     ensures refusal { Agrees (binding_refusal (length names.old) (object_of names.old name.now) true) result }
     ensures err { OnErr result (names.new ≡ names.old) }
 {

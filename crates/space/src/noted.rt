@@ -4,15 +4,15 @@ ghost use Rattle.object_ids.specs.declared.ids.ObjId.{ObjId};
 ghost use Rattle.history.specs.declared.asks.Ask.TheVariants.{List as ListNames};
 ghost use Rattle.history.specs.declared.replies.Reply.TheVariants.{Finished, Names as NamesReply};
 ghost use Rattle.history.specs.Collector.{Collects};
-ghost use Rattle.history.specs.Running.{running};
+ghost use Rattle.history.specs.Running.{running_calls_by};
 ghost use Rattle.history.specs.Steps.{Step};
 ghost use Rattle.history.specs.Table.{places};
 ghost use Rattle.history.specs.declared.limits.TheConstants.{END_OF_TIME};
 ghost use Rattle.space.specs.Acts.{event_of};
 ghost use Rattle.space.specs.Entries.{entry_of};
-ghost use Rattle.space.specs.Noted.{NoteFits, made_by, turned};
-ghost use Rattle.space.specs.Ports.{IsAnswerTo};
-ghost use Rattle.rmi_registry.specs.Named.{names_in, IsRegistry};
+ghost use Rattle.space.specs.Noted.{NoteFits, made_by, turn_answer};
+ghost use Rattle.space.specs.TurnAnswers.{IsAnswerTo};
+ghost use Rattle.rmi_registry.specs.Bindings.{names_in, IsRegistry};
 
 use crate::acts::filled;
 use crate::asked::{Asked, AskedEnd};
@@ -36,7 +36,7 @@ impl Space {
         ensures step { IfOk result (λ x. Step self.old.configuration self.old.events (event_of by moment ask) x.0 self.new.events) }
         ensures collector { IfOk result (λ x. OnOk x.0 (Collects self.old.configuration self.old.events (event_of by moment ask) self.new.events)) }
         ensures noted { IfOk result (λ x. x.1 ≡ entry_of moment ask x.0) }
-        ensures row { IfOk result (λ x. IsAnswerTo (λ o. 0 < running (places self.old.configuration self.old.events) by o) ask x.0) }
+        ensures row { IfOk result (λ x. IsAnswerTo (λ o. 0 < running_calls_by (places self.old.configuration self.old.events) by o) ask x.0) }
         ensures known { IfOk result (λ x. x.0 ≢ Err Refused.OutOfMemory) }
         ensures config { self.new.configuration ≡ self.old.configuration }
         ensures err { OnErr result (self.new ≡ self.old) }
@@ -113,15 +113,15 @@ fn with_entry(
     answer: Result<(Turn, ObjIds), Refused>,
 ) -> Result<(Result<Turn, Refused>, Asked), AllocError>
     requires fits { NoteFits answer note }
-    ensures answer { IfOk result (λ x. x.0 ≡ turned answer) }
-    ensures noted { IfOk result (λ x. x.1 ≡ entry_of moment note.ask (turned answer)) }
+    ensures answer { IfOk result (λ x. x.0 ≡ turn_answer answer) }
+    ensures noted { IfOk result (λ x. x.1 ≡ entry_of moment note.ask (turn_answer answer)) }
     ensures known { IfOk result (λ x. x.0 ≢ Err Refused.OutOfMemory) }
-    ensures err { OnErr result (turned answer ≡ Err Refused.OutOfMemory) }
+    ensures err { OnErr result (turn_answer answer ≡ Err Refused.OutOfMemory) }
 {
     let Note { ask, ids, names } = note;
     match answer {
         Ok((turn, gone)) => {
-            let end = AskedEnd::Turned(copied(&turn, ids, gone, names));
+            let end = AskedEnd::Turned(copy_of_turn(&turn, ids, gone, names));
             Ok((Ok(turn), Asked { moment, ask, end }))
         }
         Err(Refused::OutOfMemory) => {
@@ -138,7 +138,7 @@ fn with_entry(
 
 /// A copy of a turn, where these are the objects that it tells as gone. There is room for its identifiers, and `names` are those that it
 /// answers.
-fn copied(turn: &Turn, ids: Vec<ObjId>, gone: ObjIds, names: NameList) -> Turn
+fn copy_of_turn(turn: &Turn, ids: Vec<ObjId>, gone: ObjIds, names: NameList) -> Turn
     requires ids { (os : List ObjId) → turn.now.reply ≡ Finished os → length os ≤ vec_capacity ids }
     requires gone { gone ≡ turn.now.gone }
     requires names { (ns : List (List ℕ)) → turn.now.reply ≡ NamesReply ns → names ≡ ns }
@@ -146,12 +146,12 @@ fn copied(turn: &Turn, ids: Vec<ObjId>, gone: ObjIds, names: NameList) -> Turn
 {
     Turn {
         place: turn.place,
-        reply: copied_reply(&turn.reply, ids, names),
+        reply: copy_of_reply(&turn.reply, ids, names),
         gone,
     }
 }
 
-fn copied_reply(reply: &Reply, ids: Vec<ObjId>, names: NameList) -> Reply
+fn copy_of_reply(reply: &Reply, ids: Vec<ObjId>, names: NameList) -> Reply
     requires ids { (os : List ObjId) → reply.now ≡ Finished os → length os ≤ vec_capacity ids }
     requires names { (ns : List (List ℕ)) → reply.now ≡ NamesReply ns → names ≡ ns }
     ensures { result ≡ reply.now }

@@ -1,9 +1,9 @@
 //! What a turn answers and adds, found before anything changes.
 ghost use Rattle.std.specs.Prelude.{◌≡◌, ◌+◌, ◌≤◌, ◌<◌, true, drop, length, map, option_and_then, None, Some, IfOk, IfErr, vec_len, vec_capacity};
-ghost use Rattle.rmi_registry.specs.Named.{names_in, object_of};
+ghost use Rattle.rmi_registry.specs.Bindings.{names_in, object_of};
 ghost use Rattle.history.specs.Names.{name_in};
 ghost use Rattle.history.specs.Places.{id_at};
-ghost use Rattle.history.specs.declared.limits.TheConstants.{END_OF_NUMBERS};
+ghost use Rattle.history.specs.declared.limits.TheConstants.{END_OF_OBJECT_COUNT};
 ghost use Rattle.space.specs.Doubts.{AreInDoubt, taken_by};
 ghost use Rattle.space.specs.Acts.{Agrees, await_refusal, effective_by, opens, reply_at, returned_by, room_refusal};
 
@@ -12,7 +12,7 @@ use crate::asks::{is_effective, opens, reply_at, room_refusal, stood_for};
 use crate::doubts::in_doubt;
 use crate::returns::returned;
 use crate::tables::Tables;
-use history::plain::places::id_at;
+use history::places::id_at;
 use history::{Ask, Refused, Reply, Turn};
 use object_ids::{ObjId, ObjIds};
 use std::alloc::{AllocError, Global};
@@ -162,7 +162,7 @@ pub(crate) fn prepare(
     noted: bool,
     ask: &Ask,
 ) -> Result<Prepared, Refused>
-    requires countable { tables.now.added + opens effective ask.now < END_OF_NUMBERS }
+    requires countable { tables.now.added + opens effective ask.now < END_OF_OBJECT_COUNT }
     requires reported { tables.now.reported ≤ length tables.now.withdrawn.items }
     ensures opened { IfOk result (λ p. p.opened ≡ opens effective ask.now) }
     ensures objects { IfOk result (λ p. p.objects ≡ length tables.now.exports.rows + opens effective ask.now) }
@@ -207,7 +207,7 @@ fn listed_and_untold(
     noted: bool,
     ask: &Ask,
 ) -> Result<(Listed, Untold), Refused>
-    requires countable { tables.now.added + opens effective ask.now < END_OF_NUMBERS }
+    requires countable { tables.now.added + opens effective ask.now < END_OF_OBJECT_COUNT }
     requires reported { tables.now.reported ≤ length tables.now.withdrawn.items }
     ensures references { IfOk result (λ x. x.0.references.items ≡ returned_by tables.now.config.uid tables.now.added tables.now.exports.rows stood effective ask.now) }
     ensures doubtful { IfOk result (λ x. AreInDoubt tables.now.leases now tables.now.exports.waits
@@ -231,7 +231,7 @@ fn listed_by(
     now: u64,
     ask: &Ask,
 ) -> Result<Listed, Refused>
-    requires countable { tables.now.added + opens effective ask.now < END_OF_NUMBERS }
+    requires countable { tables.now.added + opens effective ask.now < END_OF_OBJECT_COUNT }
     ensures references { IfOk result (λ l. l.references.items ≡ returned_by tables.now.config.uid tables.now.added tables.now.exports.rows stood effective ask.now) }
     ensures doubtful { IfOk result (λ l. AreInDoubt tables.now.leases now tables.now.exports.waits
         (taken_by tables.now.exports.waits (id_at tables.now.config.uid tables.now.added) stood l.references.items ask.now) l.doubtful.items) }

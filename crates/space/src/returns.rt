@@ -2,18 +2,18 @@
 ghost use Rattle.std.specs.Prelude.{◌≡◌, ◌+◌, ◌<◌, ◌≤◌, ◌++◌, ◌&&◌, length, filter, not, nat_lt, option_to_list, cond, true, false, IfOk, OnOk};
 ghost use Rattle.std.specs.List.{list_any};
 ghost use Rattle.indexmap.specs.IndexSet.{contains};
-ghost use Rattle.history.specs.declared.limits.TheConstants.{MAX_AWAITING, END_OF_NUMBERS};
+ghost use Rattle.history.specs.declared.limits.TheConstants.{MAX_AWAITING, END_OF_OBJECT_COUNT};
 ghost use Rattle.history.specs.Lists.{distinct};
 ghost use Rattle.object_ids.specs.declared.ids.ObjId.{ObjId};
 ghost use Rattle.object_ids.specs.Same.{same_id, same_key};
-ghost use Rattle.export_table.specs.Rows.{is_exported};
+ghost use Rattle.export_table.specs.ExportRows.{is_exported};
 ghost use Rattle.export_table.specs.Waits.{is_waiting};
 ghost use Rattle.space.specs.Acts.{Agrees, await_refusal, awaiting_after, new_ids, opens, return_refusal, returned_by};
 
 use crate::calls::live_among;
 use export_table::Exports;
 use history::limits::MAX_AWAITING;
-use history::plain::places::id_at;
+use history::places::id_at;
 use history::{Ask, Refused};
 use indexmap::IndexSet;
 use object_ids::{FullKind, ObjId, ObjIds, Uid};
@@ -35,7 +35,7 @@ pub(crate) fn returned(
     now: u64,
     ask: &Ask,
 ) -> Result<Vec<ObjId>, Refused>
-    requires { k + opens effective ask.now < END_OF_NUMBERS }
+    requires { k + opens effective ask.now < END_OF_OBJECT_COUNT }
     ensures objects { IfOk result (λ objects. objects.items ≡ returned_by space k exports.now.rows stood effective ask.now) }
     ensures refusal { Agrees (await_refusal now exports.now.rows exports.now.waits stood effective ask.now) result }
 {
@@ -95,7 +95,7 @@ fn of_return(
     listed: &ObjIds,
     uid: &Uid,
 ) -> Result<Vec<ObjId>, Refused>
-    requires { k + length made.now < END_OF_NUMBERS }
+    requires { k + length made.now < END_OF_OBJECT_COUNT }
     ensures objects { IfOk result (λ objects. objects.items ≡ new_ids space k made.now ++ filter (is_exported exports.now.rows) listed.now) }
     ensures refusal { let live = filter (is_exported exports.now.rows) listed.now in
         Agrees (return_refusal now uid.now (length made.now) live exports.now.waits) result }
@@ -116,7 +116,7 @@ fn new_and(
     made: &[u32],
     others: &[ObjId],
 ) -> Result<Vec<ObjId>, AllocError>
-    requires { k + length made.now < END_OF_NUMBERS }
+    requires { k + length made.now < END_OF_OBJECT_COUNT }
     ensures { IfOk result (λ objects. objects.items ≡ new_ids space k made.now ++ others.now) }
 {
     let mut objects = new_ids(alloc, space, k, made)?;
@@ -131,7 +131,7 @@ pub(crate) fn new_ids(
     k: u64,
     made: &[u32],
 ) -> Result<Vec<ObjId>, AllocError>
-    requires { k + length made.now < END_OF_NUMBERS }
+    requires { k + length made.now < END_OF_OBJECT_COUNT }
     ensures { IfOk result (λ ids. ids.items ≡ new_ids space k made.now) }
 {
     let mut ids = Vec::with_capacity(alloc, made.len())?;
@@ -152,7 +152,7 @@ fn is_past(
 ) -> bool
     ensures { result ≡ nat_lt MAX_AWAITING (awaiting_after now uid.now made live.now exports.now.waits) }
 {
-    let waiting = u128::from(exports.waiting(now)) + made as u128;
+    let waiting = u128::from(exports.waiting_count(now)) + made as u128;
     let most = u128::from(MAX_AWAITING);
     most < waiting + live.len() as u128
         && most < waiting + new_waits(alloc, exports, now, uid, live) as u128

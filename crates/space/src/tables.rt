@@ -16,7 +16,7 @@ use crate::withdrawals::Withdrawals;
 use dgc_server::Leases;
 use event_log::EventLog;
 use export_table::Exports;
-use history::plain::limits::units_of;
+use history::asks::units_of;
 use history::{Ask, Refused, SpaceConfig, Turn};
 use object_ids::ObjIds;
 use rmi_registry::Names;

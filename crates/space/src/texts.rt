@@ -2,9 +2,9 @@
 ghost use Rattle.std.specs.Prelude.{◌≡◌, ◌++◌, flat_map, map, max, OnOk, IfOk};
 ghost use Rattle.history.specs.Leases.{lease_rows};
 ghost use Rattle.history.specs.Outline as lines;
-ghost use Rattle.dgc_server.specs.Stands.{ForEachLog};
-ghost use Rattle.export_table.specs.Rows.{row_at};
-ghost use Rattle.space.specs.Rows.{held_row, binding_text};
+ghost use Rattle.dgc_server.specs.StandsForCalls.{ForEachLog};
+ghost use Rattle.export_table.specs.ExportRows.{row_at};
+ghost use Rattle.space.specs.OutlineRows.{held_row, binding_text};
 
 use crate::turns::Space;
 use crate::withdrawals::Withdrawals;

@@ -2,12 +2,12 @@
 ghost use Rattle.std.specs.Prelude.{◌≡◌, ◌≤◌, ◌<◌, [], true, length, IfOk, OnOk, OnErr};
 ghost use Rattle.history.specs.Collector.{Collects};
 ghost use Rattle.history.specs.Places as place_words;
-ghost use Rattle.history.specs.Running.{running};
+ghost use Rattle.history.specs.Running.{running_calls_by};
 ghost use Rattle.history.specs.Steps.{Step, IsLegal};
 ghost use Rattle.history.specs.Table.{places};
-ghost use Rattle.history.specs.declared.limits.TheConstants.{END_OF_TIME, MAX_DURATION};
+ghost use Rattle.history.specs.declared.limits.TheConstants.{END_OF_TIME, MAX_DURATION_MS};
 ghost use Rattle.space.specs.Acts.{event_of};
-ghost use Rattle.space.specs.Noted.{turned};
+ghost use Rattle.space.specs.Noted.{turn_answer};
 
 use crate::acts::put_event;
 use crate::runs::Runs;
@@ -61,9 +61,9 @@ impl Space {
     /// The space without events. Its leases and its times to acknowledge last from 1 to 2^40 milliseconds.
     pub fn fresh(alloc: Global, config: &SpaceConfig) -> Space
         requires some_lease { 1 ≤ config.now.lease_ms }
-        requires short_lease { config.now.lease_ms ≤ MAX_DURATION }
+        requires short_lease { config.now.lease_ms ≤ MAX_DURATION_MS }
         requires some_ack { 1 ≤ config.now.ack_ms }
-        requires short_ack { config.now.ack_ms ≤ MAX_DURATION }
+        requires short_ack { config.now.ack_ms ≤ MAX_DURATION_MS }
         ensures { result ≡ record { configuration = config.now; events = [] } }
     {
         Space {
@@ -93,7 +93,7 @@ impl Space {
         ensures step { Step self.old.configuration self.old.events (record { by = by; moment = moment; ask = ask }) result self.new.events }
 
         // The history's table keeps what there is a reason to keep, and the rest is withdrawn. This follows from `step`; that the
-        // objects which the space has exported are those of that table is said by `kind_of`, `exported` and `outline`.
+        // objects which the space has exported are those of that table is said by `kind_of`, `exported_objects` and `outline`.
         ensures collector { OnOk result (Collects self.old.configuration self.old.events (event_of by moment ask) self.new.events) }
         ensures config { self.new.configuration ≡ self.old.configuration }
         ensures err { OnErr result (self.new ≡ self.old) }
@@ -111,7 +111,7 @@ impl Space {
         noted: bool,
     ) -> Result<(Turn, ObjIds), Refused>
         requires moment { moment < END_OF_TIME }
-        ensures step { Step self.old.configuration self.old.events (event_of by moment ask) (turned result) self.new.events }
+        ensures step { Step self.old.configuration self.old.events (event_of by moment ask) (turn_answer result) self.new.events }
         ensures copy { IfOk result (λ x. noted ≡ true → x.1 ≡ x.0.gone) }
         ensures collector { OnOk result (Collects self.old.configuration self.old.events (event_of by moment ask) self.new.events) }
         ensures config { self.new.configuration ≡ self.old.configuration }
@@ -139,7 +139,7 @@ impl Space {
 
     /// How many calls of an object a connection runs.
     pub fn running(&self, by: u32, object: ObjId) -> u32
-        ensures { result ≡ running (places self.now.configuration self.now.events) by object }
+        ensures { result ≡ running_calls_by (places self.now.configuration self.now.events) by object }
     {
         self.tables.runs.count(by, &object) as u32
     }

@@ -2,9 +2,9 @@
 ghost use Rattle.std.specs.Prelude.{◌≡◌, ◌<◌, ◌≤◌, ◌+◌, ◌++◌, [], List, true, false, max, drop, filter, length, map, replicate, slice_get, IfOk, OnOk, vec_len, vec_capacity};
 ghost use Rattle.object_ids.specs.declared.ids.ObjId.{ObjId};
 ghost use Rattle.dgc_server.specs.Counts.{without_all};
-ghost use Rattle.dgc_server.specs.Stands.{StandsFor, ForEachLog};
-ghost use Rattle.export_table.specs.Rows.{is_row_kept, is_settled_but, held_by, withdrawn};
-ghost use Rattle.export_table.specs.Waits.{waiting};
+ghost use Rattle.dgc_server.specs.StandsForCalls.{StandsFor, ForEachLog};
+ghost use Rattle.export_table.specs.ExportRows.{is_row_kept, is_settled_but, held_by, withdrawn_ids};
+ghost use Rattle.export_table.specs.Waits.{still_waiting};
 ghost use Rattle.space.specs.Acts.{withdrawal_at};
 ghost use Rattle.space.specs.Doubts.{HasLog};
 
@@ -33,11 +33,11 @@ impl Drop for Withdrawals {
 
 impl Model for Withdrawals {
     ghost use Rattle.std.specs.Prelude.{◌≡◌, length, min, vec_capacity};
-    ghost use Rattle.space.specs.Withdrawals.{WithdrawalTable, paired};
+    ghost use Rattle.space.specs.Withdrawals.{WithdrawalTable, paired_withdrawals};
 
     ghost Value = { WithdrawalTable };
 
-    ghost view = { λ w. record { items = paired w.objects.items w.places.items; room = min (vec_capacity w.objects) (vec_capacity w.places) } };
+    ghost view = { λ w. record { items = paired_withdrawals w.objects.items w.places.items; room = min (vec_capacity w.objects) (vec_capacity w.places) } };
 
     ghost invariant = { λ w. length w.objects.items ≡ length w.places.items };
 }
@@ -131,14 +131,14 @@ impl Withdrawals {
         ensures kept { ForEachLog leases.old (λ lease moment calls.
             let held = held_by lease (max now moment) calls in
             let rows = filter (is_row_kept now held exports.old.waits) exports.old.rows in
-            let waits = waiting now exports.old.waits in
+            let waits = still_waiting now exports.old.waits in
             exports.new ≡ record exports.old { rows = rows; waits = waits; room = exports.new.room }) }
         ensures gone { ForEachLog leases.old (λ lease moment calls.
             let held = held_by lease (max now moment) calls in
-            gone.new.items ≡ gone.old.items ++ withdrawn now held exports.old.waits exports.old.rows) }
+            gone.new.items ≡ gone.old.items ++ withdrawn_ids now held exports.old.waits exports.old.rows) }
         ensures dropped { ForEachLog leases.old (λ lease moment calls.
             let held = held_by lease (max now moment) calls in
-            let dropped = withdrawn now held exports.old.waits exports.old.rows in
+            let dropped = withdrawn_ids now held exports.old.waits exports.old.rows in
             StandsFor lease leases.new moment (map (without_all dropped) calls)) }
         ensures few { length gone.new.items ≤ length gone.old.items + length doubtful.now }
         ensures noted { self.new.items ≡ self.old.items ++ map (withdrawal_at place) (drop (length gone.old.items) gone.new.items) }
@@ -169,14 +169,14 @@ impl Withdrawals {
         ensures kept { ForEachLog leases.old (λ lease moment calls.
             let held = held_by lease (max now moment) calls in
             let rows = filter (is_row_kept now held exports.old.waits) exports.old.rows in
-            let waits = waiting now exports.old.waits in
+            let waits = still_waiting now exports.old.waits in
             exports.new ≡ record exports.old { rows = rows; waits = waits; room = exports.new.room }) }
         ensures goes { (gone : List ObjId) × (self.new.items ≡ self.old.items ++ map (withdrawal_at place) gone) × ForEachLog leases.old (λ lease moment calls.
             let held = held_by lease (max now moment) calls in
-            gone ≡ withdrawn now held exports.old.waits exports.old.rows) }
+            gone ≡ withdrawn_ids now held exports.old.waits exports.old.rows) }
         ensures dropped { ForEachLog leases.old (λ lease moment calls.
             let held = held_by lease (max now moment) calls in
-            let dropped = withdrawn now held exports.old.waits exports.old.rows in
+            let dropped = withdrawn_ids now held exports.old.waits exports.old.rows in
             StandsFor lease leases.new moment (map (without_all dropped) calls)) }
         ensures room { self.old.room ≤ self.new.room }
     {

@@ -13,19 +13,19 @@ use Rattle.atomic_table.proofs.Lists.{at_longer, at_set, set_here, set_else}
 use Rattle.history.specs.declared.asks.SpaceConfig.{SpaceConfig}
 use Rattle.history.specs.declared.asks.Event.{Event}
 use Rattle.history.specs.Steps.{IsLegal}
-use Rattle.space.specs.Balance.{AreOfOthers}
+use Rattle.ports.specs.Balance.{AreOfOthers}
 use Rattle.space.specs.Built.{SpaceHistory}
 use Rattle.turn_lock.specs.declared.view.View.{View}
-use Rattle.turn_lock.specs.declared.view.Stage.{Stage}
-use Rattle.turn_lock.specs.declared.view.Stage.TheVariants.{Idle, Drawn, Called}
-use Rattle.turn_lock.specs.Rule.{Events, StartsWith, events_by, longer, space_with, HasOwn, MayComeTo, Waits, Knows, SeatFits, HasEnded, KeepsRule, root, spent, at_home, holding, in_stage, drew, looked, published, passed_over, advanced, absorbed, left_of, right_of, both_of, Settled}
+use Rattle.turn_lock.specs.declared.view.SeatState.{SeatState}
+use Rattle.turn_lock.specs.declared.view.SeatState.TheVariants.{Idle, Drawn, Called}
+use Rattle.turn_lock.specs.Rule.{Events, StartsWith, events_by, longer, space_with, HasOwn, MayComeTo, Waits, Knows, SeatFits, HasEnded, KeepsRule, root, spent_seat, at_home, holding, in_state, DrawsTicket, LooksAtServing, PublishesEvent, PassesOver, AdvancesServing, AbsorbsSeen, left_of, right_of, both_of, Settled}
 use Rattle.turn_lock.proofs.Views.{all_set, sum_set, sum_one, sum_rest, sum_same, sum_le, within, same_at, put, put_here, put_else}
 
 abbrev St : Type 0
 St = State (Option SpaceHistory) View
 
--- a step in the stage Idle or Drawn is no call
-abbrev IsCalled : Stage → Bool
+-- a step in the state Idle or Drawn is no call
+abbrev IsCalled : SeatState → Bool
 IsCalled (Called t h) = true
 IsCalled _ = false
 
@@ -129,9 +129,9 @@ own_none first by other own tail seen rest h split empty =
 stepped_kept : (h0 : SpaceHistory) (s : St) (r : KeepsRule h0 s) (id : ℕ) (v w : View) (ticket' serving' : ℕ) (tail' : Events) (out' : Bool) (owner' : ℕ → ℕ) (words' : List ℕ) (homes' : List (maybe.Option (Option SpaceHistory)))
     → get_elem? s.views id ≡ some v → IsSameHolder v w → (more : Events) × (tail' ≡ r.tail ++ more) → words' ≡ ticket' ∷ serving' ∷ length (h0.events ++ tail') ∷ [] → serving' ≤ ticket' → IsLegal h0.configuration (h0.events ++ tail')
     → homes' ≡ at_home out' (space_with h0.configuration (h0.events ++ tail')) ∷ []
-    → (out' ≡ true → (u : View) × (get_elem? (set s.views id w) (owner' serving') ≡ some u) × (u.stage ≡ Called serving' (h0.events ++ tail')))
+    → (out' ≡ true → (u : View) × (get_elem? (set s.views id w) (owner' serving') ≡ some u) × (u.state ≡ Called serving' (h0.events ++ tail')))
     → SeatFits h0 tail' ticket' serving' out' owner' id w
-    → ((j : ℕ) (g : Stage) → j ≢ id → Waits r.ticket r.serving r.out (h0.events ++ r.tail) r.owner j g → Waits ticket' serving' out' (h0.events ++ tail') owner' j g)
+    → ((j : ℕ) (g : SeatState) → j ≢ id → Waits r.ticket r.serving r.out (h0.events ++ r.tail) r.owner j g → Waits ticket' serving' out' (h0.events ++ tail') owner' j g)
     → ((n : ℕ) → n ≢ id → events_by n tail' ≡ events_by n r.tail) → (v.parts ≡ 0 → tail' ≡ r.tail)
     → w.drawn + r.ticket ≡ v.drawn + ticket'
     → KeepsRule h0 record { words = words'; homes = homes'; views = set s.views id w }
@@ -159,7 +159,7 @@ stepped_kept h0 s r id v w ticket' serving' tail' out' owner' words' homes' at s
         };
         room = f.room;
         still = f.still;
-        waits = waits j u.stage other f.waits;
+        waits = waits j u.state other f.waits;
       });
   strangers = λ n le. let size = length-set s.views id w in let inside = within s.views id v at in
       others n (λ e. absurd (omega (arith, e, le, inside, size))) ∙ r.strangers n (omega (arith, le, size));
@@ -173,37 +173,37 @@ stepped_kept h0 s r id v w ticket' serving' tail' out' owner' words' homes' at s
 stays : (h0 : SpaceHistory) (s : St) (r : KeepsRule h0 s) → (more : Events) × (r.tail ≡ r.tail ++ more)
 stays h0 s r = ([], sym (append-nil r.tail))
 
-not_called : (g : Stage) (t : ℕ) (h : Events) → IsCalled g ≡ false → ¬ (g ≡ Called t h)
+not_called : (g : SeatState) (t : ℕ) (h : Events) → IsCalled g ≡ false → ¬ (g ≡ Called t h)
 not_called g t h quiet e = true≢false (sym (ap IsCalled e) ∙ quiet)
 
 -- the caller is another seat than one that is not called
-caller_else : (h0 : SpaceHistory) (s : St) (r : KeepsRule h0 s) (id : ℕ) (v w : View) (owner' : ℕ → ℕ) → get_elem? s.views id ≡ some v → IsCalled v.stage ≡ false → ((t : ℕ) → t < r.ticket → owner' t ≡ r.owner t)
-    → r.out ≡ true → (u : View) × (get_elem? (set s.views id w) (owner' r.serving) ≡ some u) × (u.stage ≡ Called r.serving (h0.events ++ r.tail))
+caller_else : (h0 : SpaceHistory) (s : St) (r : KeepsRule h0 s) (id : ℕ) (v w : View) (owner' : ℕ → ℕ) → get_elem? s.views id ≡ some v → IsCalled v.state ≡ false → ((t : ℕ) → t < r.ticket → owner' t ≡ r.owner t)
+    → r.out ≡ true → (u : View) × (get_elem? (set s.views id w) (owner' r.serving) ≡ some u) × (u.state ≡ Called r.serving (h0.events ++ r.tail))
 caller_else h0 s r id v w owner' at quiet same is_out =
     let c = r.caller is_out in
     let waits : Waits r.ticket r.serving r.out (h0.events ++ r.tail) r.owner (r.owner r.serving) (Called r.serving (h0.events ++ r.tail)) = subst (Waits r.ticket r.serving r.out (h0.events ++ r.tail) r.owner (r.owner r.serving)) c.2 (r.each (r.owner r.serving) c.0 c.1).waits in
     let owned : owner' r.serving ≡ r.owner r.serving = same r.serving waits.1 in
-    let apart : r.owner r.serving ≢ id = λ e. not_called v.stage r.serving (h0.events ++ r.tail) quiet (ap (λ (y : View). y.stage) (same_at s.views id v c.0 at (subst (λ k. get_elem? s.views k ≡ some c.0) e c.1)) ∙ c.2) in
+    let apart : r.owner r.serving ≢ id = λ e. not_called v.state r.serving (h0.events ++ r.tail) quiet (ap (λ (y : View). y.state) (same_at s.views id v c.0 at (subst (λ k. get_elem? s.views k ≡ some c.0) e c.1)) ∙ c.2) in
     (c.0, ap (get_elem? (set s.views id w)) owned ∙ (set_else s.views id (r.owner r.serving) w apart ∙ c.1), c.2)
 
 -- the same seat and the same waiting, where only a new ticket is drawn by another
-draws_on : (ticket serving : ℕ) (out : Bool) (log : Events) (owner : ℕ → ℕ) (id j : ℕ) (g : Stage) → Waits ticket serving out log owner j g → Waits (ticket + 1) serving out log (put owner ticket id) j g
+draws_on : (ticket serving : ℕ) (out : Bool) (log : Events) (owner : ℕ → ℕ) (id j : ℕ) (g : SeatState) → Waits ticket serving out log owner j g → Waits (ticket + 1) serving out log (put owner ticket id) j g
 draws_on ticket serving out log owner id j Idle h = tt
 draws_on ticket serving out log owner id j (Drawn t) h = (h.0, omega (arith, h.1), put_else owner ticket id t (λ e. let lt = h.1 in absurd (omega (arith, e, lt))) ∙ h.2)
 draws_on ticket serving out log owner id j (Called t hand) h = (h.0, omega (arith, h.1), put_else owner ticket id t (λ e. let lt = h.1 in absurd (omega (arith, e, lt))) ∙ h.2, h.3, h.4)
 
-quiet_idle : (g : Stage) → g ≡ Idle → IsCalled g ≡ false
+quiet_idle : (g : SeatState) → g ≡ Idle → IsCalled g ≡ false
 quiet_idle g e = ap IsCalled e
 
-quiet_drawn : (g : Stage) (t : ℕ) → g ≡ Drawn t → IsCalled g ≡ false
+quiet_drawn : (g : SeatState) (t : ℕ) → g ≡ Drawn t → IsCalled g ≡ false
 quiet_drawn g t e = ap IsCalled e
 
-pub draws : (h0 : SpaceHistory) (id : ℕ) (v : View) → v.stage ≡ Idle → v.drawn < 2147483648 * v.parts
-    → Allows (KeepsRule h0) 1 id (v, []) 0 (λ n. (n + 1) % 18446744073709551616) (drew (step 1 0 1 0 none) (v, []))
+pub draws : (h0 : SpaceHistory) (id : ℕ) (v : View) → v.state ≡ Idle → v.drawn < 2147483648 * v.parts
+    → Allows (KeepsRule h0) 1 id (v, []) 0 (λ n. (n + 1) % 18446744073709551616) (DrawsTicket (step 1 0 1 0 none) (v, []))
 draws h0 id v idle room s r deep at fits =
     let n : ℕ = slice_index s.words 0 in
     let is : n ≡ r.ticket = ap (λ ws. slice_index ws 0) r.words in
-    let w : View = record v { stage = Drawn n; drawn = v.drawn + 1 } in
+    let w : View = record v { state = Drawn n; drawn = v.drawn + 1 } in
     let few_tickets = few h0 s r in
     let sum : (n + 1) % 18446744073709551616 ≡ r.ticket + 1 = omega (arith, is, few_tickets) in
     let f = r.each id v at in
@@ -213,7 +213,7 @@ draws h0 id v idle room s r deep at fits =
       tt,
       stepped_kept h0 s r id v w (r.ticket + 1) r.serving r.tail r.out (put r.owner r.ticket id) (slice_set s.words 0 ((n + 1) % 18446744073709551616)) s.homes at (refl, refl, refl) (stays h0 s r)
           (ap (λ x. slice_set s.words 0 x) sum ∙ ap (λ ws. slice_set ws 0 (r.ticket + 1)) r.words) (omega (arith, before)) r.legal r.home
-          (caller_else h0 s r id v w (put r.owner r.ticket id) at (quiet_idle v.stage idle) (λ t lt. put_else r.owner r.ticket id t (λ e. absurd (omega (arith, e, lt)))))
+          (caller_else h0 s r id v w (put r.owner r.ticket id) at (quiet_idle v.state idle) (λ t lt. put_else r.owner r.ticket id t (λ e. absurd (omega (arith, e, lt)))))
           (record {
             mine = f.mine;
             room = omega (arith, room);
@@ -225,16 +225,16 @@ draws h0 id v idle room s r deep at fits =
       refl,
     )
 
-abbrev ticket_of : Stage → ℕ
+abbrev ticket_of : SeatState → ℕ
 ticket_of Idle = 0
 ticket_of (Drawn t) = t
 ticket_of (Called t h) = t
 
-abbrev is_drawn : Stage → Bool
+abbrev is_drawn : SeatState → Bool
 is_drawn (Drawn t) = true
 is_drawn _ = false
 
-abbrev hand_of : Stage → Events
+abbrev hand_of : SeatState → Events
 hand_of (Called t h) = h
 hand_of _ = []
 
@@ -243,16 +243,16 @@ same_words : (h0 : SpaceHistory) (s : St) (r : KeepsRule h0 s) → slice_set s.w
 same_words h0 s r = ap (λ ws. slice_set ws 1 (slice_index ws 1)) r.words
 
 -- while the seat's ticket is served and the seat has not been called, the slot is at home
-slot_home : (h0 : SpaceHistory) (s : St) (r : KeepsRule h0 s) (id : ℕ) (v : View) (t : ℕ) → get_elem? s.views id ≡ some v → v.stage ≡ Drawn t → r.serving ≡ t → (b : Bool) → r.out ≡ b → b ≡ false
+slot_home : (h0 : SpaceHistory) (s : St) (r : KeepsRule h0 s) (id : ℕ) (v : View) (t : ℕ) → get_elem? s.views id ≡ some v → v.state ≡ Drawn t → r.serving ≡ t → (b : Bool) → r.out ≡ b → b ≡ false
 slot_home h0 s r id v t at drawn now false is = refl
 slot_home h0 s r id v t at drawn now true is =
     let waits : Waits r.ticket r.serving r.out (h0.events ++ r.tail) r.owner id (Drawn t) = subst (Waits r.ticket r.serving r.out (h0.events ++ r.tail) r.owner id) drawn (r.each id v at).waits in
     let c = r.caller is in
     let here : r.owner r.serving ≡ id = ap r.owner now ∙ waits.2 in
     let same : v ≡ c.0 = same_at s.views id v c.0 at (subst (λ k. get_elem? s.views k ≡ some c.0) here c.1) in
-    absurd (not_called v.stage r.serving (h0.events ++ r.tail) (quiet_drawn v.stage t drawn) (ap (λ (y : View). y.stage) same ∙ c.2))
+    absurd (not_called v.state r.serving (h0.events ++ r.tail) (quiet_drawn v.state t drawn) (ap (λ (y : View). y.state) same ∙ c.2))
 
-calls_on : (ticket serving : ℕ) (out : Bool) (log : Events) (owner : ℕ → ℕ) (j : ℕ) (g : Stage) → Waits ticket serving out log owner j g → Waits ticket serving true log owner j g
+calls_on : (ticket serving : ℕ) (out : Bool) (log : Events) (owner : ℕ → ℕ) (j : ℕ) (g : SeatState) → Waits ticket serving out log owner j g → Waits ticket serving true log owner j g
 calls_on ticket serving out log owner j Idle h = tt
 calls_on ticket serving out log owner j (Drawn t) h = h
 calls_on ticket serving out log owner j (Called t hand) h = (h.0, h.1, h.2, h.3, refl)
@@ -270,7 +270,7 @@ comes h0 j tail v legal m =
       has_own = (tail, ap (λ l. l ++ tail) (sym m.opened), ap (λ k. events_by k tail) m.numbered ∙ m.owned);
     }
 
-pub looks : (h0 : SpaceHistory) (id : ℕ) (v : View) (t : ℕ) → v.stage ≡ Drawn t → 0 < v.parts → Allows (KeepsRule h0) 1 id (v, []) 1 (λ n. n) (looked (step 1 1 0 0 none) (v, []))
+pub looks : (h0 : SpaceHistory) (id : ℕ) (v : View) (t : ℕ) → v.state ≡ Drawn t → 0 < v.parts → Allows (KeepsRule h0) 1 id (v, []) 1 (λ n. n) (LooksAtServing (step 1 1 0 0 none) (v, []))
 looks h0 id v t drawn part s r deep at fits =
     let n : ℕ = slice_index s.words 1 in
     let is : n ≡ r.serving = ap (λ ws. slice_index ws 1) r.words in
@@ -284,7 +284,7 @@ looks h0 id v t drawn part s r deep at fits =
     let whole : SpaceHistory = space_with h0.configuration log in
     let here_is : some (Some whole) ≡ some (Some (space_with v.config log)) = ap (λ c. some (Some (space_with c log))) (sym mine.configured) in
     let home : s.homes ≡ some (Some (space_with v.config log)) ∷ [] = r.home ∙ (ap (λ b. at_home b whole ∷ []) away ∙ ap (λ x. x ∷ []) here_is) in
-    let w : View = in_stage v (Called n log) in (
+    let w : View = in_state v (Called n log) in (
       w,
       takes 0 (Some (space_with v.config log)),
       ap (λ hs. get_elem? hs 0) home,
@@ -301,19 +301,19 @@ looks h0 id v t drawn part s r deep at fits =
       keeps,
       tt,
       stepped_kept h0 s r id v v r.ticket r.serving r.tail r.out r.owner (slice_set s.words 1 n) s.homes at (refl, refl, refl) (stays h0 s r)
-          (same_words h0 s r) r.order r.legal r.home (caller_else h0 s r id v v r.owner at (quiet_drawn v.stage t drawn) (λ k lt. refl)) f (λ j g other h. h) (λ m other. refl) (λ zero. refl) refl,
+          (same_words h0 s r) r.order r.legal r.home (caller_else h0 s r id v v r.owner at (quiet_drawn v.state t drawn) (λ k lt. refl)) f (λ j g other h. h) (λ m other. refl) (λ zero. refl) refl,
       λ t' drawn'. ((λ e. absurd (later (e ∙ ap ticket_of (sym drawn' ∙ drawn)))), (λ _. refl)),
     ))
 
 -- where one seat is called, another that waits holds a later ticket
-advances_on : (ticket serving : ℕ) (out : Bool) (log : Events) (owner : ℕ → ℕ) (id j : ℕ) (g : Stage) → owner serving ≡ id → j ≢ id → Waits ticket serving out log owner j g → Waits ticket (serving + 1) false log owner j g
+advances_on : (ticket serving : ℕ) (out : Bool) (log : Events) (owner : ℕ → ℕ) (id j : ℕ) (g : SeatState) → owner serving ≡ id → j ≢ id → Waits ticket serving out log owner j g → Waits ticket (serving + 1) false log owner j g
 advances_on ticket serving out log owner id j Idle here other h = tt
 advances_on ticket serving out log owner id j (Drawn t) here other h =
     let apart : t ≢ serving = λ e. other (sym h.2 ∙ (ap owner e ∙ here)) in let le = h.0 in (omega arith, h.1, h.2)
 advances_on ticket serving out log owner id j (Called t hand) here other h = absurd (other (sym h.2 ∙ (ap owner h.0 ∙ here)))
 
-pub advances : (h0 : SpaceHistory) (id : ℕ) (v : View) (t : ℕ) (hand : Events) → v.stage ≡ Called t hand → 0 < v.parts
-    → Allows (KeepsRule h0) 1 id (v, holding (space_with v.config hand)) 1 (λ n. (n + 1) % 18446744073709551616) (advanced (step 1 1 1 0 none) (v, holding (space_with v.config hand)))
+pub advances : (h0 : SpaceHistory) (id : ℕ) (v : View) (t : ℕ) (hand : Events) → v.state ≡ Called t hand → 0 < v.parts
+    → Allows (KeepsRule h0) 1 id (v, holding (space_with v.config hand)) 1 (λ n. (n + 1) % 18446744073709551616) (AdvancesServing (step 1 1 1 0 none) (v, holding (space_with v.config hand)))
 advances h0 id v t hand called part s r deep at fits =
     let n : ℕ = slice_index s.words 1 in
     let is : n ≡ r.serving = ap (λ ws. slice_index ws 1) r.words in
@@ -326,7 +326,7 @@ advances h0 id v t hand called part s r deep at fits =
     let sum : (n + 1) % 18446744073709551616 ≡ r.serving + 1 = omega (arith, is, few_tickets, now, low) in
     let home : s.homes ≡ none ∷ [] = r.home ∙ ap (λ b. at_home b (space_with h0.configuration log) ∷ []) waits.4 in
     let whole : space_with v.config hand ≡ space_with h0.configuration log = ap₂ space_with (f.mine part).configured waits.3 in
-    let w : View = in_stage v Idle in (
+    let w : View = in_state v Idle in (
       w,
       gives,
       tt,
@@ -348,13 +348,13 @@ own_less : (n : ℕ) (tail : Events) (e : Event) → e.by ≢ n → events_by n 
 own_less n tail e other = filter-append (λ (x : Event). x.by == n) tail (e ∷ []) ∙ (ap (λ b. events_by n tail ++ cond b (e ∷ []) []) (ne_eqb e.by n other) ∙ append-nil (events_by n tail))
 
 -- while one seat is called, no other is, and the others wait on whatever the history is
-waits_still : (ticket serving : ℕ) (out out' : Bool) (log log' : Events) (owner : ℕ → ℕ) (id j : ℕ) (g : Stage) → owner serving ≡ id → j ≢ id → Waits ticket serving out log owner j g → Waits ticket serving out' log' owner j g
+waits_still : (ticket serving : ℕ) (out out' : Bool) (log log' : Events) (owner : ℕ → ℕ) (id j : ℕ) (g : SeatState) → owner serving ≡ id → j ≢ id → Waits ticket serving out log owner j g → Waits ticket serving out' log' owner j g
 waits_still ticket serving out out' log log' owner id j Idle here other h = tt
 waits_still ticket serving out out' log log' owner id j (Drawn t) here other h = h
 waits_still ticket serving out out' log log' owner id j (Called t hand) here other h = absurd (other (sym h.2 ∙ (ap owner h.0 ∙ here)))
 
-pub publishes : (h0 : SpaceHistory) (id : ℕ) (v : View) (carried : List (ℕ × Option SpaceHistory)) (t : ℕ) (hand : Events) (e : Event) (n : ℕ) → v.stage ≡ Called t hand → 0 < v.parts → e.by ≡ v.number
-    → n ≡ length (hand ++ e ∷ []) → IsLegal v.config (hand ++ e ∷ []) → Allows (KeepsRule h0) 1 id (v, carried) 2 (λ _. n) (λ _. published e (step 1 2 n 0 none) (v, carried) n)
+pub publishes : (h0 : SpaceHistory) (id : ℕ) (v : View) (carried : List (ℕ × Option SpaceHistory)) (t : ℕ) (hand : Events) (e : Event) (n : ℕ) → v.state ≡ Called t hand → 0 < v.parts → e.by ≡ v.number
+    → n ≡ length (hand ++ e ∷ []) → IsLegal v.config (hand ++ e ∷ []) → Allows (KeepsRule h0) 1 id (v, carried) 2 (λ _. n) (λ _. PublishesEvent e (step 1 2 n 0 none) (v, carried) n)
 publishes h0 id v carried t hand e n called part by many legal s r deep at fits =
     let log : Events = h0.events ++ r.tail in
     let f = r.each id v at in
@@ -364,7 +364,7 @@ publishes h0 id v carried t hand e n called part by many legal s r deep at fits 
     let tail' : Events = r.tail ++ e ∷ [] in
     let log_is : h0.events ++ tail' ≡ hand ++ e ∷ [] = sym (append_assoc h0.events r.tail (e ∷ [])) ∙ ap (λ l. l ++ e ∷ []) (sym waits.3) in
     let legal' : IsLegal h0.configuration (h0.events ++ tail') = subst (IsLegal h0.configuration) (sym log_is) (subst (λ (c : SpaceConfig). IsLegal c (hand ++ e ∷ [])) mine.configured legal) in
-    let w : View = record v { seen = hand ++ e ∷ []; own = v.own ++ e ∷ []; stage = Called t (hand ++ e ∷ []) } in
+    let w : View = record v { seen = hand ++ e ∷ []; own = v.own ++ e ∷ []; state = Called t (hand ++ e ∷ []) } in
     let by_id : e.by ≡ id = by ∙ mine.numbered in
     let own_is : events_by id tail' ≡ v.own ++ e ∷ [] = own_more id r.tail e by_id ∙ ap (λ l. l ++ e ∷ []) mine.owned in (
       w,
@@ -394,14 +394,14 @@ publishes h0 id v carried t hand e n called part by many legal s r deep at fits 
         record v {
           seen = ap hand_of (sym called ∙ called') i ++ e ∷ [];
           own = v.own ++ e ∷ [];
-          stage = Called (ap ticket_of (sym called ∙ called') i) (ap hand_of (sym called ∙ called') i ++ e ∷ []);
+          state = Called (ap ticket_of (sym called ∙ called') i) (ap hand_of (sym called ∙ called') i ++ e ∷ []);
         },
         carried,
       )),
     )
 
-pub passes_over : (h0 : SpaceHistory) (id : ℕ) (v : View) (carried : List (ℕ × Option SpaceHistory)) (t : ℕ) (hand : Events) (n : ℕ) → v.stage ≡ Called t hand → 0 < v.parts → n ≡ length hand
-    → Allows (KeepsRule h0) 1 id (v, carried) 2 (λ _. n) (λ _. passed_over (step 1 2 n 0 none) (v, carried) n)
+pub passes_over : (h0 : SpaceHistory) (id : ℕ) (v : View) (carried : List (ℕ × Option SpaceHistory)) (t : ℕ) (hand : Events) (n : ℕ) → v.state ≡ Called t hand → 0 < v.parts → n ≡ length hand
+    → Allows (KeepsRule h0) 1 id (v, carried) 2 (λ _. n) (λ _. PassesOver (step 1 2 n 0 none) (v, carried) n)
 passes_over h0 id v carried t hand n called part many s r deep at fits =
     let log : Events = h0.events ++ r.tail in
     let f = r.each id v at in
@@ -430,7 +430,7 @@ passes_over h0 id v carried t hand n called part many s r deep at fits =
             waits = f.waits;
           })
           (λ j g other h. h) (λ m other. refl) (λ zero. refl) refl,
-      λ t' h' called'. (λ i. (record v { seen = ap hand_of (sym called ∙ called') i; stage = called' i }, carried)),
+      λ t' h' called'. (λ i. (record v { seen = ap hand_of (sym called ∙ called') i; state = called' i }, carried)),
     )
 
 at_end_or : {A : Type 0} (l : List A) (a b : A) (j : ℕ) → get_elem? (l ++ a ∷ []) j ≡ some b → (get_elem? l j ≡ some b) ⊎ ((j ≡ length l) × (a ≡ b))
@@ -440,7 +440,7 @@ at_end_or (x ∷ xs) a b zero e = inl e
 at_end_or (x ∷ xs) a b (suc j) e = ⊎_elim (λ t. inl t) (λ (t : (j ≡ length xs) × (a ≡ b)). inr (ap suc t.0, t.1)) (at_end_or xs a b j e)
 
 -- the first seat makes another
-pub splits : (h0 : SpaceHistory) (id : ℕ) (v : View) → id ≡ 0 → v.stage ≡ Idle → 1 < v.parts → v.drawn ≤ 2147483648 * (v.parts - 1) → Splits (KeepsRule h0) id v (left_of v) (right_of v)
+pub splits : (h0 : SpaceHistory) (id : ℕ) (v : View) → id ≡ 0 → v.state ≡ Idle → 1 < v.parts → v.drawn ≤ 2147483648 * (v.parts - 1) → Splits (KeepsRule h0) id v (left_of v) (right_of v)
 splits h0 id v first idle some_parts room s r at =
     let l : View = left_of v in
     let n : View = right_of v in
@@ -463,7 +463,7 @@ splits h0 id v first idle some_parts room s r at =
       order = r.order;
       legal = r.legal;
       home = r.home;
-      caller = λ is. let c = caller_else h0 s r id v l r.owner at (quiet_idle v.stage idle) (λ t lt. refl) is in (c.0, at_longer vs (n ∷ []) (r.owner r.serving) c.0 c.1, c.2);
+      caller = λ is. let c = caller_else h0 s r id v l r.owner at (quiet_idle v.state idle) (λ t lt. refl) is in (c.0, at_longer vs (n ∷ []) (r.owner r.serving) c.0 c.1, c.2);
       each = λ j u e. ⊎_elim
           (λ was. all_set Now s.views id l (record { mine = λ _. mine; room = room; still = λ zero. absurd (omega (arith, zero, some_parts)); waits = f.waits }) (λ k y other e'. r.each k y e') j u was)
           (λ (t : (j ≡ length vs) × (n ≡ u)). subst (Now j) t.1 (let place : j ≡ suc v.made = t.0 ∙ size in record {
@@ -541,7 +541,7 @@ longer_begins : (log xs ys : Events) → StartsWith log xs → StartsWith log ys
 longer_begins log xs ys p q true is = let lt = ltb-true (length xs) (length ys) is in (shorter log xs ys p q (omega (arith, lt)), ([], sym (append-nil ys)))
 longer_begins log xs ys p q false is = let le = ltb-false (length xs) (length ys) is in (([], sym (append-nil xs)), shorter log ys xs q p le)
 
-pub absorbs : (h0 : SpaceHistory) (id : ℕ) (v : View) → v.stage ≡ Idle → 0 < v.parts → Allows (KeepsRule h0) 1 id (v, []) 0 (λ n. n) (absorbed (step 1 0 0 0 none) (v, []))
+pub absorbs : (h0 : SpaceHistory) (id : ℕ) (v : View) → v.state ≡ Idle → 0 < v.parts → Allows (KeepsRule h0) 1 id (v, []) 0 (λ n. n) (AbsorbsSeen (step 1 0 0 0 none) (v, []))
 absorbs h0 id v idle part s r deep at fits =
     let n : ℕ = slice_index s.words 0 in
     let log : Events = h0.events ++ r.tail in
@@ -559,7 +559,7 @@ absorbs h0 id v idle part s r deep at fits =
       keeps,
       tt,
       stepped_kept h0 s r id v w r.ticket r.serving r.tail r.out r.owner (slice_set s.words 0 n) s.homes at (refl, refl, refl) (stays h0 s r)
-          (ap (λ ws. slice_set ws 0 (slice_index ws 0)) r.words) r.order r.legal r.home (caller_else h0 s r id v w r.owner at (quiet_idle v.stage idle) (λ k lt. refl))
+          (ap (λ ws. slice_set ws 0 (slice_index ws 0)) r.words) r.order r.legal r.home (caller_else h0 s r id v w r.owner at (quiet_idle v.state idle) (λ k lt. refl))
           (record {
             mine = λ _. record { numbered = mine.numbered; configured = mine.configured; opened = mine.opened; begun = end; begun_heard = mine.begun_heard; owned = mine.owned; owned_seen = own_is };
             room = f.room;
@@ -571,7 +571,7 @@ absorbs h0 id v idle part s r deep at fits =
     )
 
 -- the first seat takes another's view in
-pub joins : (h0 : SpaceHistory) (id : ℕ) (v : View) (other : ℕ) (w : View) → id ≡ 0 → v.stage ≡ Idle → 0 < v.parts → w.stage ≡ Idle → 0 < w.parts → Joins (KeepsRule h0) id v other w (both_of v w) spent
+pub joins : (h0 : SpaceHistory) (id : ℕ) (v : View) (other : ℕ) (w : View) → id ≡ 0 → v.state ≡ Idle → 0 < v.parts → w.state ≡ Idle → 0 < w.parts → Joins (KeepsRule h0) id v other w (both_of v w) spent_seat
 joins h0 id v other w first idle part idle' part' s r at two there =
     let b : View = both_of v w in
     let vs : List View = set s.views id b in
@@ -581,13 +581,13 @@ joins h0 id v other w first idle part idle' part' s r at two there =
     let g = r.each other w was in
     let theirs = g.mine part' in
     let at_first : get_elem? s.views 0 ≡ some v = subst (λ k. get_elem? s.views k ≡ some v) first at in
-    let size : length (set vs other spent) ≡ length s.views = length-set vs other spent ∙ length-set s.views id b in
+    let size : length (set vs other spent_seat) ≡ length s.views = length-set vs other spent_seat ∙ length-set s.views id b in
     let Now : ℕ → View → Type 0 = SeatFits h0 r.tail r.ticket r.serving r.out r.owner in
-    let is_first : (u : View) → get_elem? (set vs other spent) 0 ≡ some u → b ≡ u = λ u e. ⊎_elim
-    (λ (x : (0 ≡ other) × (spent ≡ u)). absurd (two (sym x.0 ∙ sym first)))
+    let is_first : (u : View) → get_elem? (set vs other spent_seat) 0 ≡ some u → b ≡ u = λ u e. ⊎_elim
+    (λ (x : (0 ≡ other) × (spent_seat ≡ u)). absurd (two (sym x.0 ∙ sym first)))
     (λ (x : (0 ≢ other) × (get_elem? vs 0 ≡ some u)). ⊎_elim (λ (y : (0 ≡ id) × (b ≡ u)). y.1) (λ (y : (0 ≢ id) × (get_elem? s.views 0 ≡ some u)). absurd (y.0 (sym first))) (at_set s.views id 0 b u x.1))
-    (at_set vs other 0 spent u e) in
-    let far : (k : ℕ) (u : View) → get_elem? s.views k ≡ some u → k ≢ id → k ≢ other → get_elem? (set vs other spent) k ≡ some u = λ k u e a c. set_else vs other k spent c ∙ (set_else s.views id k b a ∙ e) in
+    (at_set vs other 0 spent_seat u e) in
+    let far : (k : ℕ) (u : View) → get_elem? s.views k ≡ some u → k ≢ id → k ≢ other → get_elem? (set vs other spent_seat) k ≡ some u = λ k u e a c. set_else vs other k spent_seat c ∙ (set_else s.views id k b a ∙ e) in
     record {
       ticket = r.ticket;
       serving = r.serving;
@@ -600,10 +600,10 @@ joins h0 id v other w first idle part idle' part' s r at two there =
       home = r.home;
       caller = λ is.
           let c = r.caller is in
-          let apart : r.owner r.serving ≢ id = λ e. not_called v.stage r.serving (h0.events ++ r.tail) (quiet_idle v.stage idle) (ap (λ (y : View). y.stage) (same_at s.views id v c.0 at (subst (λ k. get_elem? s.views k ≡ some c.0) e c.1)) ∙ c.2) in
-          let apart' : r.owner r.serving ≢ other = λ e. not_called w.stage r.serving (h0.events ++ r.tail) (quiet_idle w.stage idle') (ap (λ (y : View). y.stage) (same_at s.views other w c.0 was (subst (λ k. get_elem? s.views k ≡ some c.0) e c.1)) ∙ c.2) in
+          let apart : r.owner r.serving ≢ id = λ e. not_called v.state r.serving (h0.events ++ r.tail) (quiet_idle v.state idle) (ap (λ (y : View). y.state) (same_at s.views id v c.0 at (subst (λ k. get_elem? s.views k ≡ some c.0) e c.1)) ∙ c.2) in
+          let apart' : r.owner r.serving ≢ other = λ e. not_called w.state r.serving (h0.events ++ r.tail) (quiet_idle w.state idle') (ap (λ (y : View). y.state) (same_at s.views other w c.0 was (subst (λ k. get_elem? s.views k ≡ some c.0) e c.1)) ∙ c.2) in
           (c.0, far (r.owner r.serving) c.0 c.1 apart apart', c.2);
-      each = all_set Now vs other spent (record { mine = λ lt. absurd (omega (arith, lt)); room = omega arith; still = λ _. refl; waits = tt })
+      each = all_set Now vs other spent_seat (record { mine = λ lt. absurd (omega (arith, lt)); room = omega arith; still = λ _. refl; waits = tt })
           (λ j u apart e. all_set Now s.views id b
           (record {
             mine = λ _. record {
@@ -621,8 +621,8 @@ joins h0 id v other w first idle part idle' part' s r at two there =
           })
           (λ k y other' e'. r.each k y e') j u e);
       strangers = λ k le. r.strangers k (omega (arith, le, size));
-      drawn = let x = sum_set (λ (y : View). y.drawn) s.views id v b at in let y = sum_set (λ (y : View). y.drawn) vs other w spent there in let d = r.drawn in omega (arith, x, y, d);
-      parts = let x = sum_set (λ (y : View). y.parts) s.views id v b at in let y = sum_set (λ (y : View). y.parts) vs other w spent there in let d = r.parts in omega (arith, x, y, d);
+      drawn = let x = sum_set (λ (y : View). y.drawn) s.views id v b at in let y = sum_set (λ (y : View). y.drawn) vs other w spent_seat there in let d = r.drawn in omega (arith, x, y, d);
+      parts = let x = sum_set (λ (y : View). y.parts) s.views id v b at in let y = sum_set (λ (y : View). y.parts) vs other w spent_seat there in let d = r.parts in omega (arith, x, y, d);
       counted = λ u e. size ∙ (r.counted v at_first ∙ ap (λ (y : View). suc y.made) (is_first u e));
       ended = λ u e p has. ⊎_elim
           (λ before.
@@ -630,16 +630,16 @@ joins h0 id v other w first idle part idle' part' s r at two there =
           let apart : p.0 ≢ id = λ same. let gone : v.parts ≡ 0 = ap (λ (y : View). y.parts) (same_at s.views id v old.1.0 at (subst (λ k. get_elem? s.views k ≡ some old.1.0) same old.1.1)) ∙ old.1.2 in absurd (omega (arith, gone, part)) in
           let apart' : p.0 ≢ other = λ same. let gone : w.parts ≡ 0 = ap (λ (y : View). y.parts) (same_at s.views other w old.1.0 was (subst (λ k. get_elem? s.views k ≡ some old.1.0) same old.1.1)) ∙ old.1.2 in absurd (omega (arith, gone, part')) in
           (old.0, (old.1.0, far p.0 old.1.0 old.1.1 apart apart', old.1.2)))
-          (λ now. subst (HasEnded r.tail (set vs other spent)) now (ap (λ k. events_by k r.tail) theirs.numbered ∙ theirs.owned, (spent, subst (λ k. get_elem? (set vs other spent) k ≡ some spent) (sym theirs.numbered) (set_here vs other spent (within vs other w there)), refl)))
+          (λ now. subst (HasEnded r.tail (set vs other spent_seat)) now (ap (λ k. events_by k r.tail) theirs.numbered ∙ theirs.owned, (spent_seat, subst (λ k. get_elem? (set vs other spent_seat) k ≡ some spent_seat) (sym theirs.numbered) (set_here vs other spent_seat (within vs other w there)), refl)))
           (contains_end v.ended (w.number, w.own) p (subst (λ x. Contains x p) (ap (λ (y : View). y.ended) (sym (is_first u e))) has));
       spent_ones = λ u e j y e' nil. subst (λ (z : List (ℕ × Events)). (h : Events) × Contains z (j, h)) (ap (λ (z : View). z.ended) (is_first u e))
           (⊎_elim
-          (λ (x : (j ≡ other) × (spent ≡ y)). (w.own, subst (λ k. Contains (v.ended ++ (w.number, w.own) ∷ []) (k, w.own)) (theirs.numbered ∙ sym x.0) (Contains-append_right v.ended ((w.number, w.own) ∷ []) (w.number, w.own) (0, omega arith, refl))))
+          (λ (x : (j ≡ other) × (spent_seat ≡ y)). (w.own, subst (λ k. Contains (v.ended ++ (w.number, w.own) ∷ []) (k, w.own)) (theirs.numbered ∙ sym x.0) (Contains-append_right v.ended ((w.number, w.own) ∷ []) (w.number, w.own) (0, omega arith, refl))))
           (λ (x : (j ≢ other) × (get_elem? vs j ≡ some y)).
           let old = ⊎_elim (λ (z : (j ≡ id) × (b ≡ y)). let m : v.parts + w.parts ≡ 0 = ap (λ (q : View). q.parts) z.1 ∙ nil in absurd (omega (arith, m, part)))
           (λ (z : (j ≢ id) × (get_elem? s.views j ≡ some y)). r.spent_ones v at_first j y z.1 nil) (at_set s.views id j b y x.1) in
           (old.0, Contains-append_left v.ended ((w.number, w.own) ∷ []) (j, old.0) old.1))
-          (at_set vs other j spent y e'));
+          (at_set vs other j spent_seat y e'));
     }
 
 pub starts : (h0 : SpaceHistory) → IsLegal h0.configuration h0.events → KeepsRule h0 (opening (0 ∷ 0 ∷ length h0.events ∷ []) (Some h0 ∷ []) (root h0))
@@ -687,7 +687,7 @@ starts h0 legal =
     none_in p has = let lt = has.1 in absurd (omega (arith, lt))
 
 -- once every part is back, the slot is at home, and the events are those of the first seat and of the ended passes
-pub closes : (h0 : SpaceHistory) (id : ℕ) (v : View) (ws : List ℕ) (xs : List (Option SpaceHistory)) → id ≡ 0 → v.parts ≡ 2147483649 → v.stage ≡ Idle
+pub closes : (h0 : SpaceHistory) (id : ℕ) (v : View) (ws : List ℕ) (xs : List (Option SpaceHistory)) → id ≡ 0 → v.parts ≡ 2147483649 → v.state ≡ Idle
     → Final (Seen (KeepsRule h0) id v) ws xs → (h : SpaceHistory) × (get_elem? xs 0 ≡ some (Some h)) × Settled h0 v h
 closes h0 id v ws xs first whole idle final =
     let s : St = final.0 in
@@ -696,7 +696,7 @@ closes h0 id v ws xs first whole idle final =
     let at_first : get_elem? s.views 0 ≡ some v = subst (λ k. get_elem? s.views k ≡ some v) first at in
     let part : 0 < v.parts = omega (arith, whole) in
     let mine = (r.each id v at).mine part in
-    let gone : (j : ℕ) (u : View) → get_elem? s.views j ≡ some u → j ≢ id → u.parts ≡ 0 = λ j u e apart. sum_rest (λ (y : View). y.parts) s.views id j v u spent at e apart (r.parts ∙ sym whole) refl in
+    let gone : (j : ℕ) (u : View) → get_elem? s.views j ≡ some u → j ≢ id → u.parts ≡ 0 = λ j u e apart. sum_rest (λ (y : View). y.parts) s.views id j v u spent_seat at e apart (r.parts ∙ sym whole) refl in
     let quiet : r.out ≡ false = settled_out h0 s r id v at idle gone r.out refl in
     let last : SpaceHistory = space_with h0.configuration (h0.events ++ r.tail) in
     let home : s.homes ≡ some (Some last) ∷ [] = r.home ∙ ap (λ b. at_home b last ∷ []) quiet in (
@@ -722,11 +722,11 @@ closes h0 id v ws xs first whole idle final =
     there (x ∷ xs) zero lt = (x, refl)
     there (x ∷ xs) (suc n) lt = there xs n (omega (arith, lt))
 
-    settled_out : (h0 : SpaceHistory) (s : St) (r : KeepsRule h0 s) (id : ℕ) (v : View) → get_elem? s.views id ≡ some v → v.stage ≡ Idle → ((j : ℕ) (u : View) → get_elem? s.views j ≡ some u → j ≢ id → u.parts ≡ 0)
+    settled_out : (h0 : SpaceHistory) (s : St) (r : KeepsRule h0 s) (id : ℕ) (v : View) → get_elem? s.views id ≡ some v → v.state ≡ Idle → ((j : ℕ) (u : View) → get_elem? s.views j ≡ some u → j ≢ id → u.parts ≡ 0)
         → (b : Bool) → r.out ≡ b → b ≡ false
     settled_out h0 s r id v at idle gone false is = refl
     settled_out h0 s r id v at idle gone true is =
         let c = r.caller is in
         absurd (dite (ℕ_discrete (r.owner r.serving) id)
-        (λ e. not_called v.stage r.serving (h0.events ++ r.tail) (quiet_idle v.stage idle) (ap (λ (y : View). y.stage) (same_at s.views id v c.0 at (subst (λ k. get_elem? s.views k ≡ some c.0) e c.1)) ∙ c.2))
-        (λ apart. not_called c.0.stage r.serving (h0.events ++ r.tail) (quiet_idle c.0.stage ((r.each (r.owner r.serving) c.0 c.1).still (gone (r.owner r.serving) c.0 c.1 apart))) c.2))
+        (λ e. not_called v.state r.serving (h0.events ++ r.tail) (quiet_idle v.state idle) (ap (λ (y : View). y.state) (same_at s.views id v c.0 at (subst (λ k. get_elem? s.views k ≡ some c.0) e c.1)) ∙ c.2))
+        (λ apart. not_called c.0.state r.serving (h0.events ++ r.tail) (quiet_idle c.0.state ((r.each (r.owner r.serving) c.0 c.1).still (gone (r.owner r.serving) c.0 c.1 apart))) c.2))

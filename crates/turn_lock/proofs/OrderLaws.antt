@@ -8,8 +8,8 @@ use Rattle.history.specs.Steps.{turn_of}
 use Rattle.space.specs.Acts.{event_of}
 use Rattle.history.specs.declared.replies.Refused.{Refused}
 use Rattle.history.specs.declared.replies.Turn.{Turn}
-use Rattle.space.specs.Balance.{WentAmong}
-use Rattle.space.specs.Ports.{GoesBy, entries_of}
+use Rattle.ports.specs.Balance.{WentAmong}
+use Rattle.ports.specs.Ports.{GoesBy, entries_of}
 use Rattle.space.specs.declared.asked.Asked.{Asked}
 use Rattle.space.specs.declared.asked.AskedEnd.{AskedEnd}
 use Rattle.space.specs.declared.asked.AskedEnd.TheVariants.{Turned, Abandoned, Refused as Denied}
@@ -18,7 +18,7 @@ use Rattle.turn_lock.specs.declared.view.View.{View}
 use Rattle.turn_lock.specs.Rule.{Events}
 use Rattle.turn_lock.specs.declared.handles.Pass.{Pass}
 use Rattle.turn_lock.specs.Handles.{view_of}
-use Rattle.turn_lock.specs.Ports.{PassWent}
+use Rattle.turn_lock.specs.PassPorts.{PassWent}
 use Rattle.turn_lock.specs.Orders.{RuleOrders, EntriesCollect, TurnCollects, IsTaken}
 use Rattle.turn_lock.proofs.Views.{same_at}
 

@@ -9,24 +9,24 @@ use Rattle.history.specs.declared.asks.Ask.TheVariants.{Abandon}
 use Rattle.history.specs.declared.replies.Refused.{Refused}
 use Rattle.history.specs.declared.replies.Refused.TheVariants.{OutOfMemory}
 use Rattle.history.specs.declared.replies.Turn.{Turn}
-use Rattle.history.specs.Running.{running}
+use Rattle.history.specs.Running.{running_calls_by}
 use Rattle.history.specs.Steps.{IsLegal, Step, turn_of}
 use Rattle.history.specs.Table.{places}
 use Rattle.history.proofs.StepLaws.{IsLegal-step}
 use Rattle.space.specs.Acts.{event_of}
-use Rattle.space.specs.Balance.{AreOfOthers, WentAmong}
+use Rattle.ports.specs.Balance.{AreOfOthers, WentAmong}
 use Rattle.space.specs.Entries.{end_of, entry_of}
-use Rattle.space.specs.Ports.{GoesBy, Shows, abandoned_at}
-use Rattle.space.specs.Ties.{IsTied}
+use Rattle.ports.specs.Ports.{GoesBy, Shows, abandoned_at}
+use Rattle.ports.specs.Ties.{IsTied}
 use Rattle.space.specs.declared.asked.Asked.{Asked}
 use Rattle.space.proofs.NotedLaws.{taken-turn, refused-turn}
-use Rattle.space.proofs.TieSteps.{tied-answered, tied-abandoned, tied-as, shown-runs}
+use Rattle.ports.proofs.TieSteps.{tied-answered, tied-abandoned, tied-as, shown-runs}
 use Rattle.turn_lock.specs.declared.view.View.{View}
 use Rattle.turn_lock.specs.declared.handles.Pass.{Pass}
 use Rattle.turn_lock.specs.Rule.{Events, MayComeTo, TurnedAt, own_after, space_with}
 use Rattle.turn_lock.specs.Handles.{seen_space, view_of}
 use Rattle.turn_lock.specs.Answers.{Gained, taken_of, events_of}
-use Rattle.turn_lock.specs.Ports.{PortWent}
+use Rattle.turn_lock.specs.PassPorts.{PortWent}
 use Rattle.turn_lock.specs.PortLaws.{pass_self}
 use Rattle.turn_lock.proofs.Turning.{runs_there}
 
@@ -78,9 +78,9 @@ tied_ended v w before by m o answer entries entries2 place room room2 number ok 
     tied_view v w before by m (Abandon o) answer entries2 room2 t (tied-as v.number (space_with v.config w.seen) (entries ++ abandoned_at m o place ∷ []) entries2 room room2 longer more next)
 
 -- A call that the entries show runs in what the pass has seen, and wherever it may come to.
-pub shown_there : (v : View) (before : Events) (by : ℕ) (entries : List Asked) (room : ℕ) (o : ObjId) → by ≡ v.number → MayComeTo v before → IsTied v.number (seen_space v) entries room → Shows entries o → 0 < running (places v.config before) by o
+pub shown_there : (v : View) (before : Events) (by : ℕ) (entries : List Asked) (room : ℕ) (o : ObjId) → by ≡ v.number → MayComeTo v before → IsTied v.number (seen_space v) entries room → Shows entries o → 0 < running_calls_by (places v.config before) by o
 shown_there v before by entries room o number came tied shows =
-    subst (λ (n : ℕ). 0 < running (places v.config before) n o) (sym number) (shown-runs v.number (space_with v.config before) entries room o (tied_there v before entries room came tied) shows)
+    subst (λ (n : ℕ). 0 < running_calls_by (places v.config before) n o) (sym number) (shown-runs v.number (space_with v.config before) entries room o (tied_there v before entries room came tied) shows)
 
 -- ---- how it led on
 
@@ -120,7 +120,7 @@ gained_unentered v w before e t = gained_by v w before e (Err OutOfMemory) [] t 
     (t.came.others, t.came.apart, (refused-turn v.config before w.seen e OutOfMemory t.step).1 ∙ t.came.after)
 
 gained_ended : (v w : View) (before : Events) (m : ℕ) (o : ObjId) (place : ℕ) → TurnedAt v before (event_of v.number m (Abandon o)) (Ok (turn_of v.config before (event_of v.number m (Abandon o)))) w → place ≡ length before
-    → 0 < running (places v.config before) v.number o → Gained v w (abandoned_at m o place ∷ [])
+    → 0 < running_calls_by (places v.config before) v.number o → Gained v w (abandoned_at m o place ∷ [])
 gained_ended v w before m o place t at runs =
     gained_by v w before (event_of v.number m (Abandon o)) (Ok (turn_of v.config before (event_of v.number m (Abandon o)))) (abandoned_at m o place ∷ []) t refl
     (among_one v.config v.number v.seen t.came.others before w.seen (abandoned_at m o place) t.came.apart t.came.after (runs, at, t.step))
@@ -139,16 +139,16 @@ went_unentered p q xs ys before e t same_list same room =
     went_by p q xs ys [] (same_list ∙ sym (append-nil xs)) (gained_unentered (view_of p) (view_of q) before e t) (ap (λ (y : View). y.drawn) t.after) same room
 
 pub went_ended : (p q : Pass) (xs ys : List Asked) (before : Events) (by m : ℕ) (o : ObjId) (place : ℕ) → by ≡ (view_of p).number → TurnedAt (view_of p) before (event_of by m (Abandon o)) (Ok (turn_of (view_of p).config before (event_of by m (Abandon o)))) (view_of q)
-    → place ≡ length before → 0 < running (places (view_of p).config before) by o → ys ≡ xs ++ abandoned_at m o place ∷ [] → q.seat.id ≡ p.seat.id → q.room + 1 ≡ p.room → PortWent p xs q ys
+    → place ≡ length before → 0 < running_calls_by (places (view_of p).config before) by o → ys ≡ xs ++ abandoned_at m o place ∷ [] → q.seat.id ≡ p.seat.id → q.room + 1 ≡ p.room → PortWent p xs q ys
 went_ended p q xs ys before by m o place number t at runs longer same room =
     let v = view_of p in
-    let P : ℕ → Type 0 = λ n. TurnedAt v before (event_of n m (Abandon o)) (Ok (turn_of v.config before (event_of n m (Abandon o)))) (view_of q) × (0 < running (places v.config before) n o) in
+    let P : ℕ → Type 0 = λ n. TurnedAt v before (event_of n m (Abandon o)) (Ok (turn_of v.config before (event_of n m (Abandon o)))) (view_of q) × (0 < running_calls_by (places v.config before) n o) in
     let both : P v.number = subst P number (t, runs) in
     went_by p q xs ys (abandoned_at m o place ∷ []) longer (gained_ended v (view_of q) before m o place both.0 at both.1) (ap (λ (y : View). y.drawn) t.after) same room
 
 -- The same in what it has seen.
-pub shown_now : (v : View) (by : ℕ) (entries : List Asked) (room : ℕ) (o : ObjId) → by ≡ v.number → IsTied v.number (seen_space v) entries room → Shows entries o → 0 < running (places v.config v.seen) by o
-shown_now v by entries room o number tied shows = subst (λ (n : ℕ). 0 < running (places v.config v.seen) n o) (sym number) (shown-runs v.number (seen_space v) entries room o tied shows)
+pub shown_now : (v : View) (by : ℕ) (entries : List Asked) (room : ℕ) (o : ObjId) → by ≡ v.number → IsTied v.number (seen_space v) entries room → Shows entries o → 0 < running_calls_by (places v.config v.seen) by o
+shown_now v by entries room o number tied shows = subst (λ (n : ℕ). 0 < running_calls_by (places v.config v.seen) n o) (sym number) (shown-runs v.number (seen_space v) entries room o tied shows)
 
 pub went_same : (p : Pass) (xs ys : List Asked) → ys ≡ xs → PortWent p xs p ys
 went_same p xs ys same = ([], same ∙ sym (append-nil xs), pass_self p)

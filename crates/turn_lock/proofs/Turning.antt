@@ -10,20 +10,20 @@ use Rattle.history.specs.declared.asks.Event.{Event}
 use Rattle.history.specs.declared.replies.Refused.{Refused}
 use Rattle.history.specs.declared.replies.Refused.TheVariants.{OutOfMemory}
 use Rattle.history.specs.declared.replies.Turn.{Turn}
-use Rattle.history.specs.Running.{running}
+use Rattle.history.specs.Running.{running_calls_by}
 use Rattle.history.specs.Steps.{Step}
 use Rattle.history.specs.Table.{places}
 use Rattle.space.specs.Acts.{event_of}
-use Rattle.space.specs.Balance.{AreOfOthers}
+use Rattle.ports.specs.Balance.{AreOfOthers}
 use Rattle.space.specs.Built.{SpaceHistory}
 use Rattle.space.specs.Entries.{entry_of}
-use Rattle.space.specs.Ports.{IsAnswerTo}
+use Rattle.space.specs.TurnAnswers.{IsAnswerTo}
 use Rattle.space.specs.declared.asked.Asked.{Asked}
-use Rattle.space.proofs.BalanceLaws.{calls-add-up}
+use Rattle.ports.proofs.BalanceLaws.{calls-add-up}
 use Rattle.space.proofs.NotedLaws.{taken-turn, refused-turn}
 use Rattle.turn_lock.specs.declared.view.View.{View}
-use Rattle.turn_lock.specs.declared.view.Stage.TheVariants.{Idle}
-use Rattle.turn_lock.specs.Rule.{Events, Sat, MayComeTo, TurnedAt, TurnedBy, answer_of, events_after, in_hand, in_stage, no_config, own_after, space_with, told_of}
+use Rattle.turn_lock.specs.declared.view.SeatState.TheVariants.{Idle}
+use Rattle.turn_lock.specs.Rule.{Events, Sat, MayComeTo, TurnedAt, TurnedBy, answer_of, events_after, in_hand, in_state, no_config, own_after, space_with, seat_after_answer}
 
 -- ---- the slot
 
@@ -71,27 +71,27 @@ after_step config h h2 e (Err refused) s = (refused-turn config h h2 e refused s
 
 -- The seat once its turn is over.
 abbrev pub after_turn : View → ℕ → Events → Event → Result Turn Refused → View
-after_turn v t h e answer = in_stage (told_of (in_hand v t h) t h e answer) Idle
+after_turn v t h e answer = in_state (seat_after_answer (in_hand v t h) t h e answer) Idle
 
-pub turned_at : (v w : View) (t : ℕ) (h : Events) (e : Event) (answer : Result Turn Refused) (h2 : Events) → v.stage ≡ Idle → MayComeTo v h → Step v.config h e answer h2 → w ≡ after_turn v t h e answer → TurnedAt v h e answer w
+pub turned_at : (v w : View) (t : ℕ) (h : Events) (e : Event) (answer : Result Turn Refused) (h2 : Events) → v.state ≡ Idle → MayComeTo v h → Step v.config h e answer h2 → w ≡ after_turn v t h e answer → TurnedAt v h e answer w
 turned_at v w t h e answer h2 idle came step is =
     let seen : w.seen ≡ events_after h e answer = ap (λ (y : View). y.seen) is in record {
       came = came;
       step = subst (λ (z : Events). Step v.config h e answer z) (after_step v.config h h2 e answer step ∙ sym seen) step;
-      after = is ∙ (λ i. record v { drawn = v.drawn + 1; seen = sym seen i; own = own_after v.own e answer; stage = sym idle i });
+      after = is ∙ (λ i. record v { drawn = v.drawn + 1; seen = sym seen i; own = own_after v.own e answer; state = sym idle i });
     }
 
 -- Other connections' events leave the calls that a connection runs.
-pub runs_there : (config : SpaceConfig) (by : ℕ) (seen others h : Events) (o : ObjId) → AreOfOthers by others → h ≡ seen ++ others → running (places config h) by o ≡ running (places config seen) by o
+pub runs_there : (config : SpaceConfig) (by : ℕ) (seen others h : Events) (o : ObjId) → AreOfOthers by others → h ≡ seen ++ others → running_calls_by (places config h) by o ≡ running_calls_by (places config seen) by o
 runs_there config by seen others h o apart is = let sum = calls-add-up config by seen h [] o (others, apart, is) in omega (arith, sum)
 
 -- The answer of the ask's row, by the history that the space had.
 pub noted_row : (noted : Result (Result Turn Refused × Asked) AllocError) (config : SpaceConfig) (h : Events) (by : ℕ) (a : Ask) (s : SpaceHistory) → s ≡ space_with config h
-    → IfOk noted (λ x. IsAnswerTo (λ o. 0 < running (places s.configuration s.events) by o) a x.0) → IfOk noted (λ x. IsAnswerTo (λ o. 0 < running (places config h) by o) a x.0)
-noted_row noted config h by a s is row = subst (λ (y : SpaceHistory). IfOk noted (λ x. IsAnswerTo (λ o. 0 < running (places y.configuration y.events) by o) a x.0)) is row
+    → IfOk noted (λ x. IsAnswerTo (λ o. 0 < running_calls_by (places s.configuration s.events) by o) a x.0) → IfOk noted (λ x. IsAnswerTo (λ o. 0 < running_calls_by (places config h) by o) a x.0)
+noted_row noted config h by a s is row = subst (λ (y : SpaceHistory). IfOk noted (λ x. IsAnswerTo (λ o. 0 < running_calls_by (places y.configuration y.events) by o) a x.0)) is row
 
 -- What a turn came to, by how its entry was made.
 pub noted_cases : (noted : Result (Result Turn Refused × Asked) AllocError) (v w : View) (before : Events) (by m : ℕ) (a : Ask) → TurnedAt v before (event_of by m a) (answer_of noted) w
-    → IfOk noted (λ x. IsAnswerTo (λ o. 0 < running (places v.config before) by o) a x.0) → MatchResult noted (λ x. TurnedBy v by m a x.0 w) (λ refused. TurnedBy v by m a (Err OutOfMemory) w)
+    → IfOk noted (λ x. IsAnswerTo (λ o. 0 < running_calls_by (places v.config before) by o) a x.0) → MatchResult noted (λ x. TurnedBy v by m a x.0 w) (λ refused. TurnedBy v by m a (Err OutOfMemory) w)
 noted_cases (Ok x) v w before by m a t row = (before, t, row)
 noted_cases (Err r) v w before by m a t row = (before, t, tt)

@@ -1,7 +1,7 @@
 -- What the entries of one pass say of the history.
 use Rattle.std.specs.Prelude.{◌≡◌, ℕ, List, [], ◌∷◌, ◌++◌}
 use Rattle.space.specs.Acts.{event_of}
-use Rattle.space.specs.Balance.{WentAmong}
+use Rattle.ports.specs.Balance.{WentAmong}
 use Rattle.space.specs.declared.asked.Asked.{Asked}
 use Rattle.space.specs.declared.asked.AskedEnd.{AskedEnd}
 use Rattle.space.specs.declared.asked.AskedEnd.TheVariants.{Turned, Abandoned, Refused as Denied}

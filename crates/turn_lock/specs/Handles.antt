@@ -3,7 +3,7 @@ use Rattle.std.specs.Prelude.{◌≡◌, ◌+◌, ◌-◌, ◌*◌, ◌<◌, ◌
 use Rattle.history.specs.Steps.{IsLegal}
 use Rattle.space.specs.Built.{SpaceHistory}
 use Rattle.turn_lock.specs.declared.view.View.{View}
-use Rattle.turn_lock.specs.declared.view.Stage.TheVariants.{Idle}
+use Rattle.turn_lock.specs.declared.view.SeatState.TheVariants.{Idle}
 use Rattle.turn_lock.specs.declared.handles.TurnLock.{TurnLock}
 use Rattle.turn_lock.specs.declared.handles.Pass.{Pass}
 use Rattle.turn_lock.specs.declared.handles.Root.{Root}
@@ -25,7 +25,7 @@ seen_space v = space_with v.config v.seen
 pub record IsPassOf (l : TurnLock) (p : Pass) : Type 0 where
   pub table : p.seat.table_id ≡ l.board.shared.table_id
   pub empty : p.seat.me.1 ≡ []
-  pub idle : p.seat.me.0.stage ≡ Idle
+  pub idle : p.seat.me.0.state ≡ Idle
   pub numbered : p.number ≡ p.seat.me.0.number
   pub part : 0 < p.seat.me.0.parts
   pub configured : p.seat.me.0.config ≡ l.board.shared.key.value.configuration

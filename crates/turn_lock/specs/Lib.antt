@@ -3,5 +3,5 @@ pub mod Handles
 pub mod Lending
 pub mod Orders
 pub mod PortLaws
-pub mod Ports
+pub mod PassPorts
 pub mod Rule

@@ -9,7 +9,7 @@ use Rattle.history.specs.Collector.{Collects}
 use Rattle.history.specs.Steps.{IsLegal}
 use Rattle.space.specs.Acts.{event_of}
 use Rattle.space.specs.Built.{SpaceHistory}
-use Rattle.space.specs.Ports.{GoesBy}
+use Rattle.ports.specs.Ports.{GoesBy}
 use Rattle.space.specs.declared.asked.Asked.{Asked}
 use Rattle.space.specs.declared.asked.AskedEnd.{AskedEnd}
 use Rattle.space.specs.declared.asked.AskedEnd.TheVariants.{Turned, Abandoned, Refused as Denied}

@@ -1,8 +1,8 @@
 -- Turns one after another.
 use Rattle.std.proofs.Common.{◌≡◌, ℕ, List, [], ◌∷◌, ◌++◌, sym, refl, ap, ◌∙◌, subst, append_assoc, append-nil, arith}
 use Rattle.history.specs.declared.asks.SpaceConfig.{SpaceConfig}
-use Rattle.space.specs.Balance.{AreOfOthers, WentAmong}
-use Rattle.space.specs.Ports.{GoesBy}
+use Rattle.ports.specs.Balance.{AreOfOthers, WentAmong}
+use Rattle.ports.specs.Ports.{GoesBy}
 use Rattle.space.specs.declared.asked.Asked.{Asked}
 use Rattle.turn_lock.specs.declared.view.View.{View}
 use Rattle.turn_lock.specs.declared.handles.Pass.{Pass}
@@ -12,7 +12,7 @@ use Rattle.turn_lock.specs.Rule.{Events}
 use Rattle.turn_lock.specs.Handles.{IsPassOf, IsRootOf, view_of}
 use Rattle.turn_lock.specs.Lending.{with_pass}
 use Rattle.turn_lock.specs.Answers.{Gained, taken_of, events_of}
-use Rattle.turn_lock.specs.Ports.{PassWent, PortWent}
+use Rattle.turn_lock.specs.PassPorts.{PassWent, PortWent}
 
 -- ---- histories
 

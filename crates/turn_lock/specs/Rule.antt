@@ -13,16 +13,16 @@ use Rattle.history.specs.declared.replies.Refused.{Refused}
 use Rattle.history.specs.declared.replies.Refused.TheVariants.{OutOfMemory}
 use Rattle.history.specs.declared.replies.Turn.{Turn}
 use Rattle.history.specs.Steps as history
-use Rattle.history.specs.Running.{running}
+use Rattle.history.specs.Running.{running_calls_by}
 use Rattle.history.specs.Table.{with_event, places}
 use Rattle.space.specs.Acts.{event_of}
-use Rattle.space.specs.Balance.{AreOfOthers}
+use Rattle.ports.specs.Balance.{AreOfOthers}
 use Rattle.space.specs.Built.{SpaceHistory}
-use Rattle.space.specs.Ports.{IsAnswerTo}
+use Rattle.space.specs.TurnAnswers.{IsAnswerTo}
 use Rattle.space.specs.declared.asked.Asked.{Asked}
 use Rattle.turn_lock.specs.declared.view.View.{View}
-use Rattle.turn_lock.specs.declared.view.Stage.{Stage}
-use Rattle.turn_lock.specs.declared.view.Stage.TheVariants.{Idle, Drawn, Called}
+use Rattle.turn_lock.specs.declared.view.SeatState.{SeatState}
+use Rattle.turn_lock.specs.declared.view.SeatState.TheVariants.{Idle, Drawn, Called}
 
 -- How many turns a pass makes at most.
 abbrev pub most_turns : ℕ
@@ -61,14 +61,14 @@ some_event = record { by = 0; moment = 0; ask = Tick }
 
 -- The first seat of a table round this space, which has all parts.
 abbrev pub root : SpaceHistory → View
-root s = record { number = 0; parts = 2147483649; drawn = 0; config = s.configuration; opening = s.events; seen = s.events; heard = []; own = []; stage = Idle; made = 0; ended = [] }
+root s = record { number = 0; parts = 2147483649; drawn = 0; config = s.configuration; opening = s.events; seen = s.events; heard = []; own = []; state = Idle; made = 0; ended = [] }
 
 -- A seat that was joined.
-abbrev pub spent : View
-spent = record { number = 0; parts = 0; drawn = 0; config = no_config; opening = []; seen = []; heard = []; own = []; stage = Idle; made = 0; ended = [] }
+abbrev pub spent_seat : View
+spent_seat = record { number = 0; parts = 0; drawn = 0; config = no_config; opening = []; seen = []; heard = []; own = []; state = Idle; made = 0; ended = [] }
 
-abbrev pub in_stage : View → Stage → View
-in_stage v g = record v { stage = g }
+abbrev pub in_state : View → SeatState → View
+in_state v g = record v { state = g }
 
 -- Of the events after the opening ones a history has just these of this number.
 abbrev pub HasOwn : Events → ℕ → Events → Events → Type 0
@@ -95,7 +95,7 @@ at_home false s = some (Some s)
 
 -- What a seat waits for: a ticket that was drawn is its own and still to be served; one that is called has the slot, and the whole history
 -- in hand.
-abbrev pub Waits : ℕ → ℕ → Bool → Events → (ℕ → ℕ) → ℕ → Stage → Type 0
+abbrev pub Waits : ℕ → ℕ → Bool → Events → (ℕ → ℕ) → ℕ → SeatState → Type 0
 Waits ticket serving out log owner j Idle = Unit {0}
 Waits ticket serving out log owner j (Drawn t) = (serving ≤ t) × (t < ticket) × (owner t ≡ j)
 Waits ticket serving out log owner j (Called t hand) = (t ≡ serving) × (t < ticket) × (owner t ≡ j) × (hand ≡ log) × (out ≡ true)
@@ -117,8 +117,8 @@ Knows s tail j v = KnowsOf s tail j v.number v.config v.opening v.seen v.heard v
 pub record SeatFits (s : SpaceHistory) (tail : Events) (ticket serving : ℕ) (out : Bool) (owner : ℕ → ℕ) (j : ℕ) (v : View) : Type 0 where
   pub mine : 0 < v.parts → Knows s tail j v
   pub room : v.drawn ≤ most_turns * v.parts
-  pub still : v.parts ≡ 0 → v.stage ≡ Idle
-  pub waits : Waits ticket serving out (s.events ++ tail) owner j v.stage
+  pub still : v.parts ≡ 0 → v.state ≡ Idle
+  pub waits : Waits ticket serving out (s.events ++ tail) owner j v.state
 
 -- A pass that has ended made these events, and has no part any more.
 abbrev pub HasEnded : Events → List View → ℕ × Events → Type 0
@@ -137,7 +137,7 @@ pub record KeepsRule (s : SpaceHistory) (t : State (Option SpaceHistory) View) :
   pub order : serving ≤ ticket
   pub legal : history.IsLegal s.configuration (s.events ++ tail)
   pub home : t.homes ≡ at_home out (space_with s.configuration (s.events ++ tail)) ∷ []
-  pub caller : out ≡ true → (v : View) × (get_elem? t.views (owner serving) ≡ some v) × (v.stage ≡ Called serving (s.events ++ tail))
+  pub caller : out ≡ true → (v : View) × (get_elem? t.views (owner serving) ≡ some v) × (v.state ≡ Called serving (s.events ++ tail))
   pub each : (j : ℕ) (v : View) → get_elem? t.views j ≡ some v → SeatFits s tail ticket serving out owner j v
   pub strangers : (n : ℕ) → length t.views ≤ n → events_by n tail ≡ []
   pub drawn : sum_by (λ v. v.drawn) t.views ≡ ticket
@@ -158,27 +158,27 @@ At = Step (Option SpaceHistory)
 abbrev pub holding : SpaceHistory → List (ℕ × Option SpaceHistory)
 holding s = (0, Some s) ∷ []
 
-abbrev pub drew : At → Sat → ℕ → Sat → Type 0
-drew st m n m' = m' ≡ (record m.0 { stage = Drawn n; drawn = m.0.drawn + 1 }, m.1)
+abbrev pub DrawsTicket : At → Sat → ℕ → Sat → Type 0
+DrawsTicket st m n m' = m' ≡ (record m.0 { state = Drawn n; drawn = m.0.drawn + 1 }, m.1)
 
 -- Where the word is the ticket, the seat has the slot with the space, and knows its history.
-abbrev pub looked : At → Sat → ℕ → Sat → Type 0
-looked st m n m' = (t : ℕ) → m.0.stage ≡ Drawn t
-    → (n ≡ t → (h : Events) × (m' ≡ (in_stage m.0 (Called n h), holding (space_with m.0.config h))) × MayComeTo m.0 h) × (n ≢ t → m' ≡ m)
+abbrev pub LooksAtServing : At → Sat → ℕ → Sat → Type 0
+LooksAtServing st m n m' = (t : ℕ) → m.0.state ≡ Drawn t
+    → (n ≡ t → (h : Events) × (m' ≡ (in_state m.0 (Called n h), holding (space_with m.0.config h))) × MayComeTo m.0 h) × (n ≢ t → m' ≡ m)
 
-abbrev pub published : Event → At → Sat → ℕ → Sat → Type 0
-published e st m n m' = (t : ℕ) (h : Events) → m.0.stage ≡ Called t h → m' ≡ (record m.0 { seen = with_event h e; own = m.0.own ++ e ∷ []; stage = Called t (with_event h e) }, m.1)
+abbrev pub PublishesEvent : Event → At → Sat → ℕ → Sat → Type 0
+PublishesEvent e st m n m' = (t : ℕ) (h : Events) → m.0.state ≡ Called t h → m' ≡ (record m.0 { seen = with_event h e; own = m.0.own ++ e ∷ []; state = Called t (with_event h e) }, m.1)
 
-abbrev pub passed_over : At → Sat → ℕ → Sat → Type 0
-passed_over st m n m' = (t : ℕ) (h : Events) → m.0.stage ≡ Called t h → m' ≡ (record m.0 { seen = h; stage = Called t h }, m.1)
+abbrev pub PassesOver : At → Sat → ℕ → Sat → Type 0
+PassesOver st m n m' = (t : ℕ) (h : Events) → m.0.state ≡ Called t h → m' ≡ (record m.0 { seen = h; state = Called t h }, m.1)
 
-abbrev pub advanced : At → Sat → ℕ → Sat → Type 0
-advanced st m n m' = m' ≡ (in_stage m.0 Idle, rest m.1)
+abbrev pub AdvancesServing : At → Sat → ℕ → Sat → Type 0
+AdvancesServing st m n m' = m' ≡ (in_state m.0 Idle, rest m.1)
 
 -- The longer of what was seen and what was told of is seen, which begins with both and has the seat's own events. No seat has more parts than
 -- there are.
-abbrev pub absorbed : At → Sat → ℕ → Sat → Type 0
-absorbed st m n m' =
+abbrev pub AbsorbsSeen : At → Sat → ℕ → Sat → Type 0
+AbsorbsSeen st m n m' =
     (m' ≡ (record m.0 { seen = longer m.0.seen m.0.heard }, m.1)) × StartsWith m'.0.seen m.0.seen × StartsWith m'.0.seen m.0.heard
     × HasOwn m'.0.opening m'.0.number m'.0.own m'.0.seen × (m.0.parts ≤ 2147483649)
 
@@ -186,14 +186,14 @@ abbrev pub left_of : View → View
 left_of v = record v { parts = v.parts - 1; made = v.made + 1 }
 
 abbrev pub right_of : View → View
-right_of v = record { number = v.made + 1; parts = 1; drawn = 0; config = v.config; opening = v.opening; seen = v.seen; heard = []; own = []; stage = Idle; made = 0; ended = [] }
+right_of v = record { number = v.made + 1; parts = 1; drawn = 0; config = v.config; opening = v.opening; seen = v.seen; heard = []; own = []; state = Idle; made = 0; ended = [] }
 
 abbrev pub both_of : View → View → View
 both_of v w = record v { parts = v.parts + w.parts; drawn = v.drawn + w.drawn; heard = w.seen; ended = v.ended ++ (w.number, w.own) ∷ [] }
 
 -- The seat whose ticket t is served, with a history in hand.
 abbrev pub in_hand : View → ℕ → Events → View
-in_hand v t h = record v { stage = Called t h; drawn = v.drawn + 1 }
+in_hand v t h = record v { state = Called t h; drawn = v.drawn + 1 }
 
 -- ---- what calls do
 
@@ -212,8 +212,8 @@ events_after h e (Ok turn) = with_event h e
 events_after h e (Err refused) = h
 
 -- The seat once the answer to its event is published.
-abbrev pub told_of : View → ℕ → Events → Event → Result Turn Refused → View
-told_of v t h e answer = record v { seen = events_after h e answer; own = own_after v.own e answer; stage = Called t (events_after h e answer) }
+abbrev pub seat_after_answer : View → ℕ → Events → Event → Result Turn Refused → View
+seat_after_answer v t h e answer = record v { seen = events_after h e answer; own = own_after v.own e answer; state = Called t (events_after h e answer) }
 
 -- The answer of a turn with its entry.
 abbrev pub answer_of : {E : Type 0} → Result (Result Turn Refused × Asked) E → Result Turn Refused
@@ -230,7 +230,7 @@ pub record TurnedAt (v : View) (before : Events) (e : Event) (answer : Result Tu
 -- A pass asked this as connection `by`, was answered so at some place, as the ask may be where the connection runs those calls, and knows this
 -- now.
 abbrev pub TurnedBy : View → ℕ → ℕ → Ask → Result Turn Refused → View → Type 0
-TurnedBy v by moment ask answer w = (before : Events) × TurnedAt v before (event_of by moment ask) answer w × IsAnswerTo (λ o. 0 < running (places v.config before) by o) ask answer
+TurnedBy v by moment ask answer w = (before : Events) × TurnedAt v before (event_of by moment ask) answer w × IsAnswerTo (λ o. 0 < running_calls_by (places v.config before) by o) ask answer
 
 -- What a pass of a lock round this space has seen is a legal history that goes on from the space's, and of its further events those of the
 -- pass's number are exactly its own, in order.

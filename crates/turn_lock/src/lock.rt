@@ -1,7 +1,7 @@
 //! What callers do with a lock.
 ghost use Rattle.std.specs.Prelude.{◌≡◌, ◌≢◌, ◌+◌, ◌<◌, length, MatchResult, Ok, Err, IfOk};
 ghost use Rattle.history.specs.declared.asks.Ask.TheVariants.{Abandon};
-ghost use Rattle.history.specs.Running.{running};
+ghost use Rattle.history.specs.Running.{running_calls_by};
 ghost use Rattle.history.specs.Steps.{turn_of};
 ghost use Rattle.history.specs.Table.{places};
 ghost use Rattle.history.specs.declared.limits.TheConstants.{END_OF_TIME};
@@ -21,8 +21,11 @@ use std::alloc::{AllocError, AllocFailed, Global};
 use std::snapshot::Snapshot;
 use std::sync::Wait;
 
-/// How many passes a lock makes at most, and how many turns a pass.
-const MOST: u32 = 1 << 31;
+/// How many passes a lock makes at most.
+const MAX_PASSES: u32 = 1 << 31;
+
+/// How many turns a pass makes at most.
+const MAX_TURNS: u32 = 1 << 31;
 
 impl TurnLock {
     /// A lock round a space, and its root. It is refused only for want of memory; then the space comes back.
@@ -42,7 +45,7 @@ impl TurnLock {
                 let pass = Pass {
                     seat,
                     number: 0,
-                    room: MOST,
+                    room: MAX_TURNS,
                 };
                 let root = Root {
                     pass,
@@ -92,7 +95,7 @@ impl Root {
             (λ fault. (self.old.made ≡ most_passes) × (self.new ≡ self.old)) }
         ensures ordered { InOrder (opening_of lock.now) (view_of self.new.pass) × IfOk result (λ p. InOrder (opening_of lock.now) (view_of p)) }
     {
-        if self.made == MOST {
+        if self.made == MAX_PASSES {
             return Err(SplitFault::TooManyPasses);
         }
         let mut seat = lock.board.shared.split_seat::<Parts>(&mut self.pass.seat);
@@ -102,7 +105,7 @@ impl Root {
         Ok(Pass {
             seat,
             number: self.made,
-            room: MOST,
+            room: MAX_TURNS,
         })
     }
 
@@ -180,10 +183,10 @@ impl Pass {
         requires own { IsPassOf lock.now self.old }
         requires room { 0 < self.old.room }
         requires moment { moment < END_OF_TIME }
-        requires runs { 0 < running (places (view_of self.old).config (view_of self.old).seen) self.old.number object }
+        requires runs { 0 < running_calls_by (places (view_of self.old).config (view_of self.old).seen) self.old.number object }
         ensures pass { IsPassOf lock.now self.new × (self.new.room + 1 ≡ self.old.room) × (self.new.seat.id ≡ self.old.seat.id) × (self.new.number ≡ self.old.number) }
         ensures turned { (before : Events) × TurnedAt (view_of self.old) before (event_of self.old.number moment (Abandon object)) (Ok (turn_of (view_of self.old).config before (event_of self.old.number moment (Abandon object)))) (view_of self.new)
-            × (result ≡ length before) × (0 < running (places (view_of self.old).config before) self.old.number object) }
+            × (result ≡ length before) × (0 < running_calls_by (places (view_of self.old).config before) self.old.number object) }
         ensures ordered { InOrder (opening_of lock.now) (view_of self.new) }
     {
         let place = steps::abandon(

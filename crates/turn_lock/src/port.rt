@@ -1,15 +1,16 @@
 //! A port over a pass of a lock.
 ghost use Rattle.std.specs.Prelude.{◌≡◌, [], refl};
 ghost use mathlib.Core.Path.{◌∙◌};
-ghost use Rattle.space.specs.Ties.{IsTied};
+ghost use Rattle.ports.specs.Ties.{IsTied};
 ghost use Rattle.turn_lock.specs.Handles.{IsPassOf, seen_space, view_of};
-ghost use Rattle.turn_lock.specs.Ports.{PortWent};
+ghost use Rattle.turn_lock.specs.PassPorts.{PortWent};
 ghost use Rattle.turn_lock.specs.PortLaws.{went_self, went_on};
 
 use crate::handles::{Pass, TurnLock};
 use history::{Ask, Refused, Turn};
 use object_ids::ObjId;
-use space::{Asked, AskedEnd, AskedLog, Port, PortEntries};
+use ports::{AskedLog, Port, PortEntries};
+use space::{Asked, AskedEnd};
 use std::alloc::Global;
 use std::sync::Wait;
 

@@ -2,18 +2,18 @@
 ghost use Rattle.std.specs.Prelude.{◌≡◌, ◌+◌, ◌<◌, ◌≤◌, [], IfOk};
 ghost use Rattle.std.specs.Borrow.{sem};
 ghost use Rattle.history.specs.declared.limits.TheConstants.{END_OF_TIME};
-ghost use Rattle.space.specs.Ties.{IsTied};
-ghost use Rattle.space.specs.Ports.{entries_of};
+ghost use Rattle.ports.specs.Ties.{IsTied};
+ghost use Rattle.ports.specs.Ports.{entries_of};
 ghost use Rattle.turn_lock.specs.Handles.{IsPassOf, IsRootOf, opening_of, seen_space, view_of};
 ghost use Rattle.turn_lock.specs.Lending.{LendsPass};
 ghost use Rattle.turn_lock.specs.Orders.{TurnCollects};
-ghost use Rattle.turn_lock.specs.Ports.{PassWent};
+ghost use Rattle.turn_lock.specs.PassPorts.{PassWent};
 ghost use Rattle.turn_lock.specs.Rule.{InOrder};
 
 use crate::handles::{Pass, Root, TurnLock};
 use crate::port::{PassPort, SeatPort};
 use history::{Ask, Refused, Turn};
-use space::{Port, PortEntries};
+use ports::{Port, PortEntries};
 use std::alloc::Global;
 use std::sync::Wait;
 
@@ -64,13 +64,13 @@ impl Root {
         // The history's table keeps what there is a reason to keep at the turn's place, and the rest is withdrawn.
         ensures collector { IfOk result.0 (λ _. TurnCollects (view_of self.old.pass) moment ask (view_of self.new.pass)) }
     {
-        turned(rt, alloc, lock, self.own(), moment, ask)
+        turn_of_pass(rt, alloc, lock, self.own(), moment, ask)
     }
 }
 
 /// One turn of a pass, and its entries.
 #[tactic(auto, using(crate::proofs::OrderLaws::turn_collects))]
-fn turned<R: Wait>(
+fn turn_of_pass<R: Wait>(
     rt: &R,
     alloc: Global,
     lock: &TurnLock,

@@ -2,15 +2,15 @@
 ghost use Rattle.std.specs.Prelude.{◌≡◌, ◌≢◌, ℕ, ◌+◌, ◌*◌, ◌<◌, ◌∷◌, ◌++◌, [], Ok, Err, None, length, IfOk};
 ghost use Rattle.history.specs.declared.asks.Ask.TheVariants.{Abandon};
 ghost use Rattle.history.specs.declared.asks.Event.{Event};
-ghost use Rattle.history.specs.Running.{running};
+ghost use Rattle.history.specs.Running.{running_calls_by};
 ghost use Rattle.history.specs.Steps.{turn_of};
 ghost use Rattle.history.specs.Table.{places};
 ghost use Rattle.history.specs.declared.limits.TheConstants.{END_OF_TIME};
 ghost use Rattle.space.specs.Acts.{event_of};
 ghost use Rattle.space.specs.Entries.{entry_of};
-ghost use Rattle.space.specs.Ports.{IsAnswerTo};
-ghost use Rattle.turn_lock.specs.declared.view.Stage.TheVariants.{Idle, Drawn, Called};
-ghost use Rattle.turn_lock.specs.Rule.{Events, MayComeTo, TurnedAt, answer_of, events_after, holding, in_hand, in_stage, most_turns, space_with, told_of};
+ghost use Rattle.space.specs.TurnAnswers.{IsAnswerTo};
+ghost use Rattle.turn_lock.specs.declared.view.SeatState.TheVariants.{Idle, Drawn, Called};
+ghost use Rattle.turn_lock.specs.Rule.{Events, MayComeTo, TurnedAt, answer_of, events_after, holding, in_hand, in_state, most_turns, space_with, seat_after_answer};
 
 use crate::table::{
     Advance, Draw, LENGTH, LockSeat, Look, Naming, PassOver, Publish, SERVING, SharedTable, TICKET,
@@ -26,9 +26,9 @@ use std::sync::Wait;
 /// Draws a ticket.
 fn draw(shared: &SharedTable, seat: &mut LockSeat) -> u64
     requires table { (seat.old.table_id ≡ shared.now.table_id) × (shared.now.table_id.words ≡ 3) × (shared.now.table_id.slots ≡ 1) }
-    requires idle { (seat.old.me.0.stage ≡ Idle) × (seat.old.me.1 ≡ []) × (seat.old.me.0.drawn < most_turns * seat.old.me.0.parts) }
+    requires idle { (seat.old.me.0.state ≡ Idle) × (seat.old.me.1 ≡ []) × (seat.old.me.0.drawn < most_turns * seat.old.me.0.parts) }
     ensures seat { (seat.new.table_id ≡ seat.old.table_id) × (seat.new.id ≡ seat.old.id) }
-    ensures view { seat.new.me ≡ (record seat.old.me.0 { stage = Drawn result; drawn = seat.old.me.0.drawn + 1 }, []) }
+    ensures view { seat.new.me ≡ (record seat.old.me.0 { state = Drawn result; drawn = seat.old.me.0.drawn + 1 }, []) }
 {
     shared.fetch_add::<Draw>(seat, TICKET, 1)
 }
@@ -36,9 +36,9 @@ fn draw(shared: &SharedTable, seat: &mut LockSeat) -> u64
 /// Waits until the ticket is served. Then the seat has the slot.
 fn wait<R: Wait>(rt: &R, shared: &SharedTable, seat: &mut LockSeat, ticket: u64)
     requires table { (seat.old.table_id ≡ shared.now.table_id) × (shared.now.table_id.words ≡ 3) × (shared.now.table_id.slots ≡ 1) }
-    requires drawn { (seat.old.me.0.stage ≡ Drawn ticket) × (seat.old.me.1 ≡ []) × (0 < seat.old.me.0.parts) }
+    requires drawn { (seat.old.me.0.state ≡ Drawn ticket) × (seat.old.me.1 ≡ []) × (0 < seat.old.me.0.parts) }
     ensures seat { (seat.new.table_id ≡ seat.old.table_id) × (seat.new.id ≡ seat.old.id) }
-    ensures view { (h : Events) × (seat.new.me ≡ (in_stage seat.old.me.0 (Called ticket h), holding (space_with seat.old.me.0.config h))) × MayComeTo seat.old.me.0 h }
+    ensures view { (h : Events) × (seat.new.me ≡ (in_state seat.old.me.0 (Called ticket h), holding (space_with seat.old.me.0.config h))) × MayComeTo seat.old.me.0 h }
 {
     let mut looks = 0u32;
     for _ in rt.forever() {
@@ -55,7 +55,7 @@ fn wait<R: Wait>(rt: &R, shared: &SharedTable, seat: &mut LockSeat, ticket: u64)
 /// Waits for its turn, and takes the space out of the slot.
 fn enter<R: Wait>(rt: &R, shared: &SharedTable, seat: &mut LockSeat) -> Space
     requires table { (seat.old.table_id ≡ shared.now.table_id) × (shared.now.table_id.words ≡ 3) × (shared.now.table_id.slots ≡ 1) }
-    requires idle { (seat.old.me.0.stage ≡ Idle) × (seat.old.me.1 ≡ []) × (seat.old.me.0.drawn < most_turns * seat.old.me.0.parts) }
+    requires idle { (seat.old.me.0.state ≡ Idle) × (seat.old.me.1 ≡ []) × (seat.old.me.0.drawn < most_turns * seat.old.me.0.parts) }
     ensures seat { (seat.new.table_id ≡ seat.old.table_id) × (seat.new.id ≡ seat.old.id) }
     ensures entered { (t : ℕ) × (h : Events) × MayComeTo seat.old.me.0 h × (result ≡ space_with seat.old.me.0.config h) × (seat.new.me ≡ (in_hand seat.old.me.0 t h, (0, None) ∷ [])) }
 {
@@ -76,10 +76,10 @@ fn publish<N: Naming>(
 )
     requires table { (seat.old.table_id ≡ shared.now.table_id) × (shared.now.table_id.words ≡ 3) × (shared.now.table_id.slots ≡ 1) }
     requires named { event_of by moment ask.now ≡ N.event }
-    requires called { (t : ℕ) × (h : Events) × (seat.old.me.0.stage ≡ Called t h) × (0 < seat.old.me.0.parts) × (by ≡ seat.old.me.0.number) × (space.now ≡ space_with seat.old.me.0.config (h ++ event_of by moment ask.now ∷ [])) }
+    requires called { (t : ℕ) × (h : Events) × (seat.old.me.0.state ≡ Called t h) × (0 < seat.old.me.0.parts) × (by ≡ seat.old.me.0.number) × (space.now ≡ space_with seat.old.me.0.config (h ++ event_of by moment ask.now ∷ [])) }
     ensures seat { (seat.new.table_id ≡ seat.old.table_id) × (seat.new.id ≡ seat.old.id) }
-    ensures view { (t : ℕ) (h : Events) → seat.old.me.0.stage ≡ Called t h → seat.new.me ≡
-        (record seat.old.me.0 { seen = h ++ event_of by moment ask.now ∷ []; own = seat.old.me.0.own ++ event_of by moment ask.now ∷ []; stage = Called t (h ++ event_of by moment ask.now ∷ []) }, seat.old.me.1) }
+    ensures view { (t : ℕ) (h : Events) → seat.old.me.0.state ≡ Called t h → seat.new.me ≡
+        (record seat.old.me.0 { seen = h ++ event_of by moment ask.now ∷ []; own = seat.old.me.0.own ++ event_of by moment ask.now ∷ []; state = Called t (h ++ event_of by moment ask.now ∷ []) }, seat.old.me.1) }
 {
     shared.store::<Publish<N>>(seat, LENGTH, space.len());
 }
@@ -87,15 +87,15 @@ fn publish<N: Naming>(
 /// Publishes the length of the history in hand, which was seen, without an event.
 fn pass_over(shared: &SharedTable, seat: &mut LockSeat, space: &Space)
     requires table { (seat.old.table_id ≡ shared.now.table_id) × (shared.now.table_id.words ≡ 3) × (shared.now.table_id.slots ≡ 1) }
-    requires called { (t : ℕ) × (h : Events) × (seat.old.me.0.stage ≡ Called t h) × (0 < seat.old.me.0.parts) × (space.now ≡ space_with seat.old.me.0.config h) }
+    requires called { (t : ℕ) × (h : Events) × (seat.old.me.0.state ≡ Called t h) × (0 < seat.old.me.0.parts) × (space.now ≡ space_with seat.old.me.0.config h) }
     ensures seat { (seat.new.table_id ≡ seat.old.table_id) × (seat.new.id ≡ seat.old.id) }
-    ensures view { (t : ℕ) (h : Events) → seat.old.me.0.stage ≡ Called t h → seat.new.me ≡ (record seat.old.me.0 { seen = h; stage = Called t h }, seat.old.me.1) }
+    ensures view { (t : ℕ) (h : Events) → seat.old.me.0.state ≡ Called t h → seat.new.me ≡ (record seat.old.me.0 { seen = h; state = Called t h }, seat.old.me.1) }
 {
     shared.store::<PassOver>(seat, LENGTH, space.len());
 }
 
 /// Publishes what the answer to an event says of it.
-fn tell(
+fn publish_answer(
     shared: &SharedTable,
     seat: &mut LockSeat,
     by: u32,
@@ -104,9 +104,9 @@ fn tell(
     entry: &Asked,
 )
     requires table { (seat.old.table_id ≡ shared.now.table_id) × (shared.now.table_id.words ≡ 3) × (shared.now.table_id.slots ≡ 1) }
-    requires called { (t : ℕ) × (h : Events) × (seat.old.me.0.stage ≡ Called t h) × (0 < seat.old.me.0.parts) × (by ≡ seat.old.me.0.number) × (space.now ≡ space_with seat.old.me.0.config (events_after h (event_of by entry.now.moment entry.now.ask) answer.now)) }
+    requires called { (t : ℕ) × (h : Events) × (seat.old.me.0.state ≡ Called t h) × (0 < seat.old.me.0.parts) × (by ≡ seat.old.me.0.number) × (space.now ≡ space_with seat.old.me.0.config (events_after h (event_of by entry.now.moment entry.now.ask) answer.now)) }
     ensures seat { (seat.new.table_id ≡ seat.old.table_id) × (seat.new.id ≡ seat.old.id) }
-    ensures view { (t : ℕ) (h : Events) → seat.old.me.0.stage ≡ Called t h → seat.new.me ≡ (told_of seat.old.me.0 t h (event_of by entry.now.moment entry.now.ask) answer.now, seat.old.me.1) }
+    ensures view { (t : ℕ) (h : Events) → seat.old.me.0.state ≡ Called t h → seat.new.me ≡ (seat_after_answer seat.old.me.0 t h (event_of by entry.now.moment entry.now.ask) answer.now, seat.old.me.1) }
 {
     match answer {
         Ok(_turn) => publish::<Brand>(shared, seat, by, entry.moment, &entry.ask, space),
@@ -115,7 +115,7 @@ fn tell(
 }
 
 /// Publishes what a turn with its entry says of the event that connection `by` asked at a moment.
-fn tell_noted(
+fn publish_noted(
     shared: &SharedTable,
     seat: &mut LockSeat,
     by: u32,
@@ -123,14 +123,14 @@ fn tell_noted(
     noted: &Result<(Result<Turn, Refused>, Asked), AllocError>,
 )
     requires table { (seat.old.table_id ≡ shared.now.table_id) × (shared.now.table_id.words ≡ 3) × (shared.now.table_id.slots ≡ 1) }
-    requires called { (t : ℕ) × (h : Events) × (e : Event) × (seat.old.me.0.stage ≡ Called t h) × (0 < seat.old.me.0.parts) × (by ≡ seat.old.me.0.number)
+    requires called { (t : ℕ) × (h : Events) × (e : Event) × (seat.old.me.0.state ≡ Called t h) × (0 < seat.old.me.0.parts) × (by ≡ seat.old.me.0.number)
         × IfOk noted.now (λ x. event_of by x.1.moment x.1.ask ≡ e) × (space.now ≡ space_with seat.old.me.0.config (events_after h e (answer_of noted.now))) }
     ensures seat { (seat.new.table_id ≡ seat.old.table_id) × (seat.new.id ≡ seat.old.id) }
-    ensures view { (t : ℕ) (h : Events) (e : Event) → seat.old.me.0.stage ≡ Called t h → IfOk noted.now (λ x. event_of by x.1.moment x.1.ask ≡ e) →
-        seat.new.me ≡ (told_of seat.old.me.0 t h e (answer_of noted.now), seat.old.me.1) }
+    ensures view { (t : ℕ) (h : Events) (e : Event) → seat.old.me.0.state ≡ Called t h → IfOk noted.now (λ x. event_of by x.1.moment x.1.ask ≡ e) →
+        seat.new.me ≡ (seat_after_answer seat.old.me.0 t h e (answer_of noted.now), seat.old.me.1) }
 {
     match noted {
-        Ok((answer, entry)) => tell(shared, seat, by, space, answer, entry),
+        Ok((answer, entry)) => publish_answer(shared, seat, by, space, answer, entry),
         Err(_refused) => pass_over(shared, seat, space),
     }
 }
@@ -138,9 +138,9 @@ fn tell_noted(
 /// Gives the space back, and lets the next ticket be served.
 fn leave(shared: &SharedTable, seat: &mut LockSeat, space: Space)
     requires table { (seat.old.table_id ≡ shared.now.table_id) × (shared.now.table_id.words ≡ 3) × (shared.now.table_id.slots ≡ 1) }
-    requires called { (t : ℕ) × (h : Events) × (seat.old.me.0.stage ≡ Called t h) × (0 < seat.old.me.0.parts) × (seat.old.me.1 ≡ (0, None) ∷ []) × (space ≡ space_with seat.old.me.0.config h) }
+    requires called { (t : ℕ) × (h : Events) × (seat.old.me.0.state ≡ Called t h) × (0 < seat.old.me.0.parts) × (seat.old.me.1 ≡ (0, None) ∷ []) × (space ≡ space_with seat.old.me.0.config h) }
     ensures seat { (seat.new.table_id ≡ seat.old.table_id) × (seat.new.id ≡ seat.old.id) }
-    ensures view { seat.new.me ≡ (in_stage seat.old.me.0 Idle, []) }
+    ensures view { seat.new.me ≡ (in_state seat.old.me.0 Idle, []) }
 {
     drop(shared.exchange(seat, 0, Some(space)));
     let served = shared.fetch_add::<Advance>(seat, SERVING, 1);
@@ -157,18 +157,18 @@ pub(crate) fn turn<R: Wait>(
     ask: Ask,
 ) -> Result<(Result<Turn, Refused>, Asked), AllocError>
     requires table { (seat.old.table_id ≡ shared.now.table_id) × (shared.now.table_id.words ≡ 3) × (shared.now.table_id.slots ≡ 1) }
-    requires idle { (seat.old.me.0.stage ≡ Idle) × (seat.old.me.1 ≡ []) × (seat.old.me.0.drawn < most_turns * seat.old.me.0.parts) }
+    requires idle { (seat.old.me.0.state ≡ Idle) × (seat.old.me.1 ≡ []) × (seat.old.me.0.drawn < most_turns * seat.old.me.0.parts) }
     requires number { by ≡ seat.old.me.0.number }
     requires moment { moment < END_OF_TIME }
     ensures seat { (seat.new.table_id ≡ seat.old.table_id) × (seat.new.id ≡ seat.old.id) × (seat.new.me.1 ≡ []) }
     ensures turned { (before : Events) × TurnedAt seat.old.me.0 before (event_of by moment ask) (answer_of result) seat.new.me.0
-        × IfOk result (λ x. IsAnswerTo (λ o. 0 < running (places seat.old.me.0.config before) by o) ask x.0) }
+        × IfOk result (λ x. IsAnswerTo (λ o. 0 < running_calls_by (places seat.old.me.0.config before) by o) ask x.0) }
     ensures noted { IfOk result (λ x. x.1 ≡ entry_of moment ask x.0) }
     ensures known { IfOk result (λ x. x.0 ≢ Err Refused.OutOfMemory) }
 {
     let mut space = enter(rt, shared, seat);
     let noted = space.turn_noted(by, moment, ask);
-    tell_noted(shared, seat, by, &space, &noted);
+    publish_noted(shared, seat, by, &space, &noted);
     leave(shared, seat, space);
     noted
 }
@@ -183,13 +183,13 @@ pub(crate) fn abandon<R: Wait>(
     object: ObjId,
 ) -> u64
     requires table { (seat.old.table_id ≡ shared.now.table_id) × (shared.now.table_id.words ≡ 3) × (shared.now.table_id.slots ≡ 1) }
-    requires idle { (seat.old.me.0.stage ≡ Idle) × (seat.old.me.1 ≡ []) × (seat.old.me.0.drawn < most_turns * seat.old.me.0.parts) }
+    requires idle { (seat.old.me.0.state ≡ Idle) × (seat.old.me.1 ≡ []) × (seat.old.me.0.drawn < most_turns * seat.old.me.0.parts) }
     requires number { by ≡ seat.old.me.0.number }
     requires moment { moment < END_OF_TIME }
-    requires runs { 0 < running (places seat.old.me.0.config seat.old.me.0.seen) by object }
+    requires runs { 0 < running_calls_by (places seat.old.me.0.config seat.old.me.0.seen) by object }
     ensures seat { (seat.new.table_id ≡ seat.old.table_id) × (seat.new.id ≡ seat.old.id) × (seat.new.me.1 ≡ []) }
     ensures turned { (before : Events) × TurnedAt seat.old.me.0 before (event_of by moment (Abandon object)) (Ok (turn_of seat.old.me.0.config before (event_of by moment (Abandon object)))) seat.new.me.0
-        × (result ≡ length before) × (0 < running (places seat.old.me.0.config before) by object) }
+        × (result ≡ length before) × (0 < running_calls_by (places seat.old.me.0.config before) by object) }
 {
     let mut space = enter(rt, shared, seat);
     let place = space.len();

@@ -53,18 +53,18 @@ impl Naming for Brand {
 pub struct Draw;
 
 impl Play<Option<Space>, View> for Draw {
-    ghost use Rattle.turn_lock.specs.Rule.{drew};
+    ghost use Rattle.turn_lock.specs.Rule.{DrawsTicket};
 
-    ghost then = { drew };
+    ghost then = { DrawsTicket };
 }
 
 /// The ticket that is served is looked at; where it is the seat's own, the slot goes to the seat.
 pub struct Look;
 
 impl Play<Option<Space>, View> for Look {
-    ghost use Rattle.turn_lock.specs.Rule.{looked};
+    ghost use Rattle.turn_lock.specs.Rule.{LooksAtServing};
 
-    ghost then = { looked };
+    ghost then = { LooksAtServing };
 }
 
 /// The length is published with an event.
@@ -73,36 +73,36 @@ pub struct Publish<N> {
 }
 
 impl<N: Naming> Play<Option<Space>, View> for Publish<N> {
-    ghost use Rattle.turn_lock.specs.Rule.{published};
+    ghost use Rattle.turn_lock.specs.Rule.{PublishesEvent};
 
-    ghost then = { published N.event };
+    ghost then = { PublishesEvent N.event };
 }
 
 /// The length is published as it was.
 pub struct PassOver;
 
 impl Play<Option<Space>, View> for PassOver {
-    ghost use Rattle.turn_lock.specs.Rule.{passed_over};
+    ghost use Rattle.turn_lock.specs.Rule.{PassesOver};
 
-    ghost then = { passed_over };
+    ghost then = { PassesOver };
 }
 
 /// The slot goes home, and the next ticket is served.
 pub struct Advance;
 
 impl Play<Option<Space>, View> for Advance {
-    ghost use Rattle.turn_lock.specs.Rule.{advanced};
+    ghost use Rattle.turn_lock.specs.Rule.{AdvancesServing};
 
-    ghost then = { advanced };
+    ghost then = { AdvancesServing };
 }
 
 /// The seat has seen what the seat that was joined last had seen.
 pub struct Absorb;
 
 impl Play<Option<Space>, View> for Absorb {
-    ghost use Rattle.turn_lock.specs.Rule.{absorbed};
+    ghost use Rattle.turn_lock.specs.Rule.{AbsorbsSeen};
 
-    ghost then = { absorbed };
+    ghost then = { AbsorbsSeen };
 }
 
 /// A seat is split, or joined.
@@ -117,9 +117,9 @@ impl Split<View> for Parts {
 }
 
 impl Join<View> for Parts {
-    ghost use Rattle.turn_lock.specs.Rule.{both_of, spent};
+    ghost use Rattle.turn_lock.specs.Rule.{both_of, spent_seat};
 
     ghost both = { both_of };
 
-    ghost spent = { spent };
+    ghost spent = { spent_seat };
 }

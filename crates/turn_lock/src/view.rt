@@ -3,7 +3,7 @@ use history::{Event, SpaceConfig};
 use std::collections::LinkedList;
 
 /// What a seat is doing.
-pub enum Stage {
+pub enum SeatState {
     /// It makes no turn.
     Idle,
     /// It waits with this ticket.
@@ -31,7 +31,7 @@ pub struct View {
     /// Its own events, in order.
     pub own: LinkedList<Event>,
     /// What it is doing.
-    pub stage: Stage,
+    pub state: SeatState,
     /// How many passes were made.
     pub made: u64,
     /// The number of each pass that was joined, and its events.

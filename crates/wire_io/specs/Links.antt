@@ -39,8 +39,8 @@ Accepts shown before after faults_before faults_after (Ok link) = (after ≡ wit
 Accepts shown before after faults_before faults_after (Err _) = (after ≡ before) × Rose faults_before faults_after
 
 -- what stands at a link in memory
-abbrev pub shown : Link SourceState SinkState ClockState → Accepted
-shown link = accepted_as (λ s. Some s.left) (λ s. Some s.held) moments_given link
+abbrev pub accepted_in_memory : Link SourceState SinkState ClockState → Accepted
+accepted_in_memory link = accepted_as (λ s. Some s.left) (λ s. Some s.held) moments_given link
 
 -- Neither half of the link failed yet.
 abbrev pub IsNew : Link SourceState SinkState ClockState → Type 0
@@ -56,4 +56,4 @@ pub record ListenerState : Type 0 where
 
 -- the links that a listener in memory gave, as each was then
 abbrev pub links_given : ListenerState → Option (List Accepted)
-links_given l = Some (map shown l.accepted)
+links_given l = Some (map accepted_in_memory l.accepted)

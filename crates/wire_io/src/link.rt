@@ -9,10 +9,15 @@ use sequence::Units;
 /// bytes as modified UTF.
 #[derive(Drop)]
 pub struct Link<I, O, T> {
+    /// The half that the peer's bytes are read from.
     pub source: I,
+    /// The half that bytes to the peer are written to.
     pub sink: O,
+    /// The clock that gives the moments of this connection's turns.
     pub clock: T,
+    /// The peer's host, as a text.
     pub host: Units,
+    /// The peer's port.
     pub port: i32,
     ghost short: { length (utf host) ≤ MAX_HOST_BYTES },
 }

@@ -1,7 +1,7 @@
 //! Where connections come from.
 ghost use Rattle.std.specs.Prelude.{◌≡◌, ℕ, List, [], ◌∷◌, ◌++◌, length, Option, Some, IfOk, OnErr};
 ghost use Rattle.std.specs.List.{AllByRecursion};
-ghost use Rattle.wire_io.specs.Links.{Accepted, accepted_as, Listens, Accepts, IsNew, shown, links_given};
+ghost use Rattle.wire_io.specs.Links.{Accepted, accepted_as, Listens, Accepts, IsNew, accepted_in_memory, links_given};
 
 use crate::clock::Clock;
 use crate::link::Link;
@@ -16,10 +16,13 @@ use std::vec;
 
 /// Accepts connections.
 pub trait Listener {
+    /// The half of an accepted connection that is read from.
     type In: Source + Send + Drop;
 
+    /// The half of an accepted connection that is written to.
     type Out: Sink + Send + Drop;
 
+    /// The clock of an accepted connection.
     type Ticks: Clock + Send + Drop;
 
     // The ports that it was told to listen on, in their order, where the listener tells them: `Some` of them, or `None`.
@@ -159,7 +162,7 @@ impl Listener for MemListener {
 
     /// A link comes from the front of the list. It fails where none is left, or where no memory is found.
     fn accept(&mut self) -> Result<MemLink, Failed>
-        ensures accepts { Accepts shown (links_given self.old) (links_given self.new) self.old.faults self.new.faults result }
+        ensures accepts { Accepts accepted_in_memory (links_given self.old) (links_given self.new) self.old.faults self.new.faults result }
         ensures source { IfOk result (λ link. link.source.faults ≡ 0) }
         ensures sink { IfOk result (λ link. link.sink.faults ≡ 0) }
         ensures ports { self.new.ports ≡ self.old.ports }

@@ -25,21 +25,21 @@ pub enum PullEnd {
     OutOfMemory,
 }
 
-/// Takes bytes from a source and counts them.
-///
-/// `at` is the position: how many bytes of the connection or input were taken. No byte is taken at `stop`, which is
-/// [`LAST_POSITION`], or where the present message's limit ends, if that is earlier.
+/// Takes bytes from a source and counts them, up to a limit.
 #[derive(Drop)]
 pub struct Pull<'s, S> {
+    /// The source that the bytes are taken from.
     pub source: &'s mut S,
+    /// The position: how many bytes of the connection or input were taken.
     pub at: u64,
+    /// The position at which no byte is taken: [`LAST_POSITION`], or where the present message's limit ends, if that is earlier.
     pub stop: u64,
     ghost within: { at ≤ stop },
     ghost small: { stop ≤ LAST_POSITION },
 }
 
 impl<'s, S: Source> Pull<'s, S> {
-    ghost use Rattle.wire_io.specs.Pulled.{pull_state, with_bytes, GivesByte, GivesBytes, GivesFront, GoesOn, AppendsSome};
+    ghost use Rattle.wire_io.specs.Pulled.{pull_state, with_bytes, GivesByte, GivesBytes, GivesFront, TakesRest, AppendsSome};
 
     /// At position 0, with no mark.
     pub fn new(source: &'s mut S) -> Pull<'s, S>
@@ -157,7 +157,7 @@ impl<'s, S: Source> Pull<'s, S> {
     #[inline(never)]
     fn take_rest(&mut self, buf: &mut [u8], from: usize) -> Result<(), PullEnd>
         requires within { from ≤ length buf.old }
-        ensures gives { GoesOn (pull_state S.left S.faults self.old) (pull_state S.left S.faults self.new) from buf.old buf.new result }
+        ensures gives { TakesRest (pull_state S.left S.faults self.old) (pull_state S.left S.faults self.new) from buf.old buf.new result }
         ensures lent { self.new.source.ghost_name ≡ self.old.source.ghost_name }
     {
         let mut done = from;

@@ -5,13 +5,13 @@ ghost use Rattle.wire_io.specs.Links.{accepted_as, Listens, Accepts};
 ghost use Rattle.wire_io.specs.Wire.{Read, Written, next_count};
 ghost use Rattle.wire_io.specs.declared.limits.TheConstants.{MAX_HOST_BYTES};
 
-use crate::ahead::Ahead;
-use crate::edge::StdClock;
 use crate::limits::MAX_HOST_BYTES;
 use crate::link::Link;
 use crate::listener::Listener;
+use crate::read_ahead::ReadAhead;
 use crate::sink::Sink;
 use crate::source::{Failed, Source};
+use crate::std_io::StdClock;
 use mod_utf::utf::{encoded_len, units_of_ascii};
 use sequence::Units;
 use std::alloc::{AllocError, Global};
@@ -21,13 +21,15 @@ use std::net::{Net, Shutdown, SocketAddr, TcpListener, TcpStream};
 use std::sync::Arc;
 use std::{io, time};
 
-/// How many connections one call of `accept` asks the system for, where those before were given up by their peers.
-const TRIES: u32 = 16;
+/// The most connections in a row that their peers may abort while they wait. After so many one call of `accept` fails.
+const MAX_ABORTED_CONNECTIONS: u32 = 16;
 
 /// A handle of a socket, of one half's own or shared by both halves of a link. The system has the socket back when the last handle is dropped.
 #[derive(Drop)]
 enum Handle {
+    /// The one handle of a half.
     Own(TcpStream),
+    /// The handle that both halves of a link share.
     Shared(Arc<TcpStream>),
 }
 
@@ -52,7 +54,7 @@ impl Read for Handle {
 /// It reads ahead into a buffer of its own. Each error of the socket is a fault, and so is a read after `shut`.
 #[derive(Drop)]
 pub struct TcpSource {
-    half: Option<Ahead<Handle>>,
+    half: Option<ReadAhead<Handle>>,
     faults: u64,
 }
 
@@ -77,7 +79,7 @@ impl TcpSource {
         ensures { IfOk result (λ source. source ≡ 0) }
     {
         Ok(TcpSource {
-            half: Some(Ahead::new(alloc, handle)?),
+            half: Some(ReadAhead::new(alloc, handle)?),
             faults: 0,
         })
     }
@@ -92,7 +94,7 @@ impl TcpSource {
 
 /// One read of what is left of the half, if it was not shut.
 #[inline(always)]
-fn read_half(half: &mut Option<Ahead<Handle>>, buf: &mut [u8]) -> Result<usize, Failed>
+fn read_half(half: &mut Option<ReadAhead<Handle>>, buf: &mut [u8]) -> Result<usize, Failed>
     ensures { Read None None 0 (next_count 0) buf.new result }
 {
     match half {
@@ -316,10 +318,10 @@ fn next_link<R: Copy + Drop>(
     tcp_link(alloc, *rt, stream, peer)
 }
 
-/// The next connection that its peer hasn't given up while it waited. Others are passed over, if there are fewer than `TRIES` of
-/// them. Each other error of the system comes at once.
+/// The next connection that its peer hasn't given up while it waited. Others are passed over, if there are fewer than
+/// `MAX_ABORTED_CONNECTIONS` of them. Each other error of the system comes at once.
 fn next_stream(listener: &TcpListener) -> io::Result<(TcpStream, SocketAddr)> {
-    for _i in 0..TRIES {
+    for _i in 0..MAX_ABORTED_CONNECTIONS {
         match listener.accept() {
             Ok(accepted) => return Ok(accepted),
             Err(error) => {

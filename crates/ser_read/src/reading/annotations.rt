@@ -2,9 +2,9 @@
 ghost use Rattle.std.specs.Prelude.{◌-◌, ◌≤◌, true};
 ghost use Rattle.ser_values.specs.declared.node.SlotPlace.TheVariants.{Reference};
 ghost use Rattle.ser_values.specs.declared.limits.TheConstants.{LEVELS};
-ghost use Rattle.ser_values.specs.Reading.{slot_at, coded, items_at, note_at};
+ghost use Rattle.stream_grammar.specs.Reading.{slot_at, coded, items_at, note_at};
 ghost use Rattle.ser_read.specs.Named.{item_at};
-ghost use Rattle.ser_read.specs.Does.{Does, Any};
+ghost use Rattle.ser_read.specs.NodeReading.{ReadsNodes, Any};
 
 use crate::fault::StreamFault;
 use crate::pieces::add;
@@ -19,7 +19,7 @@ use wire_io::source::Source;
 
 /// A part's note.
 #[cycle(reading)]
-#[tactic(auto, unfolding(ser_values::specs::Reading::note_at))]
+#[tactic(auto, unfolding(stream_grammar::specs::Reading::note_at))]
 pub(super) fn note<S: Source>(
     alloc: Global,
     pull: &mut Pull<'_, S>,
@@ -28,7 +28,7 @@ pub(super) fn note<S: Source>(
     left: u32,
 ) -> Result<Items, StreamFault>
     requires left { left ≤ LEVELS }
-    ensures { Does S.left S.faults pull.old pull.new table.old table.new result Any (λ end. note_at end (slot_at end left Reference table.old.unread.items) writes) }
+    ensures { ReadsNodes S.left S.faults pull.old pull.new table.old table.new result Any (λ end. note_at end (slot_at end left Reference table.old.unread.items) writes) }
 {
     if writes {
         items(alloc, pull, table, left)
@@ -46,7 +46,7 @@ pub(super) fn items<S: Source>(
     left: u32,
 ) -> Result<Items, StreamFault>
     requires left { left ≤ LEVELS }
-    ensures { Does S.left S.faults pull.old pull.new table.old table.new result Any (λ end. items_at end (slot_at end left Reference table.old.unread.items) true) }
+    ensures { ReadsNodes S.left S.faults pull.old pull.new table.old table.new result Any (λ end. items_at end (slot_at end left Reference table.old.unread.items) true) }
 {
     let mut items = Vec::new(alloc);
     loop {
@@ -73,7 +73,7 @@ pub(crate) fn item<S: Source>(
     left: u32,
 ) -> Result<Item, StreamFault>
     requires left { left ≤ LEVELS }
-    ensures { Does S.left S.faults pull.old pull.new table.old table.new result Any (λ end. item_at end (coded end left (slot_at end (left - 1)) Reference table.old.unread.items at code) code) }
+    ensures { ReadsNodes S.left S.faults pull.old pull.new table.old table.new result Any (λ end. item_at end (coded end left (slot_at end (left - 1)) Reference table.old.unread.items at code) code) }
 {
     if code == 0x77 {
         let n = byte(pull)?;

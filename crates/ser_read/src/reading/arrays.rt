@@ -2,8 +2,8 @@
 ghost use Rattle.std.specs.Prelude.{◌≤◌, ◌<◌, length, Some};
 ghost use Rattle.ser_values.specs.declared.node.SlotPlace.TheVariants.{Reference};
 ghost use Rattle.ser_values.specs.declared.limits.TheConstants.{LEVELS, NODES};
-ghost use Rattle.ser_values.specs.Reading.{slot_at, many_at, elements_at, with_class, array_at, array_of};
-ghost use Rattle.ser_read.specs.Does.{Does, Any, GivesNode};
+ghost use Rattle.stream_grammar.specs.Reading.{slot_at, many_at, elements_at, with_class, array_at, array_of};
+ghost use Rattle.ser_read.specs.NodeReading.{ReadsNodes, Any, GivesNode};
 
 use crate::fault::{StreamFault, StreamKind};
 use crate::numbers::primitives;
@@ -30,7 +30,7 @@ pub(super) fn array<S: Source>(
     left: u32,
 ) -> Result<Slot, StreamFault>
     requires left { left ≤ LEVELS }
-    ensures { Does S.left S.faults pull.old pull.new table.old table.new result GivesNode (λ end. with_class (slot_at end left) table.old.unread.items at (array_at end at (slot_at end left Reference table.old.unread.items))) }
+    ensures { ReadsNodes S.left S.faults pull.old pull.new table.old table.new result GivesNode (λ end. with_class (slot_at end left) table.old.unread.items at (array_at end at (slot_at end left Reference table.old.unread.items))) }
 {
     let class = class(alloc, pull, table, at, left)?;
     array_in(alloc, pull, table, at, class, left)
@@ -38,7 +38,7 @@ pub(super) fn array<S: Source>(
 
 /// An array, whose class was read.
 #[cycle(reading)]
-#[tactic(auto, unfolding(ser_values::specs::Reading::array_at, ser_values::specs::Reading::array_of))]
+#[tactic(auto, unfolding(stream_grammar::specs::Reading::array_at, stream_grammar::specs::Reading::array_of))]
 fn array_in<S: Source>(
     alloc: Global,
     pull: &mut Pull<'_, S>,
@@ -49,7 +49,7 @@ fn array_in<S: Source>(
 ) -> Result<Slot, StreamFault>
     requires room { length table.old.nodes.items < NODES }
     requires left { left ≤ LEVELS }
-    ensures { Does S.left S.faults pull.old pull.new table.old table.new result GivesNode (λ end. array_at end at (slot_at end left Reference table.old.unread.items) class) }
+    ensures { ReadsNodes S.left S.faults pull.old pull.new table.old table.new result GivesNode (λ end. array_at end at (slot_at end left Reference table.old.unread.items) class) }
 {
     match table.element_type(class) {
         None => Err(bad(StreamKind::BadDesc, at)),
@@ -59,7 +59,7 @@ fn array_in<S: Source>(
 
 /// The elements of an array.
 #[cycle(reading)]
-#[tactic(auto, unfolding(ser_values::specs::Reading::array_of))]
+#[tactic(auto, unfolding(stream_grammar::specs::Reading::array_of))]
 fn array_of<S: Source>(
     alloc: Global,
     pull: &mut Pull<'_, S>,
@@ -70,7 +70,7 @@ fn array_of<S: Source>(
 ) -> Result<Slot, StreamFault>
     requires room { length table.old.nodes.items < NODES }
     requires left { left ≤ LEVELS }
-    ensures { Does S.left S.faults pull.old pull.new table.old table.new result GivesNode (λ end. array_of end 0 (slot_at end left Reference table.old.unread.items) class (Some code)) }
+    ensures { ReadsNodes S.left S.faults pull.old pull.new table.old table.new result GivesNode (λ end. array_of end 0 (slot_at end left Reference table.old.unread.items) class (Some code)) }
 {
     let n = count(pull)?;
     let number = table.begin(Node::Array {
@@ -84,7 +84,7 @@ fn array_of<S: Source>(
 
 /// Elements of a type.
 #[cycle(reading)]
-#[tactic(auto, unfolding(ser_values::specs::Reading::elements_at))]
+#[tactic(auto, unfolding(stream_grammar::specs::Reading::elements_at))]
 fn elements<S: Source>(
     alloc: Global,
     pull: &mut Pull<'_, S>,
@@ -94,7 +94,7 @@ fn elements<S: Source>(
     left: u32,
 ) -> Result<Values, StreamFault>
     requires left { left ≤ LEVELS }
-    ensures { Does S.left S.faults pull.old pull.new table.old table.new result Any (λ end. elements_at (slot_at end left Reference table.old.unread.items) code n) }
+    ensures { ReadsNodes S.left S.faults pull.old pull.new table.old table.new result Any (λ end. elements_at (slot_at end left Reference table.old.unread.items) code n) }
 {
     if is_primitive(code) {
         primitives(alloc, pull, code, n)
@@ -114,7 +114,7 @@ fn slots<S: Source>(
     left: u32,
 ) -> Result<SlotList, StreamFault>
     requires left { left ≤ LEVELS }
-    ensures { Does S.left S.faults pull.old pull.new table.old table.new result Any (λ end. many_at (slot_at end left Reference table.old.unread.items) n) }
+    ensures { ReadsNodes S.left S.faults pull.old pull.new table.old table.new result Any (λ end. many_at (slot_at end left Reference table.old.unread.items) n) }
 {
     let mut slots = SlotList::new(alloc);
     for _ in 0..n {

@@ -2,8 +2,8 @@
 ghost use Rattle.std.specs.Prelude.{◌≤◌, ◌<◌, length};
 ghost use Rattle.ser_values.specs.declared.node.SlotPlace.TheVariants.{Text};
 ghost use Rattle.ser_values.specs.declared.limits.TheConstants.{LEVELS, NODES};
-ghost use Rattle.ser_values.specs.Reading.{slot_at, with_class, class_at, enum_at};
-ghost use Rattle.ser_read.specs.Does.{Does, GivesNode};
+ghost use Rattle.stream_grammar.specs.Reading.{slot_at, with_class, class_at, enum_at};
+ghost use Rattle.ser_read.specs.NodeReading.{ReadsNodes, GivesNode};
 
 use crate::fault::{StreamFault, StreamKind};
 use crate::pieces::bad;
@@ -17,7 +17,7 @@ use wire_io::source::Source;
 
 /// A class as a value.
 #[cycle(reading)]
-#[tactic(auto, unfolding(ser_values::specs::Reading::class_at), using(crate::proofs::Parts::with_class_is))]
+#[tactic(auto, unfolding(stream_grammar::specs::Reading::class_at), using(crate::proofs::Parts::with_class_is))]
 pub(super) fn class_value<S: Source>(
     alloc: Global,
     pull: &mut Pull<'_, S>,
@@ -26,7 +26,7 @@ pub(super) fn class_value<S: Source>(
     left: u32,
 ) -> Result<Slot, StreamFault>
     requires left { left ≤ LEVELS }
-    ensures { Does S.left S.faults pull.old pull.new table.old table.new result GivesNode (λ end. with_class (slot_at end left) table.old.unread.items at class_at) }
+    ensures { ReadsNodes S.left S.faults pull.old pull.new table.old table.new result GivesNode (λ end. with_class (slot_at end left) table.old.unread.items at class_at) }
 {
     let class = class(alloc, pull, table, at, left)?;
     let number = table.begin(Node::Class { class })?;
@@ -44,7 +44,7 @@ pub(super) fn constant<S: Source>(
     left: u32,
 ) -> Result<Slot, StreamFault>
     requires left { left ≤ LEVELS }
-    ensures { Does S.left S.faults pull.old pull.new table.old table.new result GivesNode (λ end. with_class (slot_at end left) table.old.unread.items at (enum_at at (slot_at end left Text table.old.unread.items))) }
+    ensures { ReadsNodes S.left S.faults pull.old pull.new table.old table.new result GivesNode (λ end. with_class (slot_at end left) table.old.unread.items at (enum_at at (slot_at end left Text table.old.unread.items))) }
 {
     let class = class(alloc, pull, table, at, left)?;
     constant_in(alloc, pull, table, at, class, left)
@@ -52,7 +52,7 @@ pub(super) fn constant<S: Source>(
 
 /// A constant, whose class was read.
 #[cycle(reading)]
-#[tactic(auto, unfolding(ser_values::specs::Reading::enum_at))]
+#[tactic(auto, unfolding(stream_grammar::specs::Reading::enum_at))]
 fn constant_in<S: Source>(
     alloc: Global,
     pull: &mut Pull<'_, S>,
@@ -63,7 +63,7 @@ fn constant_in<S: Source>(
 ) -> Result<Slot, StreamFault>
     requires room { length table.old.nodes.items < NODES }
     requires left { left ≤ LEVELS }
-    ensures { Does S.left S.faults pull.old pull.new table.old table.new result GivesNode (λ end. enum_at at (slot_at end left Text table.old.unread.items) class) }
+    ensures { ReadsNodes S.left S.faults pull.old pull.new table.old table.new result GivesNode (λ end. enum_at at (slot_at end left Text table.old.unread.items) class) }
 {
     if !table.is_enum(class) {
         return Err(bad(StreamKind::BadDesc, at));

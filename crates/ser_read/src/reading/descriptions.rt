@@ -2,9 +2,9 @@
 ghost use Rattle.std.specs.Prelude.{◌≤◌, ◌<◌, length, Some};
 ghost use Rattle.ser_values.specs.declared.node.SlotPlace.TheVariants.{Text};
 ghost use Rattle.ser_values.specs.declared.limits.TheConstants.{LEVELS, NODES};
-ghost use Rattle.ser_values.specs.Reading.{slot_at, many_at, field_at, field_of, desc_at, proxy_at};
+ghost use Rattle.stream_grammar.specs.Reading.{slot_at, many_at, field_at, field_of, desc_at, proxy_at};
 ghost use Rattle.ser_read.specs.Fronts.{desc_behind};
-ghost use Rattle.ser_read.specs.Does.{Does, Any, GivesNode};
+ghost use Rattle.ser_read.specs.NodeReading.{ReadsNodes, Any, GivesNode};
 
 use crate::fault::{StreamFault, StreamKind};
 use crate::front::{DescFront, desc_front};
@@ -24,7 +24,7 @@ use wire_io::source::Source;
 
 /// A class's description.
 #[cycle(reading)]
-#[tactic(auto, unfolding(ser_values::specs::Reading::desc_at))]
+#[tactic(auto, unfolding(stream_grammar::specs::Reading::desc_at))]
 #[inline(never)]
 pub(super) fn desc<S: Source>(
     alloc: Global,
@@ -35,7 +35,7 @@ pub(super) fn desc<S: Source>(
 ) -> Result<Slot, StreamFault>
     requires room { length table.old.nodes.items < NODES }
     requires left { left ≤ LEVELS }
-    ensures { Does S.left S.faults pull.old pull.new table.old table.new result GivesNode (λ end. desc_at end at (slot_at end left) table.old.unread.items) }
+    ensures { ReadsNodes S.left S.faults pull.old pull.new table.old table.new result GivesNode (λ end. desc_at end at (slot_at end left) table.old.unread.items) }
 {
     let name = short_text(alloc, pull)?;
     let front = desc_front(pull)?;
@@ -60,7 +60,7 @@ fn desc_behind<S: Source>(
     left: u32,
 ) -> Result<ClassDesc, StreamFault>
     requires left { left ≤ LEVELS }
-    ensures { Does S.left S.faults pull.old pull.new table.old table.new result Any (λ end. desc_behind end at (slot_at end left) table.old.unread.items name front) }
+    ensures { ReadsNodes S.left S.faults pull.old pull.new table.old table.new result Any (λ end. desc_behind end at (slot_at end left) table.old.unread.items name front) }
 {
     let fields = fields(alloc, pull, table, at, front.fields, left)?;
     let mut desc = ClassDesc {
@@ -90,7 +90,7 @@ fn fields<S: Source>(
     left: u32,
 ) -> Result<FieldList, StreamFault>
     requires left { left ≤ LEVELS }
-    ensures { Does S.left S.faults pull.old pull.new table.old table.new result Any (λ end. many_at (field_at end at (slot_at end left Text table.old.unread.items)) n) }
+    ensures { ReadsNodes S.left S.faults pull.old pull.new table.old table.new result Any (λ end. many_at (field_at end at (slot_at end left Text table.old.unread.items)) n) }
 {
     let mut fields = Vec::new(alloc);
     for _ in 0..n {
@@ -102,7 +102,7 @@ fn fields<S: Source>(
 
 /// A field.
 #[cycle(reading)]
-#[tactic(auto, unfolding(ser_values::specs::Reading::field_at, ser_values::specs::Reading::field_of))]
+#[tactic(auto, unfolding(stream_grammar::specs::Reading::field_at, stream_grammar::specs::Reading::field_of))]
 fn field<S: Source>(
     alloc: Global,
     pull: &mut Pull<'_, S>,
@@ -111,7 +111,7 @@ fn field<S: Source>(
     left: u32,
 ) -> Result<FieldDesc, StreamFault>
     requires left { left ≤ LEVELS }
-    ensures { Does S.left S.faults pull.old pull.new table.old table.new result Any (λ end. field_at end at (slot_at end left Text table.old.unread.items)) }
+    ensures { ReadsNodes S.left S.faults pull.old pull.new table.old table.new result Any (λ end. field_at end at (slot_at end left Text table.old.unread.items)) }
 {
     let letter = byte(pull)?;
     match TypeCode::from_letter(letter) {
@@ -122,7 +122,7 @@ fn field<S: Source>(
 
 /// A field of a type.
 #[cycle(reading)]
-#[tactic(auto, unfolding(ser_values::specs::Reading::field_of))]
+#[tactic(auto, unfolding(stream_grammar::specs::Reading::field_of))]
 fn field_of<S: Source>(
     alloc: Global,
     pull: &mut Pull<'_, S>,
@@ -132,7 +132,7 @@ fn field_of<S: Source>(
     left: u32,
 ) -> Result<FieldDesc, StreamFault>
     requires left { left ≤ LEVELS }
-    ensures { Does S.left S.faults pull.old pull.new table.old table.new result Any (λ end. field_of end at (slot_at end left Text table.old.unread.items) (Some code)) }
+    ensures { ReadsNodes S.left S.faults pull.old pull.new table.old table.new result Any (λ end. field_of end at (slot_at end left Text table.old.unread.items) (Some code)) }
 {
     let name = short_text(alloc, pull)?;
     if is_primitive(code) {
@@ -155,7 +155,7 @@ fn field_of<S: Source>(
 
 /// The description of a dynamic proxy class.
 #[cycle(reading)]
-#[tactic(auto, unfolding(ser_values::specs::Reading::proxy_at))]
+#[tactic(auto, unfolding(stream_grammar::specs::Reading::proxy_at))]
 pub(super) fn proxy<S: Source>(
     alloc: Global,
     pull: &mut Pull<'_, S>,
@@ -164,7 +164,7 @@ pub(super) fn proxy<S: Source>(
 ) -> Result<Slot, StreamFault>
     requires room { length table.old.nodes.items < NODES }
     requires left { left ≤ LEVELS }
-    ensures { Does S.left S.faults pull.old pull.new table.old table.new result GivesNode (λ end. proxy_at end (slot_at end left) table.old.unread.items) }
+    ensures { ReadsNodes S.left S.faults pull.old pull.new table.old table.new result GivesNode (λ end. proxy_at end (slot_at end left) table.old.unread.items) }
 {
     let n = count(pull)?;
     let number = table.begin(blank(alloc))?;

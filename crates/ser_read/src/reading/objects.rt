@@ -2,9 +2,9 @@
 ghost use Rattle.std.specs.Prelude.{◌≤◌, ◌<◌, ◌+◌, length};
 ghost use Rattle.ser_values.specs.declared.node.SlotPlace.TheVariants.{Reference};
 ghost use Rattle.ser_values.specs.declared.limits.TheConstants.{LEVELS, NODES, PARTS};
-ghost use Rattle.ser_values.specs.Reading.{slot_at, value_at, with_class, object_at};
-ghost use Rattle.ser_read.specs.Rows.{values_by, part_by, parts_by, object_by};
-ghost use Rattle.ser_read.specs.Does.{Does, Any, GivesNode};
+ghost use Rattle.stream_grammar.specs.Reading.{slot_at, value_at, with_class, object_at};
+ghost use Rattle.ser_read.specs.ObjectRows.{values_by, part_by, parts_by, object_by};
+ghost use Rattle.ser_read.specs.NodeReading.{ReadsNodes, Any, GivesNode};
 
 use crate::fault::{Large, StreamFault};
 use crate::numbers::primitive;
@@ -32,7 +32,7 @@ pub(super) fn object<S: Source>(
     left: u32,
 ) -> Result<Slot, StreamFault>
     requires left { left ≤ LEVELS }
-    ensures { Does S.left S.faults pull.old pull.new table.old table.new result GivesNode (λ end. with_class (slot_at end left) table.old.unread.items at (object_at end at (slot_at end left Reference table.old.unread.items))) }
+    ensures { ReadsNodes S.left S.faults pull.old pull.new table.old table.new result GivesNode (λ end. with_class (slot_at end left) table.old.unread.items at (object_at end at (slot_at end left Reference table.old.unread.items))) }
 {
     let class = class(alloc, pull, table, at, left)?;
     object_in(alloc, pull, table, at, class, left)
@@ -40,7 +40,7 @@ pub(super) fn object<S: Source>(
 
 /// An object, whose class was read.
 #[cycle(reading)]
-#[tactic(auto, unfolding(ser_values::specs::Reading::object_at), using(crate::proofs::Parts::object_is))]
+#[tactic(auto, unfolding(stream_grammar::specs::Reading::object_at), using(crate::proofs::Parts::object_is))]
 fn object_in<S: Source>(
     alloc: Global,
     pull: &mut Pull<'_, S>,
@@ -51,7 +51,7 @@ fn object_in<S: Source>(
 ) -> Result<Slot, StreamFault>
     requires room { length table.old.nodes.items < NODES }
     requires left { left ≤ LEVELS }
-    ensures { Does S.left S.faults pull.old pull.new table.old table.new result GivesNode (λ end. object_at end at (slot_at end left Reference table.old.unread.items) class) }
+    ensures { ReadsNodes S.left S.faults pull.old pull.new table.old table.new result GivesNode (λ end. object_at end at (slot_at end left Reference table.old.unread.items) class) }
 {
     let shape = shape_of(alloc, table, class)?;
     let rows = shape.rows.as_slice();
@@ -69,7 +69,7 @@ fn object_in<S: Source>(
 
 /// The parts of an object.
 #[cycle(reading)]
-#[tactic(auto, unfolding(crate::specs::Rows::object_by))]
+#[tactic(auto, unfolding(crate::specs::ObjectRows::object_by))]
 fn object_after<S: Source>(
     alloc: Global,
     pull: &mut Pull<'_, S>,
@@ -81,7 +81,7 @@ fn object_after<S: Source>(
     requires room { length table.old.nodes.items < NODES }
     requires parts { table.old.parts + length rows.now ≤ PARTS }
     requires left { left ≤ LEVELS }
-    ensures { Does S.left S.faults pull.old pull.new table.old table.new result GivesNode (λ end. object_by end (slot_at end left Reference table.old.unread.items) class rows.now) }
+    ensures { ReadsNodes S.left S.faults pull.old pull.new table.old table.new result GivesNode (λ end. object_by end (slot_at end left Reference table.old.unread.items) class rows.now) }
 {
     table.add_parts(rows.len());
     let number = table.begin(Node::Object {
@@ -103,7 +103,7 @@ fn parts<S: Source>(
     left: u32,
 ) -> Result<PartList, StreamFault>
     requires left { left ≤ LEVELS }
-    ensures { Does S.left S.faults pull.old pull.new table.old table.new result Any (λ end. parts_by end (slot_at end left Reference table.old.unread.items) rows.now) }
+    ensures { ReadsNodes S.left S.faults pull.old pull.new table.old table.new result Any (λ end. parts_by end (slot_at end left Reference table.old.unread.items) rows.now) }
 {
     let mut parts = Vec::new(alloc);
     for row in rows {
@@ -115,7 +115,7 @@ fn parts<S: Source>(
 
 /// A part of an object.
 #[cycle(reading)]
-#[tactic(auto, unfolding(crate::specs::Rows::part_by))]
+#[tactic(auto, unfolding(crate::specs::ObjectRows::part_by))]
 fn part<S: Source>(
     alloc: Global,
     pull: &mut Pull<'_, S>,
@@ -124,7 +124,7 @@ fn part<S: Source>(
     left: u32,
 ) -> Result<Part, StreamFault>
     requires left { left ≤ LEVELS }
-    ensures { Does S.left S.faults pull.old pull.new table.old table.new result Any (λ end. part_by end (slot_at end left Reference table.old.unread.items) row.now) }
+    ensures { ReadsNodes S.left S.faults pull.old pull.new table.old table.new result Any (λ end. part_by end (slot_at end left Reference table.old.unread.items) row.now) }
 {
     let values = values(alloc, pull, table, row.codes.as_slice(), left)?;
     let note = note(alloc, pull, table, row.note, left)?;
@@ -141,7 +141,7 @@ fn values<S: Source>(
     left: u32,
 ) -> Result<ValueList, StreamFault>
     requires left { left ≤ LEVELS }
-    ensures { Does S.left S.faults pull.old pull.new table.old table.new result Any (λ end. values_by (slot_at end left Reference table.old.unread.items) codes.now) }
+    ensures { ReadsNodes S.left S.faults pull.old pull.new table.old table.new result Any (λ end. values_by (slot_at end left Reference table.old.unread.items) codes.now) }
 {
     let mut values = Vec::new(alloc);
     for code in codes {
@@ -153,7 +153,7 @@ fn values<S: Source>(
 
 /// The value of a field.
 #[cycle(reading)]
-#[tactic(auto, unfolding(ser_values::specs::Reading::value_at))]
+#[tactic(auto, unfolding(stream_grammar::specs::Reading::value_at))]
 fn value<S: Source>(
     alloc: Global,
     pull: &mut Pull<'_, S>,
@@ -162,7 +162,7 @@ fn value<S: Source>(
     left: u32,
 ) -> Result<Value, StreamFault>
     requires left { left ≤ LEVELS }
-    ensures { Does S.left S.faults pull.old pull.new table.old table.new result Any (λ end. value_at (slot_at end left Reference table.old.unread.items) code) }
+    ensures { ReadsNodes S.left S.faults pull.old pull.new table.old table.new result Any (λ end. value_at (slot_at end left Reference table.old.unread.items) code) }
 {
     if is_primitive(code) {
         primitive(pull, code)

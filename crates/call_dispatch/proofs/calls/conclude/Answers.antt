@@ -1,6 +1,6 @@
 use Rattle.std.proofs.Common.{refl}
 use Rattle.call_dispatch.specs.Served.{faulted}
-use Rattle.call_dispatch.specs.Terms.{terms_of}
+use Rattle.system_objects.specs.Terms.{terms_of}
 use Rattle.call_dispatch.proofs.Balancing.{give_up_balances}
 use Rattle.call_dispatch.proofs.Cutting.{finish_concludes, memory_concludes}
 use Rattle.call_dispatch.proofs.calls.conclude.Goals as goal
@@ -11,7 +11,7 @@ finish-requires-clause-pending g c = rw c.in-Ok-Normal.field-0-is at c.in-Ok-Nor
 pub returns-in-Ok-Normal-clause-concludes : goal.returns-in-Ok-Normal-clause-concludes
 returns-in-Ok-Normal-clause-concludes g c =
     let prepared = rw c.in-Ok-Normal.field-0-is at c.in-Ok-Normal.ensures.prepares in
-    rw (c.next_uid-uid.ensures.uid, c.next_uid-uid.ensures.drawn) at (finish_concludes _ _ (terms_of c.args.connection.now.book.now c.next_uid-uid.new.setup) c.args.object c.next_uid-uid.result c.args.returned c.args.outcome _ _
+    rw (c.next_uid-uid.ensures.uid, c.next_uid-uid.ensures.drawn) at (finish_concludes _ _ (terms_of c.args.connection.now.book.now c.next_uid-uid.new.setup) c.args.object c.next_uid-uid.result c.args.result_type c.args.outcome _ _
     c.finish.result prepared.0 (c.finish.ensures.finishes c.args.outcome prepared.1))
 
 pub returns-in-Ok-Exceptional-clause-concludes : goal.returns-in-Ok-Exceptional-clause-concludes
@@ -28,7 +28,7 @@ returns-in-Ok-Exceptional-clause-balanced g c =
 pub returns-in-Err-clause-concludes : goal.returns-in-Err-clause-concludes
 returns-in-Err-clause-concludes g c =
     let (moment, place, led) = c.give_up-in-Err.ensures.led in
-    memory_concludes _ _ (terms_of c.args.connection.now.book.now c.args.connection.now.setup.now) c.args.object _ c.args.returned c.args.outcome _ _ moment place led
+    memory_concludes _ _ (terms_of c.args.connection.now.book.now c.args.connection.now.setup.now) c.args.object _ c.args.result_type c.args.outcome _ _ moment place led
 
 pub returns-in-Err-clause-balanced : goal.returns-in-Err-clause-balanced
 returns-in-Err-clause-balanced g c =

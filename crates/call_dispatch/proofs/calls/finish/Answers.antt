@@ -3,7 +3,7 @@ use Rattle.std.specs.List.{flat_map}
 use Rattle.call_dispatch.specs.Acts.{entries, acts_of}
 use Rattle.history.specs.declared.asks.Ask.TheVariants.{Finish}
 use Rattle.call_dispatch.specs.Served.{IsFinished}
-use Rattle.call_dispatch.specs.Terms.{terms_of}
+use Rattle.system_objects.specs.Terms.{terms_of}
 use Rattle.call_dispatch.proofs.Balancing.{finish_answered, finish_balances, finish_refused, give_up_balances}
 use Rattle.call_dispatch.proofs.Leading.{led_same, finish_same}
 use Rattle.call_dispatch.proofs.Cutting.{finishes_answered, finishes_refused}

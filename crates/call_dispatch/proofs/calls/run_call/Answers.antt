@@ -1,6 +1,6 @@
 use Rattle.std.proofs.Common.{ap, inr}
 use Rattle.wire_io.specs.Pulled.{pull_state}
-use Rattle.call_dispatch.specs.Terms.{terms_of}
+use Rattle.system_objects.specs.Terms.{terms_of}
 use Rattle.call_dispatch.proofs.Leading.{led_invoked}
 use Rattle.call_dispatch.proofs.Balancing.{give_up_balances}
 use Rattle.call_dispatch.proofs.Calling.{unknown_runs, ran_runs}

@@ -1,7 +1,7 @@
 use Rattle.std.proofs.Common.{rules}
 use Rattle.std.specs.Prelude.{FitsSigned}
 use Rattle.std.specs.Int.{w16, w32, w64}
-use Rattle.call_dispatch.specs.Rows.{FitsUid}
+use Rattle.object_ids.specs.Bytes.{FitsUid}
 use Rattle.call_dispatch.proofs.AckSteps.{noted, stopped}
 use Rattle.call_dispatch.proofs.messages.acknowledge.Goals as goal
 

@@ -7,7 +7,7 @@ use Rattle.jrmp_frames.specs.Calls.{head_at}
 use Rattle.call_dispatch.specs.Served.{FitsHead}
 use Rattle.call_dispatch.proofs.CallSteps.{head_breaks}
 use Rattle.call_dispatch.proofs.SystemSteps.{any_done, any_ended, any_within, any_ended_blames, any_blames}
-use Rattle.call_dispatch.specs.Terms.{terms_of}
+use Rattle.system_objects.specs.Terms.{terms_of}
 use Rattle.call_dispatch.proofs.MessageSteps.{most_of}
 use Rattle.call_dispatch.proofs.Blaming.{head_blames}
 use Rattle.call_dispatch.proofs.messages.serve_call.Goals as goal
@@ -33,13 +33,13 @@ returns-in_err-answer-in-Ok-clause-serves g c start first opening exchanges code
     let p = err_from_is_err_and c.from_residual.result c.from_residual.ensures.1 in
     let start_place = pull_state g.S.Source.left g.S.Source.faults c.args.connection.now.pull in
     rw (c.in_err-answer-in-Ok.ensures.sink, p.1, p.2) (any_ended g.W.Worker.may g.W.Worker.moves (terms_of c.args.connection.now.book.now c.args.connection.now.setup.now) start first start_place _ _ _ _ _ _ _ opening exchanges c.in-Ok.head _
-    coded fits c.answer_any.new.connection.pull.within (c.in_err-answer-in-Ok.ensures.answers start_place c.in-Ok.ensures.reads))
+    coded fits c.dispatch_call.new.connection.pull.within (c.in_err-answer-in-Ok.ensures.answers start_place c.in-Ok.ensures.reads))
 
 pub returns-in_err-answer-in-Ok-clause-blames : goal.returns-in_err-answer-in-Ok-clause-blames
 returns-in_err-answer-in-Ok-clause-blames g c =
     let p = err_from_is_err_and c.from_residual.result c.from_residual.ensures.1 in
     let start_place = pull_state g.S.Source.left g.S.Source.faults c.args.connection.now.pull in
-    rw (c.in_err-answer-in-Ok.ensures.sink, p.1, p.2) (any_ended_blames g.W.Worker.may g.W.Worker.moves (terms_of c.args.connection.now.book.now c.args.connection.now.setup.now) c.in-Ok.head start_place (pull_state g.S.Source.left g.S.Source.faults c.answer_any.new.connection.pull) _ _ _ _ (g.K.Sink.faults c.args.connection.now.sink.now) _ (c.in_err-answer-in-Ok.ensures.answers start_place c.in-Ok.ensures.reads))
+    rw (c.in_err-answer-in-Ok.ensures.sink, p.1, p.2) (any_ended_blames g.W.Worker.may g.W.Worker.moves (terms_of c.args.connection.now.book.now c.args.connection.now.setup.now) c.in-Ok.head start_place (pull_state g.S.Source.left g.S.Source.faults c.dispatch_call.new.connection.pull) _ _ _ _ (g.K.Sink.faults c.args.connection.now.sink.now) _ (c.in_err-answer-in-Ok.ensures.answers start_place c.in-Ok.ensures.reads))
 
 pub returns-in_ok-answer-in-Ok-clause-serves : goal.returns-in_ok-answer-in-Ok-clause-serves
 returns-in_ok-answer-in-Ok-clause-serves g c start first opening exchanges coded =
@@ -52,14 +52,14 @@ returns-in_ok-answer-in-Ok-clause-serves g c start first opening exchanges coded
     let fits : FitsHead c.in-Ok.head = record { number = number; unique = unique; time = time; count = count; operation = operation; hash = hash } in
     let start_place = pull_state g.S.Source.left g.S.Source.faults c.args.connection.now.pull in
     any_done g.W.Worker.may g.W.Worker.moves (terms_of c.args.connection.now.book.now c.args.connection.now.setup.now) start first start_place _ _ _ _ _ _ _ _ _ _ opening exchanges c.in-Ok.head c.in_ok-answer-in-Ok.answer c.send.result
-    coded fits c.answer_any.new.connection.pull.within (c.in_ok-answer-in-Ok.ensures.answers start_place c.in-Ok.ensures.reads) (rw c.in_ok-answer-in-Ok.ensures.sink at c.send.ensures.sends)
+    coded fits c.dispatch_call.new.connection.pull.within (c.in_ok-answer-in-Ok.ensures.answers start_place c.in-Ok.ensures.reads) (rw c.in_ok-answer-in-Ok.ensures.sink at c.send.ensures.sends)
 
 pub returns-in_ok-answer-in-Ok-clause-blames : goal.returns-in_ok-answer-in-Ok-clause-blames
 returns-in_ok-answer-in-Ok-clause-blames g c =
     let start_place = pull_state g.S.Source.left g.S.Source.faults c.args.connection.now.pull in
-    any_blames g.W.Worker.may g.W.Worker.moves (terms_of c.args.connection.now.book.now c.args.connection.now.setup.now) c.in-Ok.head start_place _ _ _ c.args.connection.now.setup.now.draw.drawn c.answer_any.new.connection.setup.now.draw.drawn _ _ _ _ _ c.in_ok-answer-in-Ok.answer c.send.result (c.in_ok-answer-in-Ok.ensures.answers start_place c.in-Ok.ensures.reads) (rw c.in_ok-answer-in-Ok.ensures.sink at c.send.ensures.sends)
+    any_blames g.W.Worker.may g.W.Worker.moves (terms_of c.args.connection.now.book.now c.args.connection.now.setup.now) c.in-Ok.head start_place _ _ _ c.args.connection.now.setup.now.draw.drawn c.dispatch_call.new.connection.setup.now.draw.drawn _ _ _ _ _ c.in_ok-answer-in-Ok.answer c.send.result (c.in_ok-answer-in-Ok.ensures.answers start_place c.in-Ok.ensures.reads) (rw c.in_ok-answer-in-Ok.ensures.sink at c.send.ensures.sends)
 
 pub returns-in_ok-answer-in-Ok-clause-most : goal.returns-in_ok-answer-in-Ok-clause-most
 returns-in_ok-answer-in-Ok-clause-most g c =
     let start_place = pull_state g.S.Source.left g.S.Source.faults c.args.connection.now.pull in
-    most_of c.send.result _ _ _ (any_within g.W.Worker.may g.W.Worker.moves (terms_of c.args.connection.now.book.now c.args.connection.now.setup.now) c.in-Ok.head start_place _ _ _ c.args.connection.now.setup.now.draw.drawn c.answer_any.new.connection.setup.now.draw.drawn c.in_ok-answer-in-Ok.answer c.answer_any.new.connection.pull.within (c.in_ok-answer-in-Ok.ensures.answers start_place c.in-Ok.ensures.reads)) c.send.ensures.most
+    most_of c.send.result _ _ _ (any_within g.W.Worker.may g.W.Worker.moves (terms_of c.args.connection.now.book.now c.args.connection.now.setup.now) c.in-Ok.head start_place _ _ _ c.args.connection.now.setup.now.draw.drawn c.dispatch_call.new.connection.setup.now.draw.drawn c.in_ok-answer-in-Ok.answer c.dispatch_call.new.connection.pull.within (c.in_ok-answer-in-Ok.ensures.answers start_place c.in-Ok.ensures.reads)) c.send.ensures.most

@@ -1,26 +1,26 @@
 use Rattle.std.proofs.Common.{◌≡◌, ◌+◌, ◌*◌, ◌-◌, ◌≤◌, List, [], length}
 use Rattle.ser_values.specs.declared.limits.TheConstants.{MESSAGE_BYTES}
 use Rattle.jrmp_frames.specs.declared.header.Protocol.TheVariants.{Stream}
-use Rattle.space.specs.Balance.{Balanced}
-use Rattle.call_dispatch.specs.Terms.{terms_of}
-use Rattle.call_dispatch.specs.Spot.{Spot, spot_of, IsLent}
+use Rattle.ports.specs.Balance.{Balanced}
+use Rattle.system_objects.specs.Terms.{terms_of}
+use Rattle.call_dispatch.specs.ConnectionState.{ConnectionState, state_of_connection, IsLent}
 use Rattle.call_dispatch.specs.Faults.{counts_of, Grew}
-use Rattle.call_dispatch.specs.Rows.{Exchange, GoOn}
+use Rattle.call_dispatch.specs.Rows.{Exchange, StaysOpen}
 use Rattle.call_dispatch.specs.Dialogue.{Opening, protocol_of, opened}
 use Rattle.call_dispatch.specs.Progress.{StandsWhole}
 use Rattle.call_dispatch.proofs.messages.serve_many.Given as goal
-use Rattle.call_dispatch.specs.declared.results.TheConstants.{RETURN_BYTES}
+use Rattle.system_objects.specs.declared.returns.TheConstants.{RETURN_BYTES}
 use Rattle.call_dispatch.specs.declared.messages.TheConstants.{MAX_MESSAGES}
 
 -- So many exchanges stand, and the connection goes on; each took and wrote at most so much, made at most three turns, invoked the worker at
 -- most once and drew at most two identifiers.
 abbrev pub invariant-loop-after : goal.invariant-loop-after
-invariant-loop-after g l = ((start : Spot) (opening : Opening) → protocol_of opening ≡ Stream
+invariant-loop-after g l = ((start : ConnectionState) (opening : Opening) → protocol_of opening ≡ Stream
     → StandsWhole g.W.Worker.may g.W.Worker.moves (terms_of l.initial.connection.book.now l.initial.connection.setup.now) start
-    (spot_of g.S.Source.left g.K.Sink.held g.C.Clock.given g.P.Port.asked g.W.Worker.calls g.W.Worker.seen g.W.Worker.state l.initial.connection) l.initial.connection.pull.at l.before (opened opening [])
-    → (exchanges : List Exchange) × (length exchanges ≡ l.served) × GoOn exchanges
+    (state_of_connection g.S.Source.left g.K.Sink.held g.C.Clock.given g.P.Port.asked g.W.Worker.calls g.W.Worker.seen g.W.Worker.state l.initial.connection) l.initial.connection.pull.at l.before (opened opening [])
+    → (exchanges : List Exchange) × (length exchanges ≡ l.served) × StaysOpen exchanges
     × StandsWhole g.W.Worker.may g.W.Worker.moves (terms_of l.initial.connection.book.now l.initial.connection.setup.now) start
-    (spot_of g.S.Source.left g.K.Sink.held g.C.Clock.given g.P.Port.asked g.W.Worker.calls g.W.Worker.seen g.W.Worker.state l.connection) l.connection.pull.at l.sent (opened opening exchanges))
+    (state_of_connection g.S.Source.left g.K.Sink.held g.C.Clock.given g.P.Port.asked g.W.Worker.calls g.W.Worker.seen g.W.Worker.state l.connection) l.connection.pull.at l.sent (opened opening exchanges))
     × (l.served ≤ MAX_MESSAGES)
     × (l.connection.pull.at ≤ l.initial.connection.pull.at + MESSAGE_BYTES * l.served)
     × (l.sent ≤ l.before + RETURN_BYTES * l.served)

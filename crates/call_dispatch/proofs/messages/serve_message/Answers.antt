@@ -1,5 +1,5 @@
 use Rattle.std.proofs.Common.{◌+◌, ◌∙◌, sym, ap, refl, arith, [], inl}
-use Rattle.call_dispatch.specs.Spot.{spot_of}
+use Rattle.call_dispatch.specs.ConnectionState.{state_of_connection}
 use Rattle.call_dispatch.specs.Dialogue.{opened}
 use Rattle.call_dispatch.specs.declared.end.ConnEnd.TheVariants as ends
 use Rattle.call_dispatch.proofs.Steps.{talks_took}
@@ -54,7 +54,7 @@ returns-in-DgcAck-clause-blames g c =
 pub returns-in-Call-clause-steps : goal.returns-in-Call-clause-steps
 returns-in-Call-clause-steps g c start opening exchanges count code stands =
     let gives = rw c.in-Call.is at (rw c.in-Ok-Some.field-0-is at c.in-Ok-Some.ensures.gives) in
-    c.serve_call.ensures.serves start (spot_of g.S.Source.left g.K.Sink.held g.C.Clock.given g.P.Port.asked g.W.Worker.calls g.W.Worker.seen g.W.Worker.state c.args.connection.now) opening exchanges (record {
+    c.serve_call.ensures.serves start (state_of_connection g.S.Source.left g.K.Sink.held g.C.Clock.given g.P.Port.asked g.W.Worker.calls g.W.Worker.seen g.W.Worker.state c.args.connection.now) opening exchanges (record {
       few = omega (arith, count, c.requires.served, c.if-served-eq-MAX_MESSAGES.false);
       code = code;
       place = c.args.connection.now.pull.at;

@@ -1,4 +1,4 @@
-use Rattle.call_dispatch.specs.Terms.{terms_of}
+use Rattle.system_objects.specs.Terms.{terms_of}
 use Rattle.call_dispatch.proofs.returns.prepare.Goals as goal
 
 pub returns-in-Void-clause-prepares : goal.returns-in-Void-clause-prepares
@@ -14,4 +14,4 @@ pub returns-in-NewRemote-clause-prepares : goal.returns-in-NewRemote-clause-prep
 returns-in-NewRemote-clause-prepares c = rw c.in-NewRemote.is (c.prepare_new.ensures.prepares c.args.setup.now)
 
 pub returns-in-Fault-clause-prepares : goal.returns-in-Fault-clause-prepares
-returns-in-Fault-clause-prepares c = rw c.in-Fault.is (c.prepare_fault.ensures.prepares (terms_of c.args.book.now c.args.setup.now) c.args.returned)
+returns-in-Fault-clause-prepares c = rw c.in-Fault.is (c.prepare_fault.ensures.prepares (terms_of c.args.book.now c.args.setup.now) c.args.result_type)

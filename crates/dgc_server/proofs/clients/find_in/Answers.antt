@@ -1,5 +1,5 @@
 use Rattle.std.proofs.Common.{ap, sym, ◌∙◌}
-use Rattle.dgc_server.specs.Stands.{is_in_order}
+use Rattle.dgc_server.specs.StandsForCalls.{is_in_order}
 use Rattle.dgc_server.specs.Table.{entry_of}
 use Rattle.dgc_server.proofs.Chunked.{order-chunk}
 use Rattle.dgc_server.proofs.clients.find_in.Goals as goal

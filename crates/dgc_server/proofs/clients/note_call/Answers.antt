@@ -2,8 +2,8 @@ use Rattle.std.proofs.Common.{◌≡◌, ◌+◌, ◌≤◌, ap, sym, subst, ◌
 use Rattle.object_ids.specs.declared.ids.ObjId.{ObjId}
 use Rattle.dgc_server.specs.Entry.{Entry}
 use Rattle.dgc_server.specs.Table.{entry_of, with_entry}
-use Rattle.dgc_server.specs.Stands.{entry_after}
-use Rattle.dgc_server.specs.Index.{Way, counted_at, is_counted, one_if}
+use Rattle.dgc_server.specs.StandsForCalls.{entry_after}
+use Rattle.dgc_server.specs.HolderIndex.{Way, counted_at, is_counted, one_if}
 use Rattle.dgc_server.specs.Chunks.{all_of}
 use Rattle.dgc_server.proofs.IndexLaws.{none-is-counted, own-counted}
 use Rattle.dgc_server.proofs.Chunked.{all-counted, both_ok, on_err}

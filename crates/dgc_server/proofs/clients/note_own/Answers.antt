@@ -5,8 +5,8 @@ use Rattle.object_ids.specs.declared.ids.ObjId.{ObjId}
 use Rattle.dgc_server.specs.declared.clients.Chunk.{Chunk}
 use Rattle.dgc_server.specs.Entry.{Entry, each_has_number}
 use Rattle.dgc_server.specs.Table.{entry_of, with_entry}
-use Rattle.dgc_server.specs.Stands.{entry_after, is_in_order, each_once}
-use Rattle.dgc_server.specs.Index.{Way, counted_at, is_counted, one_if, IsNoted, IsSettled}
+use Rattle.dgc_server.specs.StandsForCalls.{entry_after, is_in_order, each_once}
+use Rattle.dgc_server.specs.HolderIndex.{Way, counted_at, is_counted, one_if, IsNoted, IsSettled}
 use Rattle.dgc_server.specs.Chunks.{all_of, is_filled, IsChunkOf, IsBounded}
 use Rattle.dgc_server.proofs.Freeing.{if_ok}
 use Rattle.dgc_server.proofs.MarkLaws.{all-at}

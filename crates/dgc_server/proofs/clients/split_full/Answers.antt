@@ -6,7 +6,7 @@ use Rattle.std.proofs.lemmas.List.{length-set}
 use Rattle.std.proofs.lemmas.List.Edits.{length-insert}
 use Rattle.dgc_server.specs.declared.clients.Chunk.{Chunk}
 use Rattle.dgc_server.specs.Entry.{Entry}
-use Rattle.dgc_server.specs.Index.{IsSettled}
+use Rattle.dgc_server.specs.HolderIndex.{IsSettled}
 use Rattle.dgc_server.specs.Chunks.{all_of, is_filled, IsBounded}
 use Rattle.dgc_server.proofs.Chunked.{split-all, split-test}
 use Rattle.dgc_server.proofs.Board.{every-at, every-front, every-back, every-split, part-bounded}

@@ -2,7 +2,7 @@ use Rattle.std.proofs.Common.{◌≡◌, length, refl, ap, sym, subst, ◌∙◌
 use Rattle.std.specs.Prelude.{filter}
 use Rattle.std.specs.List.{AllByRecursion}
 use Rattle.history.proofs.ListLemmas.{every-filter}
-use Rattle.dgc_server.specs.Index.{entry_names}
+use Rattle.dgc_server.specs.HolderIndex.{entry_names}
 use Rattle.dgc_server.specs.Chunks.{all_of, is_filled, IsBounded}
 use Rattle.dgc_server.proofs.Walking.{walked-all}
 use Rattle.dgc_server.proofs.Chunked.{filled-all, all-filled}

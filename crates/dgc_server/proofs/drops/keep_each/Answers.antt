@@ -5,7 +5,7 @@ use Rattle.std.proofs.lemmas.List.Elements.{filter-append}
 use Rattle.dgc_server.specs.declared.clients.Chunk.{Chunk}
 use Rattle.std.specs.List.{AllByRecursion}
 use Rattle.dgc_server.specs.Entry.{Entry, is_entry_kept}
-use Rattle.dgc_server.specs.Index.{IsSettled}
+use Rattle.dgc_server.specs.HolderIndex.{IsSettled}
 use Rattle.dgc_server.specs.Chunks.{all_of, IsBounded, IsCalmChunk}
 use Rattle.dgc_server.proofs.Chunked.{all-append}
 use Rattle.dgc_server.proofs.Moving.{same-at, take-chunk, take-set-next, drop-set-next, take-end}

@@ -2,7 +2,7 @@ use Rattle.std.proofs.Common.{rules, ◌≡◌, ◌+◌, ◌<◌, ◌++◌, ◌�
 use Rattle.std.specs.Prelude.{slice_set, vec_len}
 use Rattle.std.proofs.lemmas.List.{append-nil, map-append}
 use Rattle.dgc_server.specs.declared.clients.Chunk.{Chunk}
-use Rattle.dgc_server.specs.Index.{is_named, with_only, objects_in}
+use Rattle.dgc_server.specs.HolderIndex.{is_named, with_only, objects_in}
 use Rattle.dgc_server.specs.Chunks.{all_of, IsCalmChunk}
 use Rattle.dgc_server.proofs.Chunked.{all-append, set-same, set-counts}
 use Rattle.dgc_server.proofs.Moving.{objects-append, only-part, take-set-next, take-end}

@@ -1,6 +1,6 @@
 use Rattle.std.proofs.Common.{◌≡◌, ℕ, ◌+◌, ◌-◌, length, map, take}
 use Rattle.std.specs.List.{AllByRecursion}
-use Rattle.dgc_server.specs.Index.{is_named, with_only, objects_in}
+use Rattle.dgc_server.specs.HolderIndex.{is_named, with_only, objects_in}
 use Rattle.dgc_server.specs.Chunks.{all_of, IsCalmChunk}
 use Rattle.dgc_server.proofs.drops.keep_named.Given as goal
 

@@ -3,7 +3,7 @@ use Rattle.std.specs.Prelude.{vec_len, slice_set}
 use Rattle.std.specs.List.{list_all}
 use Rattle.dgc_server.specs.declared.clients.Chunk.{Chunk}
 use Rattle.dgc_server.specs.Entry.{is_entry_kept}
-use Rattle.dgc_server.specs.Index.{entry_names}
+use Rattle.dgc_server.specs.HolderIndex.{entry_names}
 use Rattle.dgc_server.specs.Chunks.{all_of, IsBounded}
 use Rattle.dgc_server.proofs.Walking.{rest_of}
 use Rattle.dgc_server.proofs.Chunked.{all-append, all-part, set-same, set-counts, set-all, part-fewer}

@@ -3,7 +3,7 @@ use Rattle.std.proofs.lemmas.Fn.{filter_same}
 use Rattle.object_ids.specs.declared.ids.ObjId.{ObjId}
 use Rattle.dgc_server.specs.declared.numbers.Numbers.{Numbers}
 use Rattle.dgc_server.specs.Entry.{object_entries}
-use Rattle.dgc_server.specs.Index.{is_named}
+use Rattle.dgc_server.specs.HolderIndex.{is_named}
 use Rattle.dgc_server.proofs.MarkLaws.{entries-filtered}
 use Rattle.dgc_server.proofs.few_marks.keep_named.Goals as goal
 

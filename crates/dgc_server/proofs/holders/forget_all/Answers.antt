@@ -1,6 +1,6 @@
 use Rattle.std.proofs.Common.{ap, sym, ◌∙◌, arith}
 use Rattle.dgc_server.specs.declared.holders.Count.{Count}
-use Rattle.dgc_server.specs.Index.{Naming, counted_at}
+use Rattle.dgc_server.specs.HolderIndex.{Naming, counted_at}
 use Rattle.dgc_server.proofs.HolderLaws.{no_id}
 use Rattle.dgc_server.proofs.Forgetting.{cleared-next, total-next, cleared-last, total-last}
 use Rattle.dgc_server.proofs.holders.forget_all.Goals as goal

@@ -2,7 +2,7 @@ use Rattle.std.proofs.Common.{◌≡◌, ◌+◌, ◌*◌, ◌≤◌, ◌^◌, d
 use Rattle.std.specs.Prelude.{if◌then◌else◌}
 use Rattle.object_ids.specs.declared.ids.ObjId.{ObjId}
 use Rattle.dgc_server.specs.Entry.{is_in}
-use Rattle.dgc_server.specs.Index.{Way, Naming, counted_at, total_of}
+use Rattle.dgc_server.specs.HolderIndex.{Way, Naming, counted_at, total_of}
 use Rattle.dgc_server.proofs.holders.forget_all.Given as goal
 
 abbrev pub invariant-loop-object : goal.invariant-loop-object

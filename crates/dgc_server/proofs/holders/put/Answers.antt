@@ -1,6 +1,6 @@
 use Rattle.std.proofs.Common.{◌≡◌, ap}
 use Rattle.std.specs.Prelude.{false, is_some}
-use Rattle.dgc_server.specs.Index.{has_count}
+use Rattle.dgc_server.specs.HolderIndex.{has_count}
 use Rattle.dgc_server.proofs.HolderLaws.{put-count, put-kept}
 use Rattle.dgc_server.proofs.holders.put.Goals as goal
 

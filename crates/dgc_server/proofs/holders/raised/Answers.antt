@@ -1,4 +1,4 @@
-use Rattle.dgc_server.specs.Index.{Holding, Naming}
+use Rattle.dgc_server.specs.HolderIndex.{Holding, Naming}
 use Rattle.dgc_server.proofs.HolderLaws.{each-way}
 use Rattle.dgc_server.proofs.holders.raised.Goals as goal
 

@@ -2,8 +2,8 @@ use Rattle.std.proofs.Common.{◌≡◌, List, ◌∷◌, true, subst, ap, sym, 
 use Rattle.std.proofs.lemmas.Bool.{and_parts}
 use Rattle.std.specs.Prelude.{not}
 use Rattle.dgc_server.specs.Entry.{ObjectEntry, object_entries, has_object}
-use Rattle.dgc_server.specs.Stands.{each_once}
-use Rattle.dgc_server.specs.Index.{Way, counted_at, loses}
+use Rattle.dgc_server.specs.StandsForCalls.{each_once}
+use Rattle.dgc_server.specs.HolderIndex.{Way, counted_at, loses}
 use Rattle.dgc_server.proofs.HolderLaws.{Lowers, lowers-step, lower-enough}
 use Rattle.dgc_server.proofs.holders.release.Goals as goal
 

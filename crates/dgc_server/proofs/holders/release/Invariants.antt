@@ -1,8 +1,8 @@
 use Rattle.std.proofs.Common.{◌≡◌, true}
 use Rattle.object_ids.specs.declared.ids.ObjId.{ObjId}
 use Rattle.dgc_server.specs.Entry.{object_entries}
-use Rattle.dgc_server.specs.Stands.{each_once}
-use Rattle.dgc_server.specs.Index.{Way, counted_at, loses, has_count}
+use Rattle.dgc_server.specs.StandsForCalls.{each_once}
+use Rattle.dgc_server.specs.HolderIndex.{Way, counted_at, loses, has_count}
 use Rattle.dgc_server.proofs.HolderLaws.{Lowers}
 use Rattle.dgc_server.proofs.holders.release.Given as goal
 

@@ -1,6 +1,6 @@
 use Rattle.std.proofs.Common.{◌≡◌, ◌+◌, ap, sym, ◌∙◌}
 use Rattle.std.specs.Prelude.{nat_lt}
-use Rattle.dgc_server.specs.Index.{counted_at, loses, has_with, one_if}
+use Rattle.dgc_server.specs.HolderIndex.{counted_at, loses, has_with, one_if}
 use Rattle.dgc_server.proofs.Shares.{lost-enough, over-step, still-step}
 use Rattle.dgc_server.proofs.holders.release_over.Goals as goal
 

@@ -1,5 +1,5 @@
 use Rattle.std.proofs.Common.{◌≡◌, ◌+◌, ap, arith}
-use Rattle.dgc_server.specs.Index.{count_by, counted_at, share_by, one_if}
+use Rattle.dgc_server.specs.HolderIndex.{count_by, counted_at, share_by, one_if}
 use Rattle.dgc_server.proofs.HolderLaws.{moved}
 use Rattle.dgc_server.proofs.holders.shift.Goals as goal
 

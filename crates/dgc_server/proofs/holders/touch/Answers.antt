@@ -1,6 +1,6 @@
 use Rattle.std.proofs.Common.{◌≡◌, sym, ◌∙◌}
 use Rattle.std.specs.Prelude.{false}
-use Rattle.dgc_server.specs.Index.{has_count}
+use Rattle.dgc_server.specs.HolderIndex.{has_count}
 use Rattle.dgc_server.proofs.HolderLaws.{touched, put-kept}
 use Rattle.dgc_server.proofs.holders.touch.Goals as goal
 

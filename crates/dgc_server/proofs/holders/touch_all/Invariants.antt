@@ -1,7 +1,7 @@
 use Rattle.std.proofs.Common.{◌≡◌, true, take}
 use Rattle.object_ids.specs.declared.ids.ObjId.{ObjId}
 use Rattle.dgc_server.specs.Entry.{is_in}
-use Rattle.dgc_server.specs.Index.{Way, counted_at, has_count}
+use Rattle.dgc_server.specs.HolderIndex.{Way, counted_at, has_count}
 use Rattle.dgc_server.proofs.holders.touch_all.Given as goal
 
 abbrev pub invariant-loop-object : goal.invariant-loop-object

@@ -3,9 +3,9 @@ use Rattle.std.specs.Prelude.{slice_set, vec_len}
 use Rattle.std.specs.List.{list_all, AllByRecursion}
 use Rattle.std.proofs.lemmas.List.{length-set, append-nil}
 use Rattle.dgc_server.specs.declared.clients.Chunk.{Chunk}
-use Rattle.dgc_server.specs.Entry.{lapsed, each_has_number}
-use Rattle.dgc_server.specs.Stands.{each_once}
-use Rattle.dgc_server.specs.Index.{Tally, tally_in, tally_at, ends_later, IsSettled}
+use Rattle.dgc_server.specs.Entry.{entry_after_lapse, each_has_number}
+use Rattle.dgc_server.specs.StandsForCalls.{each_once}
+use Rattle.dgc_server.specs.HolderIndex.{Tally, tally_in, tally_at, ends_later, IsSettled}
 use Rattle.dgc_server.specs.Table.{after_lapse}
 use Rattle.dgc_server.specs.Chunks.{all_of, IsBounded}
 use Rattle.dgc_server.proofs.Chunked.{all-append, all-part}
@@ -86,7 +86,7 @@ loop-i-preserved c =
     let took : take (i + 1) (slice_set cs i y) ≡ take i cs ++ y ∷ [] = take-set-next cs i y here in
     let passed : y.entries.items ≡ after_lapse c.args.to (get_or all i x).entries.items =
     c.pass_chunk-passed.ensures.entries ∙ ap (λ (z : Chunk). after_lapse c.args.to z.entries.items) (sym own) in
-    let P : Chunk → Type 0 = λ z. (k : Tally) → result k + tally_in k c.args.from z.entries.items ≡ tally k + tally_in k c.args.to (map (lapsed c.args.to) z.entries.items) in record {
+    let P : Chunk → Type 0 = λ z. (k : Tally) → result k + tally_in k c.args.from z.entries.items ≡ tally k + tally_in k c.args.to (map (entry_after_lapse c.args.to) z.entries.items) in record {
       long = length-set cs i y ∙ long;
       rest = drop-set-next cs all i y inv.rest;
       done = ap all_of took ∙ all-append (take i cs) (y ∷ [])

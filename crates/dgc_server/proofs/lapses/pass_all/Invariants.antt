@@ -1,7 +1,7 @@
 use Rattle.std.proofs.Common.{◌≡◌, ◌-◌, length, take, drop}
 use Rattle.std.specs.List.{AllByRecursion}
 use Rattle.dgc_server.specs.Table.{after_lapse}
-use Rattle.dgc_server.specs.Index.{tally_at}
+use Rattle.dgc_server.specs.HolderIndex.{tally_at}
 use Rattle.dgc_server.specs.Chunks.{all_of, IsBounded}
 use Rattle.dgc_server.proofs.Passing.{Passing}
 use Rattle.dgc_server.proofs.lapses.pass_all.Given as goal

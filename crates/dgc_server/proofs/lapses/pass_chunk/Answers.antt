@@ -2,7 +2,7 @@ use Rattle.std.proofs.Common.{◌≡◌, ◌+◌, ap, sym, ◌∙◌, arith}
 use Rattle.std.specs.Prelude.{filter}
 use Rattle.dgc_server.specs.Entry.{is_entry_kept}
 use Rattle.dgc_server.specs.Table.{after_lapse}
-use Rattle.dgc_server.specs.Index.{tally_at}
+use Rattle.dgc_server.specs.HolderIndex.{tally_at}
 use Rattle.dgc_server.proofs.Board.{settled-tallies, settled-ends}
 use Rattle.dgc_server.proofs.IndexLaws.{all-later, all-earlier, nothing-lapses, settled-after}
 use Rattle.dgc_server.proofs.Passing.{ends-lapse}

@@ -1,7 +1,7 @@
 use Rattle.std.proofs.Common.{rules}
 use Rattle.indexmap.proofs.CallerLemmas.{filter-RetainsPairs}
 use Rattle.dgc_server.specs.Entry.{object_entries}
-use Rattle.dgc_server.specs.Index.{is_named}
+use Rattle.dgc_server.specs.HolderIndex.{is_named}
 use Rattle.std.proofs.Common.{ap, ◌∙◌}
 use Rattle.dgc_server.proofs.MarkLaws.{entries-filtered}
 use Rattle.dgc_server.proofs.many_marks.keep_named.Goals as goal

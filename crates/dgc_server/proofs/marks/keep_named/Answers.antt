@@ -1,7 +1,7 @@
 use Rattle.std.proofs.Common.{ap, arith, length}
 use Rattle.std.proofs.lemmas.List.{length-map}
 use Rattle.dgc_server.specs.Entry.{ObjectEntry, object_entry, object_entries}
-use Rattle.dgc_server.specs.Index.{is_named}
+use Rattle.dgc_server.specs.HolderIndex.{is_named}
 use Rattle.dgc_server.proofs.Purging.{filter-fewer}
 use Rattle.dgc_server.proofs.marks.keep_named.Goals as goal
 

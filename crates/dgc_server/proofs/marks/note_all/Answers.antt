@@ -1,9 +1,10 @@
 use Rattle.std.proofs.Common.{◌≡◌, ◌+◌, ◌≤◌, List, ap, sym, subst, ◌∙◌, arith, drop, get_or, true}
+use Rattle.sequence.proofs.Lists.{drop-at}
 use Rattle.object_ids.specs.declared.ids.ObjId.{ObjId}
-use Rattle.dgc_server.specs.Numbers.{noted}
+use Rattle.dgc_server.specs.Numbers.{with_call_noted}
 use Rattle.dgc_server.specs.Entry.{ObjectEntry, object_entries, objects_noted, numbers_of, absent_in}
-use Rattle.dgc_server.specs.Index.{counts_in}
-use Rattle.dgc_server.proofs.HolderLaws.{no_id, next-in, drop-at, at-most-one}
+use Rattle.dgc_server.specs.HolderIndex.{counts_in}
+use Rattle.dgc_server.proofs.HolderLaws.{no_id, next-in, at-most-one}
 use Rattle.dgc_server.proofs.Room.{absent-here, absent-next}
 use Rattle.dgc_server.proofs.marks.note_all.Goals as goal
 
@@ -42,6 +43,6 @@ loop-object-preserved c =
       counts = λ w o. (let so_far = c.loop-object.invariant.counts w o in let step = c.note_one.ensures.counts w o in omega arith);
       has = λ o h. c.note_one.ensures.kept o (c.loop-object.invariant.has o h);
       room = subst Q (sym c.note_one.ensures.objects)
-          (absent-next x (noted c.args.kind c.args.number.now (numbers_of es x)) (drop (i + 1) c.args.named.now) es c.loop-object.objects.room c.note_one.new.objects.room
+          (absent-next x (with_call_noted c.args.kind c.args.number.now (numbers_of es x)) (drop (i + 1) c.args.named.now) es c.loop-object.objects.room c.note_one.new.objects.room
           (subst P parted c.loop-object.invariant.room) c.note_one.ensures.room);
     }

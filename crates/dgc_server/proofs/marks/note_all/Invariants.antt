@@ -1,7 +1,7 @@
 use Rattle.std.proofs.Common.{◌≡◌, ◌+◌, ◌≤◌, true, drop}
 use Rattle.object_ids.specs.declared.ids.ObjId.{ObjId}
 use Rattle.dgc_server.specs.Entry.{object_entries, objects_noted, is_in, absent_in}
-use Rattle.dgc_server.specs.Index.{Way, counted_at, has_count, counts_in, one_if}
+use Rattle.dgc_server.specs.HolderIndex.{Way, counted_at, has_count, counts_in, one_if}
 use Rattle.dgc_server.proofs.marks.note_all.Given as goal
 
 abbrev pub invariant-loop-object : goal.invariant-loop-object

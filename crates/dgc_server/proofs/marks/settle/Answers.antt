@@ -1,6 +1,6 @@
 use Rattle.std.proofs.Common.{◌+◌, ap, sym, ◌∙◌, true}
 use Rattle.dgc_server.specs.Entry.{object_entries}
-use Rattle.dgc_server.specs.Index.{counted_at, counts_in, one_if}
+use Rattle.dgc_server.specs.HolderIndex.{counted_at, counts_in, one_if}
 use Rattle.dgc_server.proofs.Shares.{lost-enough, settle-step}
 use Rattle.dgc_server.proofs.marks.settle.Goals as goal
 

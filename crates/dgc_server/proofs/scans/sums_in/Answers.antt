@@ -4,8 +4,8 @@ use Rattle.std.proofs.lemmas.List.Sums.{sum_by-append}
 use Rattle.dgc_server.specs.declared.clients.Chunk.{Chunk}
 use Rattle.dgc_server.specs.declared.table.Sums.{Sums}
 use Rattle.dgc_server.specs.Entry.{each_has_number, has_time_left, remembered_of}
-use Rattle.dgc_server.specs.Table.{remembered}
-use Rattle.dgc_server.specs.Index.{sums_at}
+use Rattle.dgc_server.specs.Table.{remembered_count}
+use Rattle.dgc_server.specs.HolderIndex.{sums_at}
 use Rattle.dgc_server.specs.Chunks.{all_of, IsBounded}
 use Rattle.dgc_server.proofs.Board.{every-at, all-settled, front-leased}
 use Rattle.dgc_server.proofs.Chunked.{all-part}
@@ -32,13 +32,13 @@ loop-chunk-preserved-then-to-chunk c =
     let same : sums_at c.args.to own.entries.items ≡ sums_at c.args.from own.entries.items =
     same-sums c.args.from own.least c.args.to own.entries.items late quiet ((every-at (IsBounded c.args.from c.args.next) cs i x within c.requires.bounded).settled (omega arith)) in
     let leased : length (filter (has_time_left c.args.to) own.entries.items) ≡ length (filter (has_time_left c.args.from) own.entries.items) = ap (λ (s : Sums). s.leased) same in
-    let pairs : remembered c.args.to own.entries.items ≡ remembered c.args.from own.entries.items = ap (λ (s : Sums). s.pairs) same in
+    let pairs : remembered_count c.args.to own.entries.items ≡ remembered_count c.args.from own.entries.items = ap (λ (s : Sums). s.pairs) same in
     let front = all_of (take i cs) in
     let next : all_of (take (i + 1) cs) ≡ front ++ own.entries.items = take-chunk cs i x within in
     let l1 = ap (λ l. length (filter (has_time_left c.args.from) l)) next ∙ many-append (has_time_left c.args.from) front own.entries.items in
     let l2 = ap (λ l. length (filter (has_time_left c.args.to) l)) next ∙ many-append (has_time_left c.args.to) front own.entries.items in
-    let p1 = ap (remembered c.args.from) next ∙ sum_by-append (remembered_of c.args.from) front own.entries.items in
-    let p2 = ap (remembered c.args.to) next ∙ sum_by-append (remembered_of c.args.to) front own.entries.items in
+    let p1 = ap (remembered_count c.args.from) next ∙ sum_by-append (remembered_of c.args.from) front own.entries.items in
+    let p2 = ap (remembered_count c.args.to) next ∙ sum_by-append (remembered_of c.args.to) front own.entries.items in
     let a = c.loop-chunk.invariant.leased in let b = c.loop-chunk.invariant.pairs in record {
       leased = omega (arith, a, l1, l2, leased);
       pairs = omega (arith, b, p1, p2, pairs);
@@ -63,8 +63,8 @@ sums_after-so_far-requires-clause-pairs c =
     let cs = c.args.chunks.now in
     let x = c.chunk-item.result in
     let front = sum-front (remembered_of c.args.from) cs c.loop-chunk.chunk-index x c.loop-chunk-test.true in
-    let all : c.args.sums.pairs ≡ remembered c.args.from (all_of cs) = ap (λ (s : Sums). s.pairs) c.requires.sums in
-    let own = ap (remembered c.args.from) c.deref.ensures.value ∙ ap (λ (y : Chunk). remembered c.args.from y.entries.items) c.chunk-item.is in
+    let all : c.args.sums.pairs ≡ remembered_count c.args.from (all_of cs) = ap (λ (s : Sums). s.pairs) c.requires.sums in
+    let own = ap (remembered_count c.args.from) c.deref.ensures.value ∙ ap (λ (y : Chunk). remembered_count c.args.from y.entries.items) c.chunk-item.is in
     let so_far = c.loop-chunk.invariant.pairs in omega (arith, front, all, own, so_far)
 
 pub loop-chunk-preserved : goal.loop-chunk-preserved
@@ -78,10 +78,10 @@ loop-chunk-preserved c =
     let next : all_of (take (i + 1) cs) ≡ front ++ own = take-chunk cs i x c.loop-chunk-test.true in
     let l1 = ap (λ l. length (filter (has_time_left c.args.from) l)) next ∙ many-append (has_time_left c.args.from) front own in
     let l2 = ap (λ l. length (filter (has_time_left c.args.to) l)) next ∙ many-append (has_time_left c.args.to) front own in
-    let p1 = ap (remembered c.args.from) next ∙ sum_by-append (remembered_of c.args.from) front own in
-    let p2 = ap (remembered c.args.to) next ∙ sum_by-append (remembered_of c.args.to) front own in
+    let p1 = ap (remembered_count c.args.from) next ∙ sum_by-append (remembered_of c.args.from) front own in
+    let p2 = ap (remembered_count c.args.to) next ∙ sum_by-append (remembered_of c.args.to) front own in
     let o1 = ap (λ l. length (filter (has_time_left c.args.from) l)) here in let o2 = ap (λ l. length (filter (has_time_left c.args.to) l)) here in
-    let q1 = ap (remembered c.args.from) here in let q2 = ap (remembered c.args.to) here in
+    let q1 = ap (remembered_count c.args.from) here in let q2 = ap (remembered_count c.args.to) here in
     let s1 = c.sums_after-so_far.ensures.leased in let s2 = c.sums_after-so_far.ensures.pairs in
     let a = c.loop-chunk.invariant.leased in let b = c.loop-chunk.invariant.pairs in record {
       leased = omega (arith, a, l1, l2, o1, o2, s1);
@@ -94,8 +94,8 @@ returns c =
     let stop = c.loop-chunk-test.false in
     let whole = take-end cs c.loop-chunk.chunk-index (omega arith) in
     let l1 = ap (λ l. length (filter (has_time_left c.args.from) (all_of l))) whole in let l2 = ap (λ l. length (filter (has_time_left c.args.to) (all_of l))) whole in
-    let p1 = ap (λ l. remembered c.args.from (all_of l)) whole in let p2 = ap (λ l. remembered c.args.to (all_of l)) whole in
+    let p1 = ap (λ l. remembered_count c.args.from (all_of l)) whole in let p2 = ap (λ l. remembered_count c.args.to (all_of l)) whole in
     let leased : c.args.sums.leased ≡ length (filter (has_time_left c.args.from) (all_of cs)) = ap (λ (s : Sums). s.leased) c.requires.sums in
-    let pairs : c.args.sums.pairs ≡ remembered c.args.from (all_of cs) = ap (λ (s : Sums). s.pairs) c.requires.sums in
+    let pairs : c.args.sums.pairs ≡ remembered_count c.args.from (all_of cs) = ap (λ (s : Sums). s.pairs) c.requires.sums in
     let a = c.loop-chunk.invariant.leased in let b = c.loop-chunk.invariant.pairs in
-    sums-are c.loop-chunk.so_far (length (filter (has_time_left c.args.to) (all_of cs))) (remembered c.args.to (all_of cs)) (omega (arith, a, l1, l2, leased)) (omega (arith, b, p1, p2, pairs))
+    sums-are c.loop-chunk.so_far (length (filter (has_time_left c.args.to) (all_of cs))) (remembered_count c.args.to (all_of cs)) (omega (arith, a, l1, l2, leased)) (omega (arith, b, p1, p2, pairs))

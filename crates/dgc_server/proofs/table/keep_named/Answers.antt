@@ -3,7 +3,7 @@ use Rattle.std.specs.Prelude.{slice_set, vec_len}
 use Rattle.std.proofs.lemmas.List.{length-set}
 use Rattle.std.proofs.lemmas.List.Sums.{sum_by-set}
 use Rattle.dgc_server.specs.Entry.{Entry}
-use Rattle.dgc_server.specs.Index.{is_named, with_only, object_count, IsCalm}
+use Rattle.dgc_server.specs.HolderIndex.{is_named, with_only, object_count, IsCalm}
 use Rattle.dgc_server.proofs.Over.{over_more}
 use Rattle.dgc_server.proofs.Purging.{any_entry, only-set, only-none, one-within, one-less}
 use Rattle.dgc_server.proofs.Board.{every-at, every-set, calm-only}

@@ -1,6 +1,6 @@
 use Rattle.std.proofs.Common.{◌≡◌, ℕ, ◌+◌, ◌-◌, ◌≤◌, ◌++◌, length, map, take, drop}
 use Rattle.std.specs.List.{AllByRecursion}
-use Rattle.dgc_server.specs.Index.{is_named, with_only, objects_in, IsCalm}
+use Rattle.dgc_server.specs.HolderIndex.{is_named, with_only, objects_in, IsCalm}
 use Rattle.dgc_server.proofs.table.keep_named.Given as goal
 
 abbrev pub decreases-loop-i : goal.decreases-loop-i

@@ -2,9 +2,9 @@ use Rattle.std.proofs.Common.{◌≡◌, ◌+◌, ◌≤◌, List, ap, sym, subs
 use Rattle.std.specs.Prelude.{slice_set, slice_index_or, Result, OnOk, IfOk}
 use Rattle.dgc_server.specs.Entry.{Entry}
 use Rattle.dgc_server.specs.Table.{entry_of, with_entry}
-use Rattle.dgc_server.specs.Stands.{entry_after}
+use Rattle.dgc_server.specs.StandsForCalls.{entry_after}
 use Rattle.object_ids.specs.declared.ids.ObjId.{ObjId}
-use Rattle.dgc_server.specs.Index.{Way, counted_at, is_counted, one_if, IsNoted}
+use Rattle.dgc_server.specs.HolderIndex.{Way, counted_at, is_counted, one_if, IsNoted}
 use Rattle.dgc_server.proofs.Chunked.{both_ok}
 use Rattle.dgc_server.proofs.Ordered.{client-of}
 use Rattle.dgc_server.proofs.table.note.Goals as goal

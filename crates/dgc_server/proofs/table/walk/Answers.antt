@@ -1,6 +1,6 @@
 use Rattle.std.proofs.Common.{◌≡◌, ◌<◌, rules, ap, sym, ◌∙◌, arith, length, filter, get_or, true}
 use Rattle.std.specs.Prelude.{vec_len}
-use Rattle.dgc_server.specs.Index.{entry_names, one_if}
+use Rattle.dgc_server.specs.HolderIndex.{entry_names, one_if}
 use Rattle.dgc_server.proofs.Walking.{changed, changed-same, changed-kept, changed-names, changed-front}
 use Rattle.dgc_server.proofs.Board.{settled-at}
 use Rattle.dgc_server.proofs.table.walk.Goals as goal

@@ -1,7 +1,7 @@
 use Rattle.std.proofs.Common.{◌≡◌, ℕ, ◌+◌, ◌-◌, ◌≤◌, length, filter, take, true}
 use Rattle.std.specs.List.{list_all, AllByRecursion}
 use Rattle.dgc_server.specs.Entry.{is_entry_kept}
-use Rattle.dgc_server.specs.Index.{entry_names, IsSettled}
+use Rattle.dgc_server.specs.HolderIndex.{entry_names, IsSettled}
 use Rattle.dgc_server.proofs.Walking.{rest_of}
 use Rattle.dgc_server.proofs.table.walk.Given as goal
 

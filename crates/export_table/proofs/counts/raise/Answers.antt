@@ -2,7 +2,7 @@ use Rattle.std.proofs.Common.{◌+◌, ap, ◌∙◌}
 use Rattle.std.specs.Prelude.{if◌then◌else◌}
 use Rattle.object_ids.specs.Same.{same_id}
 use Rattle.export_table.proofs.Counting.{put-count, raised}
-use Rattle.export_table.specs.Index.{count_at}
+use Rattle.export_table.specs.WaitIndex.{count_at}
 use Rattle.export_table.proofs.counts.raise.Goals as goal
 
 pub returns-in-Ok-clause-counts : goal.returns-in-Ok-clause-counts

@@ -1,7 +1,7 @@
 use Rattle.std.proofs.Common.{◌≡◌, ◌<◌, ℕ, List, length, drop, subst, sym, arith}
 use Rattle.std.specs.Prelude.{filter}
 use Rattle.export_table.specs.declared.waits.Wait.{Wait}
-use Rattle.export_table.specs.Index.{stays, IsIndexOf}
+use Rattle.export_table.specs.WaitIndex.{stays, IsIndexOf}
 use Rattle.export_table.proofs.Indexing.{next-counted, next-returned, next-once, next-index, so-far-last}
 use Rattle.export_table.proofs.index.keep.Goals as goal
 

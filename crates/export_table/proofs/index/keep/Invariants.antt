@@ -3,7 +3,7 @@ use Rattle.std.specs.Prelude.{filter}
 use Rattle.indexmap.specs.IndexMap.{spare}
 use Rattle.indexmap.specs.IndexSet.{spare as places}
 use Rattle.export_table.specs.Waits.{each_once}
-use Rattle.export_table.specs.Index.{stays, IsIndexOf}
+use Rattle.export_table.specs.WaitIndex.{stays, IsIndexOf}
 use Rattle.export_table.proofs.index.keep.Given as goal
 
 -- What stays of the waits so far, and those to come, are what is indexed.

@@ -1,7 +1,7 @@
 use Rattle.std.proofs.Common.{◌+◌, ap, ◌∙◌}
 use Rattle.std.specs.Prelude.{if◌then◌else◌}
 use Rattle.object_ids.specs.Same.{same_uid}
-use Rattle.export_table.specs.Index.{returned_at}
+use Rattle.export_table.specs.WaitIndex.{returned_at}
 use Rattle.export_table.proofs.Returning.{put-returned, raised-returned}
 use Rattle.export_table.proofs.returns.raise.Goals as goal
 

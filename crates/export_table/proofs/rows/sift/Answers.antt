@@ -2,7 +2,7 @@ use Rattle.std.proofs.Common.{List, ◌++◌, max, ap, sym, subst, ◌∙◌, ar
 use Rattle.std.specs.Prelude.{filter}
 use Rattle.export_table.specs.declared.waits.Wait.{Wait}
 use Rattle.export_table.specs.declared.rows.Export.{Export}
-use Rattle.export_table.specs.Rows.{is_row_kept, held_by, withdrawn, IsPart}
+use Rattle.export_table.specs.ExportRows.{is_row_kept, held_by, withdrawn_ids, IsPart}
 use Rattle.export_table.specs.Slots.{RowsHeld}
 use Rattle.export_table.proofs.Indexing.{rows-forgotten, withdrawn-forgotten}
 use Rattle.export_table.proofs.Held.{held-closed}
@@ -20,7 +20,7 @@ pub returns-clause-gone : goal.returns-clause-gone
 returns-clause-gone c lease moment calls s =
     let held = held_by lease (max c.args.now moment) calls in
     c.keep.ensures.gone lease moment calls s
-    ∙ ap (λ (l : List Wait). c.args.gone.now.items ++ withdrawn c.args.now held l c.args.rows.now.rows) c.forget.ensures.waits
+    ∙ ap (λ (l : List Wait). c.args.gone.now.items ++ withdrawn_ids c.args.now held l c.args.rows.now.rows) c.forget.ensures.waits
     ∙ ap (λ l. c.args.gone.now.items ++ l) (withdrawn-forgotten c.args.now held c.args.waits.now.waits c.args.rows.now.rows)
 
 pub returns-clause-part : goal.returns-clause-part

@@ -2,7 +2,7 @@ use Rattle.std.proofs.Common.{List, ◌++◌, max, ap, sym, subst, ◌∙◌, ar
 use Rattle.std.specs.Prelude.{not, filter}
 use Rattle.export_table.specs.declared.waits.Wait.{Wait}
 use Rattle.export_table.specs.declared.rows.Export.{Export}
-use Rattle.export_table.specs.Rows.{ids, stays_among, held_by, IsPart}
+use Rattle.export_table.specs.ExportRows.{ids, stays_among, held_by, IsPart}
 use Rattle.export_table.specs.Slots.{RowsHeld}
 use Rattle.export_table.proofs.Among.{staying-forgotten, gone-forgotten}
 use Rattle.export_table.proofs.Held.{held-closed}

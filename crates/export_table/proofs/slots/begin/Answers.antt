@@ -1,5 +1,5 @@
 use Rattle.std.proofs.Common.{refl, sym, arith}
-use Rattle.export_table.specs.Rows.{begun}
+use Rattle.export_table.specs.ExportRows.{with_call_begun}
 use Rattle.export_table.proofs.Slotted.{slot-running, slot-rows, slot-slots, absent-slots, slot-there}
 use Rattle.export_table.proofs.slots.begin.Goals as goal
 
@@ -10,14 +10,14 @@ overflow_add-index_mut c =
 
 pub returns-in-Some-clause-rows : goal.returns-in-Some-clause-rows
 returns-in-Some-clause-rows c =
-    slot-rows begun c.args.slots.now.items c.deref.result.now _ c.args.id.now c.in-Some.i c.index_mut.result.now c.deref.ensures.value c.requires.rising c.in-Some.ensures c.index_mut.ensures.value refl
+    slot-rows with_call_begun c.args.slots.now.items c.deref.result.now _ c.args.id.now c.in-Some.i c.index_mut.result.now c.deref.ensures.value c.requires.rising c.in-Some.ensures c.index_mut.ensures.value refl
 
 pub returns-in-Some-clause-slots : goal.returns-in-Some-clause-slots
 returns-in-Some-clause-slots c added gaps s =
-    slot-slots begun c.args.slots.now.items c.deref.result.now c.args.id.now c.in-Some.i c.index_mut.result.now added gaps (λ x. refl) c.deref.ensures.value s c.in-Some.ensures c.index_mut.ensures.value
+    slot-slots with_call_begun c.args.slots.now.items c.deref.result.now c.args.id.now c.in-Some.i c.index_mut.result.now added gaps (λ x. refl) c.deref.ensures.value s c.in-Some.ensures c.index_mut.ensures.value
 
 pub returns-in-None-clause-rows : goal.returns-in-None-clause-rows
-returns-in-None-clause-rows c = absent-slots c.args.slots.now.items c.deref.result.now c.args.id.now begun c.deref.ensures.value c.in-None.ensures
+returns-in-None-clause-rows c = absent-slots c.args.slots.now.items c.deref.result.now c.args.id.now with_call_begun c.deref.ensures.value c.in-None.ensures
 
 pub returns-in-Some-clause-value : goal.returns-in-Some-clause-value
 returns-in-Some-clause-value c = sym (slot-there c.args.slots.now.items c.deref.result.now c.args.id.now c.in-Some.i c.deref.ensures.value c.requires.rising c.in-Some.ensures)

@@ -1,5 +1,5 @@
 use Rattle.std.proofs.Common.{refl, arith}
-use Rattle.export_table.specs.Rows.{ended}
+use Rattle.export_table.specs.ExportRows.{with_call_ended}
 use Rattle.export_table.proofs.Slotted.{slot-running, slot-rows, slot-slots, absent-slots}
 use Rattle.export_table.proofs.slots.end.Goals as goal
 
@@ -10,11 +10,11 @@ overflow_sub-index_mut c =
 
 pub returns-in-Some-clause-rows : goal.returns-in-Some-clause-rows
 returns-in-Some-clause-rows c =
-    slot-rows ended c.args.slots.now.items c.deref.result.now _ c.args.id.now c.in-Some.i c.index_mut.result.now c.deref.ensures.value c.requires.rising c.in-Some.ensures c.index_mut.ensures.value refl
+    slot-rows with_call_ended c.args.slots.now.items c.deref.result.now _ c.args.id.now c.in-Some.i c.index_mut.result.now c.deref.ensures.value c.requires.rising c.in-Some.ensures c.index_mut.ensures.value refl
 
 pub returns-in-Some-clause-slots : goal.returns-in-Some-clause-slots
 returns-in-Some-clause-slots c added gaps s =
-    slot-slots ended c.args.slots.now.items c.deref.result.now c.args.id.now c.in-Some.i c.index_mut.result.now added gaps (λ x. refl) c.deref.ensures.value s c.in-Some.ensures c.index_mut.ensures.value
+    slot-slots with_call_ended c.args.slots.now.items c.deref.result.now c.args.id.now c.in-Some.i c.index_mut.result.now added gaps (λ x. refl) c.deref.ensures.value s c.in-Some.ensures c.index_mut.ensures.value
 
 pub returns-in-None-clause-rows : goal.returns-in-None-clause-rows
-returns-in-None-clause-rows c = absent-slots c.args.slots.now.items c.deref.result.now c.args.id.now ended c.deref.ensures.value c.in-None.ensures
+returns-in-None-clause-rows c = absent-slots c.args.slots.now.items c.deref.result.now c.args.id.now with_call_ended c.deref.ensures.value c.in-None.ensures

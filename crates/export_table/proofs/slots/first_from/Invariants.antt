@@ -1,7 +1,7 @@
 use Rattle.std.proofs.Common.{◌≡◌, ◌≤◌, ◌-◌, length, take, drop, true, not}
 use Rattle.std.specs.Prelude.{int_lt}
 use Rattle.std.specs.List.{list_all}
-use Rattle.export_table.specs.Rows.{ids}
+use Rattle.export_table.specs.ExportRows.{ids}
 use Rattle.export_table.specs.Slots.{all_rows}
 use Rattle.export_table.proofs.slots.first_from.Given as goal
 

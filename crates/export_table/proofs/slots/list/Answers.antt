@@ -1,4 +1,4 @@
-use Rattle.export_table.specs.Rows.{row_at}
+use Rattle.export_table.specs.ExportRows.{row_at}
 use Rattle.export_table.proofs.Slotted.{rows-next}
 use Rattle.export_table.proofs.slots.list.Goals as goal
 

@@ -1,5 +1,5 @@
 use Rattle.std.proofs.Common.{◌≡◌, map, take}
-use Rattle.export_table.specs.Rows.{row_at}
+use Rattle.export_table.specs.ExportRows.{row_at}
 use Rattle.export_table.specs.Slots.{rows_here}
 use Rattle.export_table.proofs.slots.list.Given as goal
 

@@ -2,8 +2,8 @@ use Rattle.std.proofs.Common.{◌≡◌, ◌<◌, length, max, refl, rules, ap, 
 use Rattle.std.specs.Prelude.{vec_len}
 use Rattle.std.proofs.lemmas.List.{length-set}
 use Rattle.dgc_server.proofs.Over.{over_more}
-use Rattle.export_table.specs.Rows.{is_row_kept, held_by}
-use Rattle.export_table.specs.Slots.{marked}
+use Rattle.export_table.specs.ExportRows.{is_row_kept, held_by}
+use Rattle.export_table.specs.Slots.{as_marked}
 use Rattle.export_table.proofs.Marking.{marks-none, marks-next, marks-both, marks-end}
 use Rattle.export_table.proofs.slots.mark_all.Goals as goal
 
@@ -24,9 +24,9 @@ loop-i-preserved c =
     let there : c.loop-i.i < length c.args.slots.now.items = omega arith in
     let here : c.loop-i.i < length c.loop-i.slots.items = omega arith in record {
       marks = λ lease moment calls s.
-          over_more (marked (is_row_kept c.args.now (held_by lease (max c.args.now moment) calls) c.args.waits.now.waits)) c.args.slots.now.items c.loop-i.slots.items c.loop-i.i c.index_mut.result.now c.mark.new.self there inv.same
+          over_more (as_marked (is_row_kept c.args.now (held_by lease (max c.args.now moment) calls) c.args.waits.now.waits)) c.args.slots.now.items c.loop-i.slots.items c.loop-i.i c.index_mut.result.now c.mark.new.self there inv.same
           (inv.marks lease moment calls s)
-          (c.mark.ensures.marks lease moment calls s ∙ ap (marked (is_row_kept c.args.now (held_by lease (max c.args.now moment) calls) c.args.waits.now.waits)) c.index_mut.ensures.value);
+          (c.mark.ensures.marks lease moment calls s ∙ ap (as_marked (is_row_kept c.args.now (held_by lease (max c.args.now moment) calls) c.args.waits.now.waits)) c.index_mut.ensures.value);
       any = marks-both c.args.slots.now.items c.loop-i.slots.items _ inv.any (marks-next c.loop-i.slots.items c.loop-i.i c.index_mut.result.now c.mark.new.self here c.index_mut.ensures.value c.mark.ensures.any);
       same = length-set c.loop-i.slots.items c.loop-i.i c.mark.new.self ∙ inv.same;
       long = inv.long;

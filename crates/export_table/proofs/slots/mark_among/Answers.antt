@@ -3,8 +3,8 @@ use Rattle.std.specs.List.{list_any}
 use Rattle.std.proofs.lemmas.List.{take_all}
 use Rattle.object_ids.specs.declared.ids.ObjId.{ObjId}
 use Rattle.export_table.specs.declared.rows.Export.{Export}
-use Rattle.export_table.specs.Rows.{ids, is_rising, stays_among, held_by}
-use Rattle.export_table.specs.Slots.{is_leaving, marked}
+use Rattle.export_table.specs.ExportRows.{ids, is_rising, stays_among, held_by}
+use Rattle.export_table.specs.Slots.{is_leaving, as_marked}
 use Rattle.export_table.proofs.Slotted.{nothing-passes}
 use Rattle.export_table.proofs.Marking.{marks-none, marks-both, marks-start, marks-more, marked-rows}
 use Rattle.export_table.proofs.slots.mark_among.Goals as goal
@@ -46,7 +46,7 @@ loop-object-preserved c =
 pub returns-clause-marks : goal.returns-clause-marks
 returns-clause-marks c lease moment calls s =
     c.loop-object.invariant.marks lease moment calls s
-    ∙ ap (λ (os : List ObjId). map (marked (stays_among os c.args.now (held_by lease (max c.args.now moment) calls) c.args.waits.now.waits)) c.args.slots.now.items)
+    ∙ ap (λ (os : List ObjId). map (as_marked (stays_among os c.args.now (held_by lease (max c.args.now moment) calls) c.args.waits.now.waits)) c.args.slots.now.items)
     (take_all c.loop-object.object-index c.args.objects.now c.loop-object-test.false)
 
 pub returns-clause-any : goal.returns-clause-any

@@ -1,5 +1,5 @@
 use Rattle.std.proofs.Common.{refl, arith}
-use Rattle.export_table.specs.Rows.{pinned_once}
+use Rattle.export_table.specs.ExportRows.{pinned_once}
 use Rattle.export_table.proofs.Slotted.{slot-pins, slot-rows, slot-slots, absent-slots}
 use Rattle.export_table.proofs.slots.pin.Goals as goal
 

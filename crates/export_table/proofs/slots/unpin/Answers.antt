@@ -1,5 +1,5 @@
 use Rattle.std.proofs.Common.{refl, arith}
-use Rattle.export_table.specs.Rows.{unpinned_once}
+use Rattle.export_table.specs.ExportRows.{unpinned_once}
 use Rattle.export_table.proofs.Slotted.{slot-pins, slot-rows, slot-slots, absent-slots}
 use Rattle.export_table.proofs.slots.unpin.Goals as goal
 

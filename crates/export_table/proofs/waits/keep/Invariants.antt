@@ -1,6 +1,6 @@
 use Rattle.std.proofs.Common.{◌≡◌, length}
 use Rattle.std.proofs.lemmas.List.Filters.{FiltersInPlace}
-use Rattle.export_table.specs.Index.{stays}
+use Rattle.export_table.specs.WaitIndex.{stays}
 use Rattle.export_table.proofs.waits.keep.Given as goal
 
 abbrev pub invariant-loop-i : goal.invariant-loop-i

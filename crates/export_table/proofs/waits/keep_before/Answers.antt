@@ -1,6 +1,6 @@
 use Rattle.std.proofs.Common.{◌≡◌, ◌<◌, ℕ, drop, subst, sym, ◌∙◌, arith}
 use Rattle.std.specs.Prelude.{filter}
-use Rattle.export_table.specs.Index.{stays}
+use Rattle.export_table.specs.WaitIndex.{stays}
 use Rattle.export_table.proofs.Moved.{back-start, back-yes}
 use Rattle.export_table.proofs.waits.keep_before.Goals as goal
 

@@ -1,5 +1,5 @@
 use Rattle.std.proofs.Common.{◌≤◌}
-use Rattle.export_table.specs.Index.{stays}
+use Rattle.export_table.specs.WaitIndex.{stays}
 use Rattle.export_table.proofs.Moved.{KeepsBack}
 use Rattle.export_table.proofs.waits.keep_before.Given as goal
 

@@ -1,6 +1,6 @@
 use Rattle.std.proofs.Common.{◌≡◌, ◌+◌, ◌≤◌, length, take, drop, ap, ◌∙◌, arith, rules, length-drop, length-take-le}
 use Rattle.std.specs.Prelude.{filter, vec_len}
-use Rattle.export_table.specs.Index.{stays}
+use Rattle.export_table.specs.WaitIndex.{stays}
 use Rattle.export_table.proofs.Queued.{kept-rest}
 use Rattle.export_table.proofs.Slices.{slice_from}
 use Rattle.export_table.proofs.waits.keep_behind.Goals as goal

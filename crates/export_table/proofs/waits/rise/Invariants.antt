@@ -1,5 +1,5 @@
 use Rattle.std.proofs.Common.{drop}
-use Rattle.export_table.specs.Index.{EndsRise}
+use Rattle.export_table.specs.WaitIndex.{EndsRise}
 use Rattle.export_table.proofs.Ends.{RiseFrom}
 use Rattle.export_table.proofs.waits.rise.Given as goal
 

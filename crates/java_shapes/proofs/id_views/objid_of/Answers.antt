@@ -10,7 +10,7 @@ use Rattle.java_shapes.specs.Objects.{Held, as_long, as_slot, value_of}
 use Rattle.java_shapes.specs.Ids.{uid_at, objid_of}
 use Rattle.java_shapes.proofs.id_views.objid_of.Goals as goal
 
-objid_is : (nodes : List Node) (held : Held) (number : ℤ) (slot : Slot) (space : Uid) → as_long (value_of held types.J (codes "objNum")) ≡ Some number → as_slot (value_of held types.Object (codes "space")) ≡ Some slot
+objid_is : (nodes : List Node) (held : Held) (number : ℤ) (slot : Slot) (space : Uid) → as_long (value_of held types.Long (codes "objNum")) ≡ Some number → as_slot (value_of held types.Object (codes "space")) ≡ Some slot
     → uid_at nodes slot ≡ Some space → objid_of nodes held ≡ Some (record { number = number; space = space })
 unfolding objid_of
 objid_is nodes held number slot space a b c = rw (a, b, c) refl

@@ -4,7 +4,8 @@ use Rattle.std.specs.Int.{w16, w32, w64}
 use Rattle.std.proofs.lemmas.Bool.Decides.{nat_tests}
 use Rattle.std.proofs.lemmas.Int.{to_z-of_z}
 use Rattle.object_ids.specs.declared.limits.TheConstants.{MAX_ADDRESS_BYTES}
-use Rattle.java_shapes.proofs.LeaseGraph.{FitsUid, is_graph, lease_is}
+use Rattle.object_ids.specs.Bytes.{FitsUid}
+use Rattle.java_shapes.proofs.LeaseGraph.{is_graph, lease_is}
 use Rattle.java_shapes.proofs.Built.{short_enough, lease_seen}
 use Rattle.java_shapes.proofs.lease_graphs.lease_graph.Goals as goal
 

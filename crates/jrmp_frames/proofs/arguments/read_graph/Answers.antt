@@ -1,5 +1,5 @@
 use Rattle.std.proofs.Common.{◌∙◌, sym, refl}
-use Rattle.ser_values.specs.Spelled.{joined}
+use Rattle.stream_grammar.specs.Spelled.{joined}
 use Rattle.ser_values.proofs.Lists.{some_same}
 use Rattle.ser_read.proofs.InOrder.{closed_reads}
 use Rattle.jrmp_frames.specs.Messages.{wants_of}

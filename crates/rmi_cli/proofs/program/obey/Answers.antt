@@ -7,20 +7,20 @@ use Rattle.rmi_cli.proofs.ShownOnce.{shows_exactly}
 use Rattle.rmi_cli.proofs.program.obey.Goals as goal
 
 pub returns-in-Answer-clause-exact : goal.returns-in-Answer-clause-exact
-returns-in-Answer-clause-exact g c terms is =
-    exactly_asked _ _ _ _ _ _ _ c.in-Answer.is is (told_settles _ _ _ _ _ _ c.answer_input-end.ensures.exact c.told.ensures.told)
+returns-in-Answer-clause-exact g c options is =
+    exactly_asked _ _ _ _ _ _ _ c.in-Answer.is is (told_settles _ _ _ _ _ _ c.answer_input-end.ensures.exact c.report_end.ensures.told)
 
 pub returns-in-Serve-clause-serves : goal.returns-in-Serve-clause-serves
 returns-in-Serve-clause-serves g c serve is =
     serving_asked g.L.In.Source.left g.L.Out.Sink.held g.L.Ticks.Clock.given _ _ _ _ _ _ _ _ _ _ _ c.serve_input-served.result.report c.serve_input-served.result.end c.in-Serve.is is
-    c.serve_input-served.ensures.served c.serve_input-served.ensures.alone c.serve_input-served.ensures.ends c.told-in-Serve.ensures.told refl
+    c.serve_input-served.ensures.served c.serve_input-served.ensures.alone c.serve_input-served.ensures.ends c.report_end-in-Serve.ensures.told refl
 
 pub returns-in-Replay-clause-replay_exact : goal.returns-in-Replay-clause-replay_exact
-returns-in-Replay-clause-replay_exact g c is = replays_exactly _ _ _ _ c.replay_input-end.ensures.ends c.told-in-Replay.ensures.told
+returns-in-Replay-clause-replay_exact g c is = replays_exactly _ _ _ _ c.replay_input-end.ensures.ends c.report_end-in-Replay.ensures.told
 
 pub returns-in-Show-clause-show_exact : goal.returns-in-Show-clause-show_exact
-returns-in-Show-clause-show_exact g c is = shows_exactly _ _ _ _ c.show_input-end.ensures.exact c.told-in-Show.ensures.told
+returns-in-Show-clause-show_exact g c is = shows_exactly _ _ _ _ c.show_input-end.ensures.exact c.report_end-in-Show.ensures.told
 
 pub returns-in-Drill-clause-drill_exact : goal.returns-in-Drill-clause-drill_exact
 returns-in-Drill-clause-drill_exact g c text seed rounds is =
-    drills_exactly text seed rounds _ _ _ (drills_named _ _ _ _ _ _ _ _ _ _ c.in-Drill.is is (c.write_drill-end.result, c.write_drill-end.ensures.ends, c.told-in-Drill.ensures.told, refl))
+    drills_exactly text seed rounds _ _ _ (drills_named _ _ _ _ _ _ _ _ _ _ c.in-Drill.is is (c.write_drill-end.result, c.write_drill-end.ensures.ends, c.report_end-in-Drill.ensures.told, refl))

@@ -9,10 +9,10 @@ pub obey-requires-clause-limits : goal.obey-requires-clause-limits
 obey-requires-clause-limits g c κs within = asked_fits _ _ c.in-Some.ensures.asked
 
 pub returns-in-Some-clause-answer : goal.returns-in-Some-clause-answer
-returns-in-Some-clause-answer g c terms is = c.obey.ensures.answer terms (asked_once _ _ (Answer terms) c.in-Some.ensures.asked is)
+returns-in-Some-clause-answer g c options is = c.obey.ensures.answer options (asked_once _ _ (Answer options) c.in-Some.ensures.asked is)
 
 pub returns-in-Some-clause-exact : goal.returns-in-Some-clause-exact
-returns-in-Some-clause-exact g c terms is = c.obey.ensures.exact terms (asked_once _ _ (Answer terms) c.in-Some.ensures.asked is)
+returns-in-Some-clause-exact g c options is = c.obey.ensures.exact options (asked_once _ _ (Answer options) c.in-Some.ensures.asked is)
 
 pub returns-in-Some-clause-serves : goal.returns-in-Some-clause-serves
 returns-in-Some-clause-serves g c serve is = c.obey.ensures.serves serve (asked_once _ _ (Serve serve) c.in-Some.ensures.asked is)
@@ -39,7 +39,7 @@ pub returns-in-Some-clause-network_fault : goal.returns-in-Some-clause-network_f
 returns-in-Some-clause-network_fault g c serve is = c.obey.ensures.network_fault serve (asked_once _ _ (Serve serve) c.in-Some.ensures.asked is)
 
 pub returns-in-Some-clause-clock : goal.returns-in-Some-clause-clock
-returns-in-Some-clause-clock g c not = c.obey.ensures.clock (λ terms is. not terms (subst (AskFor _) is c.in-Some.ensures.asked))
+returns-in-Some-clause-clock g c not = c.obey.ensures.clock (λ options is. not options (subst (AskFor _) is c.in-Some.ensures.asked))
 
 pub returns-in-Some-clause-network : goal.returns-in-Some-clause-network
 returns-in-Some-clause-network g c not = c.obey.ensures.network (λ serve is. not serve (subst (AskFor _) is c.in-Some.ensures.asked))
@@ -48,10 +48,10 @@ pub returns-in-Some-clause-read_fault : goal.returns-in-Some-clause-read_fault
 returns-in-Some-clause-read_fault g c not = c.obey.ensures.read_fault (λ serve is. not serve (subst (AskFor _) is c.in-Some.ensures.asked))
 
 pub returns-in-None-clause-answer : goal.returns-in-None-clause-answer
-returns-in-None-clause-answer g c terms is = absurd (c.in-None.ensures.none (Answer terms) is)
+returns-in-None-clause-answer g c options is = absurd (c.in-None.ensures.none (Answer options) is)
 
 pub returns-in-None-clause-exact : goal.returns-in-None-clause-exact
-returns-in-None-clause-exact g c terms is = absurd (c.in-None.ensures.none (Answer terms) is)
+returns-in-None-clause-exact g c options is = absurd (c.in-None.ensures.none (Answer options) is)
 
 pub returns-in-None-clause-serves : goal.returns-in-None-clause-serves
 returns-in-None-clause-serves g c serve is = absurd (c.in-None.ensures.none (Serve serve) is)

@@ -1,6 +1,6 @@
 use Rattle.std.proofs.Common.{◌≡◌, ◌+◌, ◌-◌, ◌≤◌, ◌∙◌, ap, arith, [], length, take, refl, sym}
 use Rattle.ser_read.specs.Wants.{inside, run_at}
-use Rattle.ser_values.specs.Reading.{short}
+use Rattle.stream_grammar.specs.Reading.{short}
 use Rattle.ser_read.proofs.Steps.{leads_start, leads_more, leads_done}
 use Rattle.ser_read.proofs.Runs.{behind, behind_none, opened_some, run_opens, run_unopened, run_end}
 use Rattle.wire_io.proofs.Pulling.{part_length}

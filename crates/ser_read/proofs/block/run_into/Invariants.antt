@@ -1,8 +1,7 @@
 use Rattle.std.proofs.Common.{◌≡◌, ◌≤◌, ◌-◌, length, take}
 use Rattle.wire_io.specs.Pulled.{pull_state}
-use Rattle.ser_read.specs.Wants.{run_at}
-use Rattle.ser_values.specs.Reading.{short}
-use Rattle.ser_read.specs.Wants.{inside}
+use Rattle.ser_read.specs.Wants.{run_at, inside}
+use Rattle.stream_grammar.specs.Reading.{short}
 use Rattle.ser_read.proofs.Steps.{Leads}
 use Rattle.ser_read.proofs.Runs.{behind}
 use Rattle.ser_read.proofs.block.run_into.Given as goal

@@ -1,6 +1,6 @@
 use Rattle.std.proofs.Common.{◌≡◌, ◌∙◌, ap, arith, []}
 use Rattle.ser_read.specs.Wants.{inside, run_at}
-use Rattle.ser_values.specs.Reading.{short}
+use Rattle.stream_grammar.specs.Reading.{short}
 use Rattle.ser_read.proofs.Steps.{leads_more, leads_done}
 use Rattle.ser_read.proofs.Runs.{behind, opened_some, run_opens, run_unopened, piece_next, piece_err, run_end}
 use Rattle.ser_read.proofs.Breaking.{want_raised, want_loop_stops, inside_loop_stops, took}

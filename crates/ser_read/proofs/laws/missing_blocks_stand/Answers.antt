@@ -1,4 +1,4 @@
-use Rattle.ser_values.proofs.PlainSound.{from_bytes}
+use Rattle.stream_grammar.proofs.PlainSound.{from_bytes}
 use Rattle.ser_read.proofs.Missing.{misses_block}
 use Rattle.ser_read.proofs.laws.missing_blocks_stand.Goals as goal
 

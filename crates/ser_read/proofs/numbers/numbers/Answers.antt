@@ -1,5 +1,5 @@
 use Rattle.std.proofs.Common.{◌≡◌, ◌∙◌, ◌*◌, arith, refl}
-use Rattle.ser_values.specs.Reading.{short}
+use Rattle.stream_grammar.specs.Reading.{short}
 use Rattle.ser_read.proofs.Steps.{leads_start, leads_more, leads_done}
 use Rattle.ser_read.proofs.Breaking.{raised, loop_stops, took}
 use Rattle.ser_read.proofs.NumberRuns.{block_long, run_start, run_err, run_next, run_end}

@@ -1,7 +1,6 @@
 use Rattle.std.proofs.Common.{◌≡◌}
 use Rattle.wire_io.specs.Pulled.{pull_state}
-use Rattle.ser_values.specs.Reading.{Progress, many_at}
-use Rattle.ser_values.specs.Reading.{short}
+use Rattle.stream_grammar.specs.Reading.{Progress, many_at, short}
 use Rattle.ser_read.proofs.Steps.{Leads}
 use Rattle.ser_read.proofs.Loop.{front_of}
 use Rattle.ser_read.proofs.numbers.numbers.Given as goal

@@ -2,79 +2,79 @@ use Rattle.std.proofs.Common.{refl, rules, FitsSigned}
 use Rattle.std.proofs.lemmas.Int.{to_z-of_z}
 use Rattle.std.specs.Int.{w16, w32, w64, cast_signed}
 use Rattle.ser_values.specs.declared.value.Value.TheVariants as values
-use Rattle.ser_values.specs.Reading.{plain, byte_at, number_at, is_true, value_at}
+use Rattle.stream_grammar.specs.Reading.{plain, byte_at, number_at, is_true, value_at}
 use Rattle.ser_read.specs.Signed.{signed_at, truth_at}
 use Rattle.ser_read.proofs.Steps.{said}
 use Rattle.ser_read.proofs.Values.{twice, mapped_reads, mapped_stops}
 use Rattle.ser_read.proofs.Breaking.{raised, breaks_said}
 use Rattle.ser_read.proofs.numbers.primitive.Goals as goal
 
-pub returns-in_ok-pull-in-B-clause-reads : goal.returns-in_ok-pull-in-B-clause-reads
+pub returns-in_ok-pull-in-Byte-clause-reads : goal.returns-in_ok-pull-in-Byte-clause-reads
 unfolding value_at
-returns-in_ok-pull-in-B-clause-reads g c = λ inner now. said (λ end bs here. rw c.in-B.is refl) (mapped_reads values.B (plain byte_at) now c.in_ok-pull-in-B.field-0 (c.in_ok-pull-in-B.ensures.reads now))
+returns-in_ok-pull-in-Byte-clause-reads g c = λ inner now. said (λ end bs here. rw c.in-Byte.is refl) (mapped_reads values.Byte (plain byte_at) now c.in_ok-pull-in-Byte.field-0 (c.in_ok-pull-in-Byte.ensures.reads now))
 
-pub returns-in_ok-pull-in-C-clause-reads : goal.returns-in_ok-pull-in-C-clause-reads
+pub returns-in_ok-pull-in-Char-clause-reads : goal.returns-in_ok-pull-in-Char-clause-reads
 unfolding value_at
-returns-in_ok-pull-in-C-clause-reads g c = λ inner now. said (λ end bs here. rw c.in-C.is refl) (mapped_reads values.C (plain (number_at w16)) now c.in_ok-pull-in-C.field-0 (c.in_ok-pull-in-C.ensures.reads now))
+returns-in_ok-pull-in-Char-clause-reads g c = λ inner now. said (λ end bs here. rw c.in-Char.is refl) (mapped_reads values.Char (plain (number_at w16)) now c.in_ok-pull-in-Char.field-0 (c.in_ok-pull-in-Char.ensures.reads now))
 
-pub returns-in_ok-pull-in-D-clause-reads : goal.returns-in_ok-pull-in-D-clause-reads
+pub returns-in_ok-pull-in-Double-clause-reads : goal.returns-in_ok-pull-in-Double-clause-reads
 unfolding value_at
-returns-in_ok-pull-in-D-clause-reads g c = λ inner now. said (λ end bs here. rw c.in-D.is refl) (mapped_reads values.D (plain (number_at w64)) now c.in_ok-pull-in-D.field-0 (c.in_ok-pull-in-D.ensures.reads now))
+returns-in_ok-pull-in-Double-clause-reads g c = λ inner now. said (λ end bs here. rw c.in-Double.is refl) (mapped_reads values.Double (plain (number_at w64)) now c.in_ok-pull-in-Double.field-0 (c.in_ok-pull-in-Double.ensures.reads now))
 
-pub returns-in_ok-pull-in-F-clause-reads : goal.returns-in_ok-pull-in-F-clause-reads
+pub returns-in_ok-pull-in-Float-clause-reads : goal.returns-in_ok-pull-in-Float-clause-reads
 unfolding value_at
-returns-in_ok-pull-in-F-clause-reads g c = λ inner now. said (λ end bs here. rw c.in-F.is refl) (mapped_reads values.F (plain (number_at w32)) now c.in_ok-pull-in-F.field-0 (c.in_ok-pull-in-F.ensures.reads now))
+returns-in_ok-pull-in-Float-clause-reads g c = λ inner now. said (λ end bs here. rw c.in-Float.is refl) (mapped_reads values.Float (plain (number_at w32)) now c.in_ok-pull-in-Float.field-0 (c.in_ok-pull-in-Float.ensures.reads now))
 
-pub returns-in_ok-pull-in-I-clause-reads : goal.returns-in_ok-pull-in-I-clause-reads
+pub returns-in_ok-pull-in-Int-clause-reads : goal.returns-in_ok-pull-in-Int-clause-reads
 unfolding value_at
-returns-in_ok-pull-in-I-clause-reads g c = λ inner now.
-    let fits : FitsSigned w32 c.in_ok-pull-in-I.field-0 = search rules in
-    rw (to_z-of_z w32 c.in_ok-pull-in-I.field-0 fits) (said (λ end bs here. rw c.in-I.is (twice values.I (λ k. cast_signed w32 k) (plain (number_at w32)) now bs)) (mapped_reads values.I (signed_at w32) now c.in_ok-pull-in-I.field-0 (c.in_ok-pull-in-I.ensures.reads now)))
+returns-in_ok-pull-in-Int-clause-reads g c = λ inner now.
+    let fits : FitsSigned w32 c.in_ok-pull-in-Int.field-0 = search rules in
+    rw (to_z-of_z w32 c.in_ok-pull-in-Int.field-0 fits) (said (λ end bs here. rw c.in-Int.is (twice values.Int (λ k. cast_signed w32 k) (plain (number_at w32)) now bs)) (mapped_reads values.Int (signed_at w32) now c.in_ok-pull-in-Int.field-0 (c.in_ok-pull-in-Int.ensures.reads now)))
 
-pub returns-in_ok-pull-in-J-clause-reads : goal.returns-in_ok-pull-in-J-clause-reads
+pub returns-in_ok-pull-in-Long-clause-reads : goal.returns-in_ok-pull-in-Long-clause-reads
 unfolding value_at
-returns-in_ok-pull-in-J-clause-reads g c = λ inner now.
-    let fits : FitsSigned w64 c.in_ok-pull-in-J.field-0 = search rules in
-    rw (to_z-of_z w64 c.in_ok-pull-in-J.field-0 fits) (said (λ end bs here. rw c.in-J.is (twice values.J (λ k. cast_signed w64 k) (plain (number_at w64)) now bs)) (mapped_reads values.J (signed_at w64) now c.in_ok-pull-in-J.field-0 (c.in_ok-pull-in-J.ensures.reads now)))
+returns-in_ok-pull-in-Long-clause-reads g c = λ inner now.
+    let fits : FitsSigned w64 c.in_ok-pull-in-Long.field-0 = search rules in
+    rw (to_z-of_z w64 c.in_ok-pull-in-Long.field-0 fits) (said (λ end bs here. rw c.in-Long.is (twice values.Long (λ k. cast_signed w64 k) (plain (number_at w64)) now bs)) (mapped_reads values.Long (signed_at w64) now c.in_ok-pull-in-Long.field-0 (c.in_ok-pull-in-Long.ensures.reads now)))
 
-pub returns-in_ok-pull-in-S-clause-reads : goal.returns-in_ok-pull-in-S-clause-reads
+pub returns-in_ok-pull-in-Short-clause-reads : goal.returns-in_ok-pull-in-Short-clause-reads
 unfolding value_at
-returns-in_ok-pull-in-S-clause-reads g c = λ inner now.
-    let fits : FitsSigned w16 c.in_ok-pull-in-S.field-0 = search rules in
-    rw (to_z-of_z w16 c.in_ok-pull-in-S.field-0 fits) (said (λ end bs here. rw c.in-S.is (twice values.S (λ k. cast_signed w16 k) (plain (number_at w16)) now bs)) (mapped_reads values.S (signed_at w16) now c.in_ok-pull-in-S.field-0 (c.in_ok-pull-in-S.ensures.reads now)))
+returns-in_ok-pull-in-Short-clause-reads g c = λ inner now.
+    let fits : FitsSigned w16 c.in_ok-pull-in-Short.field-0 = search rules in
+    rw (to_z-of_z w16 c.in_ok-pull-in-Short.field-0 fits) (said (λ end bs here. rw c.in-Short.is (twice values.Short (λ k. cast_signed w16 k) (plain (number_at w16)) now bs)) (mapped_reads values.Short (signed_at w16) now c.in_ok-pull-in-Short.field-0 (c.in_ok-pull-in-Short.ensures.reads now)))
 
-pub returns-in_ok-pull-in-Z-clause-reads : goal.returns-in_ok-pull-in-Z-clause-reads
+pub returns-in_ok-pull-in-Boolean-clause-reads : goal.returns-in_ok-pull-in-Boolean-clause-reads
 unfolding value_at
-returns-in_ok-pull-in-Z-clause-reads g c = λ inner now. said (λ end bs here. rw c.in-Z.is (twice values.Z is_true (plain byte_at) now bs)) (mapped_reads values.Z (truth_at) now c.in_ok-pull-in-Z.field-0 (c.in_ok-pull-in-Z.ensures.reads now))
+returns-in_ok-pull-in-Boolean-clause-reads g c = λ inner now. said (λ end bs here. rw c.in-Boolean.is (twice values.Boolean is_true (plain byte_at) now bs)) (mapped_reads values.Boolean (truth_at) now c.in_ok-pull-in-Boolean.field-0 (c.in_ok-pull-in-Boolean.ensures.reads now))
 
-pub returns-in_err-pull-in-B-clause-stops : goal.returns-in_err-pull-in-B-clause-stops
+pub returns-in_err-pull-in-Byte-clause-stops : goal.returns-in_err-pull-in-Byte-clause-stops
 unfolding value_at
-returns-in_err-pull-in-B-clause-stops g c = λ inner now. raised c.from_residual.result c.from_residual.ensures.1 (breaks_said (λ end bs here. rw c.in-B.is refl) (mapped_stops values.B (plain byte_at) now (c.in_err-pull-in-B.ensures.stops now)))
+returns-in_err-pull-in-Byte-clause-stops g c = λ inner now. raised c.from_residual.result c.from_residual.ensures.1 (breaks_said (λ end bs here. rw c.in-Byte.is refl) (mapped_stops values.Byte (plain byte_at) now (c.in_err-pull-in-Byte.ensures.stops now)))
 
-pub returns-in_err-pull-in-C-clause-stops : goal.returns-in_err-pull-in-C-clause-stops
+pub returns-in_err-pull-in-Char-clause-stops : goal.returns-in_err-pull-in-Char-clause-stops
 unfolding value_at
-returns-in_err-pull-in-C-clause-stops g c = λ inner now. raised c.from_residual-in_err-pull-in-C.result c.from_residual-in_err-pull-in-C.ensures.1 (breaks_said (λ end bs here. rw c.in-C.is refl) (mapped_stops values.C (plain (number_at w16)) now (c.in_err-pull-in-C.ensures.stops now)))
+returns-in_err-pull-in-Char-clause-stops g c = λ inner now. raised c.from_residual-in_err-pull-in-Char.result c.from_residual-in_err-pull-in-Char.ensures.1 (breaks_said (λ end bs here. rw c.in-Char.is refl) (mapped_stops values.Char (plain (number_at w16)) now (c.in_err-pull-in-Char.ensures.stops now)))
 
-pub returns-in_err-pull-in-D-clause-stops : goal.returns-in_err-pull-in-D-clause-stops
+pub returns-in_err-pull-in-Double-clause-stops : goal.returns-in_err-pull-in-Double-clause-stops
 unfolding value_at
-returns-in_err-pull-in-D-clause-stops g c = λ inner now. raised c.from_residual-in_err-pull-in-D.result c.from_residual-in_err-pull-in-D.ensures.1 (breaks_said (λ end bs here. rw c.in-D.is refl) (mapped_stops values.D (plain (number_at w64)) now (c.in_err-pull-in-D.ensures.stops now)))
+returns-in_err-pull-in-Double-clause-stops g c = λ inner now. raised c.from_residual-in_err-pull-in-Double.result c.from_residual-in_err-pull-in-Double.ensures.1 (breaks_said (λ end bs here. rw c.in-Double.is refl) (mapped_stops values.Double (plain (number_at w64)) now (c.in_err-pull-in-Double.ensures.stops now)))
 
-pub returns-in_err-pull-in-F-clause-stops : goal.returns-in_err-pull-in-F-clause-stops
+pub returns-in_err-pull-in-Float-clause-stops : goal.returns-in_err-pull-in-Float-clause-stops
 unfolding value_at
-returns-in_err-pull-in-F-clause-stops g c = λ inner now. raised c.from_residual-in_err-pull-in-F.result c.from_residual-in_err-pull-in-F.ensures.1 (breaks_said (λ end bs here. rw c.in-F.is refl) (mapped_stops values.F (plain (number_at w32)) now (c.in_err-pull-in-F.ensures.stops now)))
+returns-in_err-pull-in-Float-clause-stops g c = λ inner now. raised c.from_residual-in_err-pull-in-Float.result c.from_residual-in_err-pull-in-Float.ensures.1 (breaks_said (λ end bs here. rw c.in-Float.is refl) (mapped_stops values.Float (plain (number_at w32)) now (c.in_err-pull-in-Float.ensures.stops now)))
 
-pub returns-in_err-pull-in-I-clause-stops : goal.returns-in_err-pull-in-I-clause-stops
+pub returns-in_err-pull-in-Int-clause-stops : goal.returns-in_err-pull-in-Int-clause-stops
 unfolding value_at
-returns-in_err-pull-in-I-clause-stops g c = λ inner now. raised c.from_residual-in_err-pull-in-I.result c.from_residual-in_err-pull-in-I.ensures.1 (breaks_said (λ end bs here. rw c.in-I.is (twice values.I (λ k. cast_signed w32 k) (plain (number_at w32)) now bs)) (mapped_stops values.I (signed_at w32) now (c.in_err-pull-in-I.ensures.stops now)))
+returns-in_err-pull-in-Int-clause-stops g c = λ inner now. raised c.from_residual-in_err-pull-in-Int.result c.from_residual-in_err-pull-in-Int.ensures.1 (breaks_said (λ end bs here. rw c.in-Int.is (twice values.Int (λ k. cast_signed w32 k) (plain (number_at w32)) now bs)) (mapped_stops values.Int (signed_at w32) now (c.in_err-pull-in-Int.ensures.stops now)))
 
-pub returns-in_err-pull-in-J-clause-stops : goal.returns-in_err-pull-in-J-clause-stops
+pub returns-in_err-pull-in-Long-clause-stops : goal.returns-in_err-pull-in-Long-clause-stops
 unfolding value_at
-returns-in_err-pull-in-J-clause-stops g c = λ inner now. raised c.from_residual-in_err-pull-in-J.result c.from_residual-in_err-pull-in-J.ensures.1 (breaks_said (λ end bs here. rw c.in-J.is (twice values.J (λ k. cast_signed w64 k) (plain (number_at w64)) now bs)) (mapped_stops values.J (signed_at w64) now (c.in_err-pull-in-J.ensures.stops now)))
+returns-in_err-pull-in-Long-clause-stops g c = λ inner now. raised c.from_residual-in_err-pull-in-Long.result c.from_residual-in_err-pull-in-Long.ensures.1 (breaks_said (λ end bs here. rw c.in-Long.is (twice values.Long (λ k. cast_signed w64 k) (plain (number_at w64)) now bs)) (mapped_stops values.Long (signed_at w64) now (c.in_err-pull-in-Long.ensures.stops now)))
 
-pub returns-in_err-pull-in-S-clause-stops : goal.returns-in_err-pull-in-S-clause-stops
+pub returns-in_err-pull-in-Short-clause-stops : goal.returns-in_err-pull-in-Short-clause-stops
 unfolding value_at
-returns-in_err-pull-in-S-clause-stops g c = λ inner now. raised c.from_residual-in_err-pull-in-S.result c.from_residual-in_err-pull-in-S.ensures.1 (breaks_said (λ end bs here. rw c.in-S.is (twice values.S (λ k. cast_signed w16 k) (plain (number_at w16)) now bs)) (mapped_stops values.S (signed_at w16) now (c.in_err-pull-in-S.ensures.stops now)))
+returns-in_err-pull-in-Short-clause-stops g c = λ inner now. raised c.from_residual-in_err-pull-in-Short.result c.from_residual-in_err-pull-in-Short.ensures.1 (breaks_said (λ end bs here. rw c.in-Short.is (twice values.Short (λ k. cast_signed w16 k) (plain (number_at w16)) now bs)) (mapped_stops values.Short (signed_at w16) now (c.in_err-pull-in-Short.ensures.stops now)))
 
-pub returns-in_err-pull-in-Z-clause-stops : goal.returns-in_err-pull-in-Z-clause-stops
+pub returns-in_err-pull-in-Boolean-clause-stops : goal.returns-in_err-pull-in-Boolean-clause-stops
 unfolding value_at
-returns-in_err-pull-in-Z-clause-stops g c = λ inner now. raised c.from_residual-in_err-pull-in-Z.result c.from_residual-in_err-pull-in-Z.ensures.1 (breaks_said (λ end bs here. rw c.in-Z.is (twice values.Z is_true (plain byte_at) now bs)) (mapped_stops values.Z truth_at now (c.in_err-pull-in-Z.ensures.stops now)))
+returns-in_err-pull-in-Boolean-clause-stops g c = λ inner now. raised c.from_residual-in_err-pull-in-Boolean.result c.from_residual-in_err-pull-in-Boolean.ensures.1 (breaks_said (λ end bs here. rw c.in-Boolean.is (twice values.Boolean is_true (plain byte_at) now bs)) (mapped_stops values.Boolean truth_at now (c.in_err-pull-in-Boolean.ensures.stops now)))

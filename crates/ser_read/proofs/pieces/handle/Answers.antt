@@ -1,4 +1,4 @@
-use Rattle.ser_values.specs.Reading.{handle_at}
+use Rattle.stream_grammar.specs.Reading.{handle_at}
 use Rattle.ser_read.proofs.Breaking.{raised, first}
 use Rattle.ser_read.proofs.pieces.handle.Goals as goal
 

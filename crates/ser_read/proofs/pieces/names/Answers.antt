@@ -1,5 +1,5 @@
 use Rattle.std.proofs.Common.{◌∙◌, refl}
-use Rattle.ser_values.specs.Reading.{short, plain, short_at}
+use Rattle.stream_grammar.specs.Reading.{short, plain, short_at}
 use Rattle.ser_read.proofs.Steps.{leads_start, leads_more, leads_done, plain_reads}
 use Rattle.ser_read.proofs.Loop.{many_start, many_next, many_end}
 use Rattle.ser_read.proofs.Values.{plain_stops}

@@ -1,7 +1,6 @@
 use Rattle.std.proofs.Common.{◌≡◌, ◌-◌}
 use Rattle.wire_io.specs.Pulled.{pull_state}
-use Rattle.ser_values.specs.Reading.{Progress, many_at, plain, short_at}
-use Rattle.ser_values.specs.Reading.{short}
+use Rattle.stream_grammar.specs.Reading.{Progress, many_at, plain, short_at, short}
 use Rattle.ser_read.proofs.Steps.{Leads}
 use Rattle.ser_read.proofs.Loop.{front_of}
 use Rattle.ser_read.proofs.pieces.names.Given as goal

@@ -1,4 +1,4 @@
-use Rattle.ser_values.specs.Reading.{long_at}
+use Rattle.stream_grammar.specs.Reading.{long_at}
 use Rattle.ser_read.proofs.Steps.{last}
 use Rattle.ser_read.proofs.Breaking.{raised, first, later_last}
 use Rattle.ser_read.proofs.pulled.long_text.Goals as goal

@@ -1,5 +1,5 @@
 use Rattle.std.proofs.Common.{◌∙◌, arith}
-use Rattle.ser_values.specs.Reading.{short}
+use Rattle.stream_grammar.specs.Reading.{short}
 use Rattle.ser_read.proofs.Steps.{leads_more}
 use Rattle.ser_read.proofs.Bytes.{take_more}
 use Rattle.ser_read.proofs.Breaking.{raised, loop_stops, took}

@@ -1,5 +1,5 @@
 use Rattle.std.proofs.Common.{◌≡◌, ◌-◌, length, [], Err, refl, ap, arith}
-use Rattle.ser_values.specs.Reading.{slot_at, coded}
+use Rattle.stream_grammar.specs.Reading.{slot_at, coded}
 use Rattle.ser_values.specs.declared.node.SlotPlace.TheVariants.{Reference}
 use Rattle.ser_read.specs.declared.fault.StreamKind.TheVariants.{BlockLeft}
 use Rattle.ser_read.specs.Tables.{now_of}

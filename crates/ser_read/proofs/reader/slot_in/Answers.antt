@@ -1,5 +1,5 @@
 use Rattle.std.proofs.Common.{arith}
-use Rattle.ser_read.specs.Stands.{stand_of}
+use Rattle.ser_read.specs.ReaderStand.{stand_of}
 use Rattle.ser_read.proofs.Slots.{slot_none}
 use Rattle.ser_read.proofs.Breaking.{want_raised, want_said, want_first, want_took}
 use Rattle.ser_read.proofs.reader.slot_in.Goals as goal

@@ -2,8 +2,8 @@ use Rattle.std.proofs.Common.{◌≡◌, Err, ◌-◌, ◌∙◌, FitsSigned, �
 use Rattle.std.proofs.lemmas.Bool.{ne_eqb}
 use Rattle.class_desc.specs.declared.slot.Slot.TheVariants as slots
 use Rattle.ser_values.specs.declared.node.SlotPlace.TheVariants.{Reference, Text}
-use Rattle.ser_values.specs.Reading.{FaultKind, short, bad, enum_at, fresh_at, note_at, slot_at, coded, field_at, field_of, value_at, Progress, push, fill, blank, proxy_at, array_of, array_at, type_in}
-use Rattle.ser_read.specs.Rows.{part_by, values_by, parts_by}
+use Rattle.stream_grammar.specs.Reading.{FaultKind, short, bad, enum_at, fresh_at, note_at, slot_at, coded, field_at, field_of, value_at, Progress, push, fill, blank, proxy_at, array_of, array_at, type_in}
+use Rattle.ser_read.specs.ObjectRows.{part_by, values_by, parts_by}
 use Rattle.ser_read.specs.Tables.{now_of}
 use Rattle.ser_read.specs.Here.{kind_of}
 use Rattle.ser_read.specs.declared.fault.StreamKind.{StreamKind}
@@ -27,7 +27,7 @@ use Rattle.class_desc.specs.ClassDesc.{is_good_desc}
 use Rattle.ser_values.specs.Shape.{fits_type}
 use Rattle.ser_values.specs.declared.node.Node.TheVariants as nodes
 use Rattle.std.proofs.lemmas.Grind.{common_steps}
-use Rattle.ser_read.proofs.Does.{fell}
+use Rattle.ser_read.proofs.NodeReading.{fell}
 
 pub arrays::array-returns : goal.arrays::array-returns
 arrays::array-returns g t c = record {

@@ -1,11 +1,10 @@
 use Rattle.std.proofs.Common.{◌≡◌, true, ◌-◌, ◌+◌, ◌*◌, ◌≤◌, length, drop}
 use Rattle.ser_values.specs.declared.node.SlotPlace.TheVariants.{Reference, Text}
 use Rattle.wire_io.specs.Pulled.{pull_state}
-use Rattle.ser_values.specs.Reading.{slot_at, many_at, field_at, value_at}
+use Rattle.stream_grammar.specs.Reading.{slot_at, many_at, field_at, value_at, short}
 use Rattle.ser_read.specs.Lists.{all_at}
-use Rattle.ser_read.specs.Rows.{part_by, values_by, parts_by}
+use Rattle.ser_read.specs.ObjectRows.{part_by, values_by, parts_by}
 use Rattle.ser_read.specs.Tables.{now_of}
-use Rattle.ser_values.specs.Reading.{short}
 use Rattle.ser_read.proofs.Steps.{Leads}
 use Rattle.ser_read.proofs.Loop.{front_of}
 use Rattle.ser_read.proofs.Blocks.{Slack}

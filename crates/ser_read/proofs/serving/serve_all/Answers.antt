@@ -1,5 +1,5 @@
 use Rattle.std.proofs.Common.{◌∙◌, refl}
-use Rattle.ser_values.specs.Reading.{short}
+use Rattle.stream_grammar.specs.Reading.{short}
 use Rattle.ser_read.specs.Wants.{inside}
 use Rattle.ser_read.proofs.Steps.{leads_start, leads_more, leads_done}
 use Rattle.ser_read.proofs.InOrder.{serve_start, serve_next, serve_err, serve_end}

@@ -1,8 +1,7 @@
 use Rattle.std.proofs.Common.{◌≡◌, drop, None}
 use Rattle.wire_io.specs.Pulled.{pull_state}
-use Rattle.ser_read.specs.Wants.{serve}
-use Rattle.ser_values.specs.Reading.{short}
-use Rattle.ser_read.specs.Wants.{inside}
+use Rattle.ser_read.specs.Wants.{serve, inside}
+use Rattle.stream_grammar.specs.Reading.{short}
 use Rattle.ser_read.proofs.Steps.{Leads}
 use Rattle.ser_read.proofs.InOrder.{given_before}
 use Rattle.ser_read.proofs.serving.serve_all.Given as goal

@@ -1,6 +1,6 @@
 use Rattle.std.proofs.Common.{◌≡◌, ◌++◌, ◌&&◌, reverse}
 use Rattle.class_desc.specs.declared.slot.Slot.TheVariants.{Node}
-use Rattle.ser_values.specs.Reading.{chain_of}
+use Rattle.stream_grammar.specs.Reading.{chain_of}
 use Rattle.ser_read.specs.Chains.{shown}
 use Rattle.ser_read.proofs.shape.chain_up.Given as goal
 

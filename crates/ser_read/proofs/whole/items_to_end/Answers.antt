@@ -1,6 +1,6 @@
 use Rattle.std.proofs.Common.{◌∷◌, ◌∙◌, ◌-◌, false, refl}
 use Rattle.ser_values.specs.declared.node.SlotPlace.TheVariants.{Reference}
-use Rattle.ser_values.specs.Reading.{slot_at, coded}
+use Rattle.stream_grammar.specs.Reading.{slot_at, coded}
 use Rattle.ser_read.specs.declared.fault.StreamFault.TheVariants.{OutOfMemory}
 use Rattle.ser_read.specs.Tables.{now_of}
 use Rattle.ser_read.proofs.Slots.{slot_gives}

@@ -1,7 +1,7 @@
 use Rattle.std.proofs.Common.{◌≡◌, false, ◌-◌}
 use Rattle.ser_values.specs.declared.node.SlotPlace.TheVariants.{Reference}
 use Rattle.wire_io.specs.Pulled.{pull_state}
-use Rattle.ser_values.specs.Reading.{slot_at}
+use Rattle.stream_grammar.specs.Reading.{slot_at}
 use Rattle.ser_read.specs.Tables.{now_of}
 use Rattle.ser_read.proofs.Blocks.{Slack}
 use Rattle.ser_read.proofs.whole.items_to_end.Given as goal

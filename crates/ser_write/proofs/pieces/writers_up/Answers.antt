@@ -1,5 +1,5 @@
 use Rattle.std.proofs.Common.{◌≡◌, ◌∙◌, ap, arith}
-use Rattle.ser_values.specs.Spelled.{writers}
+use Rattle.stream_grammar.specs.Spelled.{writers}
 use Rattle.ser_write.proofs.Cuts.{up_none, up_zero}
 use Rattle.ser_write.proofs.pieces.writers_up.Goals as goal
 

@@ -1,5 +1,5 @@
 use Rattle.std.proofs.Common.{◌≡◌, ◌++◌, reverse}
-use Rattle.ser_values.specs.Spelled.{writers}
+use Rattle.stream_grammar.specs.Spelled.{writers}
 use Rattle.ser_write.proofs.pieces.writers_up.Given as goal
 
 abbrev pub invariant-loop-left : goal.invariant-loop-left

@@ -1,13 +1,14 @@
 use Rattle.std.proofs.Common.{◌≡◌, ◌<◌, ◌≤◌, ◌∙◌, sym, refl, arith, rules, false, drop, slice_get, [], None, Some}
 use Rattle.std.proofs.lemmas.List.{append-nil}
+use Rattle.std.proofs.lemmas.Option.{slice_get-get_or}
 use Rattle.ser_values.proofs.Lists.{slice_get-or}
 use Rattle.class_desc.specs.declared.slot.Slot.TheVariants as slots
 use Rattle.ser_values.specs.declared.node.SlotPlace.TheVariants as places
-use Rattle.ser_values.specs.Spelled.{want}
+use Rattle.stream_grammar.specs.Spelled.{want}
 use Rattle.ser_write.specs.Canonical.{write_at}
 use Rattle.ser_write.specs.Nodes.{class_of, rest_tokens}
 use Rattle.ser_write.proofs.Begins.{begins_more}
-use Rattle.ser_write.proofs.Writes.{again_adds, flat_adds, alone_adds, classed_adds, note_adds, class_adds, head_adds, head_alone, write_all-one, parts_stop, part_next, slice_get_within_or}
+use Rattle.ser_write.proofs.Writes.{again_adds, flat_adds, alone_adds, classed_adds, note_adds, class_adds, head_adds, head_alone, write_all-one, parts_stop, part_next}
 use Rattle.ser_write.proofs.writing.+writing.Goals as goal
 
 pub put_slot-returns-in_ok-put_handle-in-Node : goal.put_slot-returns-in_ok-put_handle-in-Node
@@ -29,7 +30,7 @@ put_parts-returns-else-i-writes t c =
 
 pub put_parts-loop-i-preserved : goal.put_parts-loop-i-preserved
 put_parts-loop-i-preserved t c =
-    let at_w = slice_get_within_or c.args.writes.now c.loop-i.i false c.if-i-writes.true in
+    let at_w = slice_get-get_or c.args.writes.now c.loop-i.i false c.if-i-writes.true in
     let at_p = slice_get-or c.args.parts.now c.loop-i.i c.index-parts-i.result c.loop-i-test.true c.index-parts-i.is in
     let values = rw c.as_slice.ensures at c.in_ok-next.ensures in
     let noted = rw c.as_slice-in-loop-i.ensures at c.in_ok-next-2.ensures in

@@ -1,5 +1,5 @@
 use Rattle.std.proofs.Common.{◌≡◌, ◌≤◌, ◌+◌, ◌-◌, ◌*◌, ◌++◌, drop, map, length}
-use Rattle.ser_values.specs.Spelled.{field_tokens, value_token, reference, part_tokens}
+use Rattle.stream_grammar.specs.Spelled.{field_tokens, value_token, reference, part_tokens}
 use Rattle.ser_write.specs.Canonical.{Begins, write_items, write_all, write_at}
 use Rattle.ser_write.proofs.writing.+writing.Given as goal
 

@@ -1,9 +1,10 @@
 use Rattle.std.proofs.Common.{arith}
 use Rattle.std.proofs.Math.Logic.{∥∥₁_map}
-use Rattle.ser_values.specs.Spelled.{put_block}
+use Rattle.ser_values.specs.Fronts.{put_block}
 use Rattle.ser_values.proofs.FrontLaws.{with_graph}
 use Rattle.ser_write.specs.Canonical.{contents}
-use Rattle.ser_write.proofs.Streams.{all_fit, contents_full}
+use Rattle.ser_values.proofs.Ranged.{all_fit}
+use Rattle.ser_write.proofs.Streams.{contents_full}
 use Rattle.ser_write.proofs.writing.write_items_after.Goals as goal
 
 pub returns-in-Ok-clause-spelled : goal.returns-in-Ok-clause-spelled

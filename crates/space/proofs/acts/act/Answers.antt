@@ -1,7 +1,7 @@
 use Rattle.std.proofs.Common.{◌≡◌, ◌++◌, ℕ, List, true, ap, sym, subst, ◌∙◌}
 use Rattle.std.specs.List.{AllByRecursion}
 use Rattle.object_ids.specs.declared.ids.ObjId.{ObjId}
-use Rattle.export_table.specs.Rows.{is_exported}
+use Rattle.export_table.specs.ExportRows.{is_exported}
 use Rattle.space.specs.Acts.{new_rows, returned_by}
 use Rattle.space.proofs.LoopLaws.{all-there}
 use Rattle.space.proofs.acts.act.Goals as goal

@@ -1,7 +1,7 @@
 use Rattle.std.proofs.Common.{◌≡◌, ◌<◌, true, sym, subst, ap}
 use Rattle.export_table.specs.declared.rows.Export.{Export}
 use Rattle.std.proofs.Common.{List}
-use Rattle.export_table.specs.Rows.{is_exported, pins_of}
+use Rattle.export_table.specs.ExportRows.{is_exported, pins_of}
 use Rattle.export_table.specs.Table.{ExportTable}
 use Rattle.space.proofs.AskLaws.{still-pinned}
 use Rattle.space.proofs.acts.pin_for_name.Goals as goal

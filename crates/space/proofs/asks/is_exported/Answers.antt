@@ -1,6 +1,6 @@
 use Rattle.std.proofs.Common.{◌≡◌, ◌∙◌, rules}
 use Rattle.std.specs.Prelude.{is_some}
-use Rattle.export_table.specs.Rows.{kind_of}
+use Rattle.export_table.specs.ExportRows.{kind_of}
 use Rattle.space.proofs.Found.{exported-kind}
 use Rattle.space.proofs.asks.is_exported.Goals as goal
 

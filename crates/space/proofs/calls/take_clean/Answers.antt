@@ -5,7 +5,7 @@ use Rattle.object_ids.specs.declared.ids.ObjId.{ObjId}
 use Rattle.history.specs.declared.replies.Refused.{Refused}
 use Rattle.history.specs.declared.replies.Refused.TheVariants.{OutOfMemory}
 use Rattle.dgc_server.specs.Counts.{clean_call, clients_with_call}
-use Rattle.dgc_server.specs.Stands.{StandsFor}
+use Rattle.dgc_server.specs.StandsForCalls.{StandsFor}
 use Rattle.space.specs.Acts.{call_refusal}
 use Rattle.space.specs.Faults.{refused_for}
 use Rattle.space.proofs.Refusals.{clean-taken, clean-refused}

@@ -1,7 +1,7 @@
 use Rattle.std.proofs.Common.{◌≡◌, ℕ, ◌++◌, List, ap, sym, subst, arith, max}
 use Rattle.history.specs.declared.calls.Call.{Call}
-use Rattle.export_table.specs.Rows.{is_exported}
-use Rattle.dgc_server.specs.Stands.{StandsFor}
+use Rattle.export_table.specs.ExportRows.{is_exported}
+use Rattle.dgc_server.specs.StandsForCalls.{StandsFor}
 use Rattle.space.specs.Acts.{lease_refusal}
 use Rattle.space.proofs.Refusals.{no_call}
 use Rattle.space.proofs.calls.tell.Goals as goal

@@ -2,7 +2,7 @@ use Rattle.std.proofs.Common.{◌∷◌, List, sym, subst}
 use Rattle.std.specs.Prelude.{OnOk}
 use Rattle.object_ids.specs.declared.ids.ObjId.{ObjId}
 use Rattle.dgc_server.specs.Counts.{clean_call}
-use Rattle.dgc_server.specs.Stands.{StandsFor}
+use Rattle.dgc_server.specs.StandsForCalls.{StandsFor}
 use Rattle.space.specs.Acts.{Agrees, ForEachLogBy, call_refusal}
 use Rattle.space.proofs.calls.tell_clean.Goals as goal
 

@@ -12,6 +12,6 @@ returns c =
     c.in_ok-clients.clients (record { objects = c.from.result; clients = c.len-2.result; pairs = c.from-2.result; awaiting = c.from-3.result; names = c.from-4.result; withdrawn = c.len-4.result })
     c.new-text.result c.put_events_line.new.out c.put_counts.new.text c.args.space.now c.space.view_is c.space.invariant.0
     c.in_ok-clients.ensures (λ lease m calls stands. c.from-2.ensures ∙ c.pairs.ensures lease m calls stands)
-    (c.from.ensures ∙ c.count.ensures.value) c.len-2.ensures (c.from-3.ensures ∙ c.waiting.ensures) (c.from-4.ensures ∙ c.len-3.ensures.value ∙ bindings-counted c.space.inside.tables.config c.space.inside.tables.events.items c.space.inside.tables.names c.space.invariant.2) gone
+    (c.from.ensures ∙ c.count.ensures.value) c.len-2.ensures (c.from-3.ensures ∙ c.waiting_count.ensures) (c.from-4.ensures ∙ c.len-3.ensures.value ∙ bindings-counted c.space.inside.tables.config c.space.inside.tables.events.items c.space.inside.tables.names c.space.invariant.2) gone
     c.new-text.ensures ((c.in_ok-put_events_line.ensures {u = tt}).ok ∙ ap (λ (n : ℕ). c.new-text.result ++ events_text n c.space.inside.tables.units c.space.inside.tables.moment) count)
     (c.in_ok-put_counts.ensures {u = tt})

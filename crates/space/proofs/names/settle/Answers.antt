@@ -4,9 +4,9 @@ use Rattle.history.specs.declared.calls.Call.{Call}
 use Rattle.history.specs.declared.replies.Refused.{Refused}
 use Rattle.history.specs.LeaseCalls.{call_with}
 use Rattle.history.specs.Names.{name_in, is_name_change}
-use Rattle.dgc_server.specs.Stands.{StandsFor}
-use Rattle.export_table.specs.Rows.{is_exported}
-use Rattle.rmi_registry.specs.Named.{object_of}
+use Rattle.dgc_server.specs.StandsForCalls.{StandsFor}
+use Rattle.export_table.specs.ExportRows.{is_exported}
+use Rattle.rmi_registry.specs.Bindings.{object_of}
 use Rattle.space.specs.Acts.{lease_refusal, name_refusal, Agrees}
 use Rattle.space.proofs.Bindings.{no-call, names-unrefused, alone}
 use Rattle.space.proofs.names.settle.Goals as goal

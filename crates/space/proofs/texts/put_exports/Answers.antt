@@ -1,9 +1,9 @@
 use Rattle.std.proofs.Common.{◌≡◌, ◌++◌, List, max, flat_map, subst, ◌∙◌}
 use Rattle.std.specs.Prelude.{OnOk}
 use Rattle.history.specs.Outline.{object_line}
-use Rattle.dgc_server.specs.Stands.{ForEachLog}
+use Rattle.dgc_server.specs.StandsForCalls.{ForEachLog}
 use Rattle.export_table.specs.declared.rows.ExportRow.{ExportRow}
-use Rattle.space.specs.Rows.{held_row}
+use Rattle.space.specs.OutlineRows.{held_row}
 use Rattle.space.proofs.texts.put_exports.Goals as goal
 
 pub returns : goal.returns

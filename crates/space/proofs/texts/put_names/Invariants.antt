@@ -1,5 +1,5 @@
 use Rattle.std.proofs.Common.{◌≡◌, ◌++◌, take, flat_map}
-use Rattle.space.specs.Rows.{binding_text}
+use Rattle.space.specs.OutlineRows.{binding_text}
 use Rattle.space.proofs.texts.put_names.Given as goal
 
 abbrev pub invariant-loop-binding : goal.invariant-loop-binding

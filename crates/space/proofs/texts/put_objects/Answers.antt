@@ -1,6 +1,6 @@
 use Rattle.std.proofs.Common.{max, ap}
 use Rattle.history.specs.Outline.{object_line}
-use Rattle.space.specs.Rows.{held_row}
+use Rattle.space.specs.OutlineRows.{held_row}
 use Rattle.space.proofs.TextLaws.{lines-more, lines-all}
 use Rattle.space.proofs.texts.put_objects.Goals as goal
 

@@ -1,8 +1,8 @@
 use Rattle.std.proofs.Common.{◌≡◌, ◌++◌, take, flat_map}
 use Rattle.std.specs.Prelude.{max}
 use Rattle.history.specs.Outline.{object_line}
-use Rattle.dgc_server.specs.Stands.{ForEachLog}
-use Rattle.space.specs.Rows.{held_row}
+use Rattle.dgc_server.specs.StandsForCalls.{ForEachLog}
+use Rattle.space.specs.OutlineRows.{held_row}
 use Rattle.space.proofs.texts.put_objects.Given as goal
 
 abbrev pub invariant-loop-object : goal.invariant-loop-object

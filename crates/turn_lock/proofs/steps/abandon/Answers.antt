@@ -3,14 +3,14 @@ use Rattle.std.specs.Prelude.{Result}
 use Rattle.history.specs.declared.asks.Ask.TheVariants.{Abandon}
 use Rattle.history.specs.declared.replies.Refused.{Refused}
 use Rattle.history.specs.declared.replies.Turn.{Turn}
-use Rattle.history.specs.Running.{running}
+use Rattle.history.specs.Running.{running_calls_by}
 use Rattle.history.specs.Steps.{Step, turn_of}
 use Rattle.history.specs.Table.{places}
 use Rattle.space.specs.Acts.{event_of}
 use Rattle.space.specs.Built.{SpaceHistory}
-use Rattle.space.specs.Balance.{AreOfOthers}
-use Rattle.turn_lock.specs.declared.view.Stage.TheVariants.{Idle}
-use Rattle.turn_lock.specs.Rule.{Sat, in_hand, in_stage, space_with, told_of}
+use Rattle.ports.specs.Balance.{AreOfOthers}
+use Rattle.turn_lock.specs.declared.view.SeatState.TheVariants.{Idle}
+use Rattle.turn_lock.specs.Rule.{Sat, in_hand, in_state, space_with, seat_after_answer}
 use Rattle.turn_lock.proofs.Turning.{runs_there, space_is, turned_at}
 use Rattle.turn_lock.proofs.steps.abandon.Goals as goal
 
@@ -20,8 +20,8 @@ abandon-requires-clause-running g c =
     let v = c.args.seat.now.me.0 in
     let there = runs_there v.config c.args.by v.seen x.2.others x.1 c.args.object (subst (λ (n : ℕ). AreOfOthers n x.2.others) (sym c.requires.number) x.2.apart) x.2.after in
     let before = c.requires.runs in
-    let now : 0 < running (places v.config x.1) c.args.by c.args.object = omega (arith, there, before) in
-    subst (λ (s : SpaceHistory). 0 < running (places s.configuration s.events) c.args.by c.args.object) (sym x.3) now
+    let now : 0 < running_calls_by (places v.config x.1) c.args.by c.args.object = omega (arith, there, before) in
+    subst (λ (s : SpaceHistory). 0 < running_calls_by (places s.configuration s.events) c.args.by c.args.object) (sym x.3) now
 
 pub publish-requires-clause-called : goal.publish-requires-clause-called
 publish-requires-clause-called g c =
@@ -34,7 +34,7 @@ publish-requires-clause-called g c =
     let is = space_is s2 v.config (x.1 ++ e ∷ []) (c.abandon.ensures.config ∙ ap (λ (s : SpaceHistory). s.configuration) x.3) (c.abandon.ensures.events ∙ ap (λ (s : SpaceHistory). s.events ++ e ∷ []) x.3) in (
       x.0,
       x.1,
-      ap (λ (m : Sat). m.0.stage) x.4,
+      ap (λ (m : Sat). m.0.state) x.4,
       subst (λ (m : Sat). 0 < m.0.parts) (sym x.4) part,
       c.requires.number ∙ ap (λ (m : Sat). m.0.number) (sym x.4),
       is ∙ ap (λ (m : Sat). space_with m.0.config (x.1 ++ e ∷ [])) (sym x.4),
@@ -50,11 +50,11 @@ leave-requires-clause-called g c =
     let idle = c.requires.idle.2 in
     let part : 0 < v.parts = omega (arith, idle) in
     let is = space_is s2 v.config (x.1 ++ e ∷ []) (c.abandon.ensures.config ∙ ap (λ (s : SpaceHistory). s.configuration) x.3) (c.abandon.ensures.events ∙ ap (λ (s : SpaceHistory). s.events ++ e ∷ []) x.3) in
-    let told : c.publish.new.seat.me ≡ (told_of (in_hand v x.0 x.1) x.0 x.1 e answer, (0, None) ∷ []) =
-    c.publish.ensures.view x.0 x.1 (ap (λ (m : Sat). m.0.stage) x.4) ∙ ap (λ (m : Sat). (told_of m.0 x.0 x.1 e answer, m.1)) x.4 in (
+    let told : c.publish.new.seat.me ≡ (seat_after_answer (in_hand v x.0 x.1) x.0 x.1 e answer, (0, None) ∷ []) =
+    c.publish.ensures.view x.0 x.1 (ap (λ (m : Sat). m.0.state) x.4) ∙ ap (λ (m : Sat). (seat_after_answer m.0 x.0 x.1 e answer, m.1)) x.4 in (
       x.0,
       x.1 ++ e ∷ [],
-      ap (λ (m : Sat). m.0.stage) told,
+      ap (λ (m : Sat). m.0.state) told,
       subst (λ (m : Sat). 0 < m.0.parts) (sym told) part,
       ap (λ (m : Sat). m.1) told,
       is ∙ ap (λ (m : Sat). space_with m.0.config (x.1 ++ e ∷ [])) (sym told),
@@ -67,14 +67,14 @@ returns-clause-turned g c =
     let e = event_of c.args.by c.args.moment (Abandon c.args.object) in
     let answer : Result Turn Refused = Ok (turn_of v.config x.1 e) in
     let s2 : SpaceHistory = c.abandon.new.self in
-    let told : c.publish.new.seat.me ≡ (told_of (in_hand v x.0 x.1) x.0 x.1 e answer, (0, None) ∷ []) =
-    c.publish.ensures.view x.0 x.1 (ap (λ (m : Sat). m.0.stage) x.4) ∙ ap (λ (m : Sat). (told_of m.0 x.0 x.1 e answer, m.1)) x.4 in
+    let told : c.publish.new.seat.me ≡ (seat_after_answer (in_hand v x.0 x.1) x.0 x.1 e answer, (0, None) ∷ []) =
+    c.publish.ensures.view x.0 x.1 (ap (λ (m : Sat). m.0.state) x.4) ∙ ap (λ (m : Sat). (seat_after_answer m.0 x.0 x.1 e answer, m.1)) x.4 in
     let step : Step v.config x.1 e answer s2.events =
     subst (λ (s : SpaceHistory). Step s.configuration s.events e (Ok (turn_of s.configuration s.events e)) s2.events) x.3 c.abandon.ensures.step in
     let there = runs_there v.config c.args.by v.seen x.2.others x.1 c.args.object (subst (λ (n : ℕ). AreOfOthers n x.2.others) (sym c.requires.number) x.2.apart) x.2.after in
     let before = c.requires.runs in (
       x.1,
-      turned_at v c.leave.new.seat.me.0 x.0 x.1 e answer s2.events c.requires.idle.0 x.2 step (ap (λ (m : Sat). m.0) c.leave.ensures.view ∙ ap (λ (m : Sat). in_stage m.0 Idle) told),
+      turned_at v c.leave.new.seat.me.0 x.0 x.1 e answer s2.events c.requires.idle.0 x.2 step (ap (λ (m : Sat). m.0) c.leave.ensures.view ∙ ap (λ (m : Sat). in_state m.0 Idle) told),
       c.len-place.ensures.value ∙ ap (λ (s : SpaceHistory). length s.events) x.3,
       omega (arith, there, before),
     )

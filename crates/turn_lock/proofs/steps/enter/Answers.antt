@@ -1,6 +1,6 @@
 use Rattle.std.proofs.Common.{◌≡◌, ap, ◌∙◌, subst, Some, None}
-use Rattle.turn_lock.specs.declared.view.Stage.TheVariants.{Called}
-use Rattle.turn_lock.specs.Rule.{Sat, MayComeTo, holding, in_hand, in_stage, space_with}
+use Rattle.turn_lock.specs.declared.view.SeatState.TheVariants.{Called}
+use Rattle.turn_lock.specs.Rule.{Sat, MayComeTo, holding, in_hand, in_state, space_with}
 use Rattle.turn_lock.proofs.Turning.{alone, taken, swapped}
 use Rattle.turn_lock.proofs.steps.enter.Goals as goal
 
@@ -15,7 +15,7 @@ returns-clause-entered g c =
     let t = c.draw-ticket.result in
     let v = c.args.seat.now.me.0 in
     let at_call : c.wait.new.seat.me ≡ (in_hand v t w.0, holding (space_with v.config w.0)) =
-    w.1 ∙ ap (λ (m : Sat). (in_stage m.0 (Called t w.0), holding (space_with m.0.config w.0))) c.draw-ticket.ensures.view in (
+    w.1 ∙ ap (λ (m : Sat). (in_state m.0 (Called t w.0), holding (space_with m.0.config w.0))) c.draw-ticket.ensures.view in (
       t,
       w.0,
       subst (λ (m : Sat). MayComeTo m.0 w.0) c.draw-ticket.ensures.view w.2,

@@ -1,7 +1,7 @@
 use Rattle.std.proofs.Common.{ap, sym, ◌∙◌, arith}
 use Rattle.std.specs.Prelude.{filter}
 use Rattle.dgc_server.specs.Entry.{is_entry_kept}
-use Rattle.dgc_server.specs.Index.{is_named}
+use Rattle.dgc_server.specs.HolderIndex.{is_named}
 use Rattle.dgc_server.proofs.Purging.{only-none, kept-whole}
 use Rattle.dgc_server.proofs.clients.Clients.drop_objects.Goals as goal
 

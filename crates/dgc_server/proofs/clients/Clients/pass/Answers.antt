@@ -2,9 +2,9 @@ use Rattle.std.proofs.Common.{◌≡◌, ◌<◌, length, map, ap, sym, subst, �
 use Rattle.std.specs.Prelude.{List}
 use Rattle.std.specs.List.{list_all, AllByRecursion}
 use Rattle.history.proofs.ListLemmas.{every-filter}
-use Rattle.dgc_server.specs.Entry.{lapsed}
+use Rattle.dgc_server.specs.Entry.{entry_after_lapse}
 use Rattle.dgc_server.specs.Table.{ClientTable, after_lapse}
-use Rattle.dgc_server.specs.Index.{Tally, tally_in, tally_at, ends_later, sums_at, IsIndexed}
+use Rattle.dgc_server.specs.HolderIndex.{Tally, tally_in, tally_at, ends_later, sums_at, IsIndexed}
 use Rattle.dgc_server.specs.Chunks.{all_of, is_filled, IsBounded}
 use Rattle.dgc_server.proofs.Board.{all-bounded-lower}
 use Rattle.dgc_server.proofs.Chunked.{filled-all, all-filled}
@@ -70,13 +70,13 @@ returns-clause-indexed c =
     let ends : list_all (ends_later c.args.to c.pass_all-passed.result.next) (after_lapse c.args.to es) ≡ true = ends-lapse c.args.to c.pass_all-passed.result.next es c.pass_all-passed.ensures.ends in
     rw kept record {
       settled = λ h. settled-after c.args.to c.pass_all-passed.result.next es ends;
-      counted = λ w o. counts-are c.args.to c.pass_all-passed.new.counts c.pass_all-passed.result.sums (map (lapsed c.args.to) es) c.pass_all-passed.ensures.tallies w o
-          ∙ sym (kept-counted c.args.to o w (map (lapsed c.args.to) es));
+      counted = λ w o. counts-are c.args.to c.pass_all-passed.new.counts c.pass_all-passed.result.sums (map (entry_after_lapse c.args.to) es) c.pass_all-passed.ensures.tallies w o
+          ∙ sym (kept-counted c.args.to o w (map (entry_after_lapse c.args.to) es));
     }
 
 pub returns-clause-sums : goal.returns-clause-sums
 returns-clause-sums c =
     let es = all_of c.self.inside.chunks.items in
     let kept : all_of c.keep_filled.new.chunks.items ≡ after_lapse c.args.to es = ap all_of c.keep_filled.ensures ∙ filled-all c.pass_all-passed.new.chunks.items ∙ c.pass_all-passed.ensures.entries in
-    sums-of c.args.to c.pass_all-passed.new.counts c.pass_all-passed.result.sums (map (lapsed c.args.to) es) c.pass_all-passed.ensures.tallies
-    ∙ sym (kept-sums c.args.to (map (lapsed c.args.to) es)) ∙ ap (sums_at c.args.to) (sym kept)
+    sums-of c.args.to c.pass_all-passed.new.counts c.pass_all-passed.result.sums (map (entry_after_lapse c.args.to) es) c.pass_all-passed.ensures.tallies
+    ∙ sym (kept-sums c.args.to (map (entry_after_lapse c.args.to) es)) ∙ ap (sums_at c.args.to) (sym kept)

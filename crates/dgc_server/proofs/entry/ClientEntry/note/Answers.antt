@@ -4,8 +4,8 @@ use Rattle.std.specs.Box.{box_value}
 use Rattle.history.specs.Leases.{is_dirty_kind}
 use Rattle.dgc_server.specs.declared.entry.Kept.{Kept}
 use Rattle.dgc_server.specs.Entry.{Entry, object_entries, objects_after, dirty_in}
-use Rattle.dgc_server.specs.Stands.{each_once}
-use Rattle.dgc_server.specs.Index.{counted_at, counts_in, is_counted, one_if}
+use Rattle.dgc_server.specs.StandsForCalls.{each_once}
+use Rattle.dgc_server.specs.HolderIndex.{counted_at, counts_in, is_counted, one_if}
 use Rattle.dgc_server.proofs.HolderLaws.{each-way}
 use Rattle.dgc_server.proofs.MarkLaws.{holds-after}
 use Rattle.dgc_server.proofs.entry.ClientEntry.note.Goals as goal

@@ -5,7 +5,7 @@ use Rattle.history.specs.declared.calls.CallKind.TheVariants.{Dirty}
 use Rattle.history.specs.declared.limits.TheConstants.{MAX_CLIENTS, MAX_PAIRS}
 use Rattle.dgc_server.specs.declared.leases.LeaseFault.TheVariants.{Clients, Pairs}
 use Rattle.dgc_server.specs.Counts.{dirty_call, clients_with_call, pairs_with_call}
-use Rattle.dgc_server.specs.Stands.{LeaseTable, table_after}
+use Rattle.dgc_server.specs.StandsForCalls.{LeaseTable, table_after}
 use Rattle.dgc_server.specs.Table.{clients_after, pairs_after}
 use Rattle.dgc_server.proofs.Trimmed.{trimmed-noted}
 use Rattle.dgc_server.proofs.Told.{no-more, call-told, pairs-told, clients-told, error-is, error-same}

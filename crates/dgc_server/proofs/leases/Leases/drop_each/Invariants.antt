@@ -1,6 +1,6 @@
 use Rattle.std.proofs.Common.{◌≤◌, length, map, take}
 use Rattle.dgc_server.specs.Counts.{without_all}
-use Rattle.dgc_server.specs.Stands.{StandsFor, ForEachLog}
+use Rattle.dgc_server.specs.StandsForCalls.{StandsFor, ForEachLog}
 use Rattle.dgc_server.proofs.leases.Leases.drop_each.Given as goal
 
 abbrev pub invariant-loop-object : goal.invariant-loop-object

@@ -3,9 +3,9 @@ use Rattle.std.specs.Prelude.{filter}
 use Rattle.dgc_server.specs.declared.holders.Count.{Count}
 use Rattle.dgc_server.specs.declared.table.Sums.{Sums}
 use Rattle.dgc_server.specs.Entry.{entry_without, is_entry_kept, has_time_left}
-use Rattle.dgc_server.specs.Table.{after_lapse, remembered}
-use Rattle.dgc_server.specs.Stands.{LeaseTable, is_in_order}
-use Rattle.dgc_server.specs.Index.{Naming, counted_at, is_counted, entry_names, sums_at}
+use Rattle.dgc_server.specs.Table.{after_lapse, remembered_count}
+use Rattle.dgc_server.specs.StandsForCalls.{LeaseTable, is_in_order}
+use Rattle.dgc_server.specs.HolderIndex.{Naming, counted_at, is_counted, entry_names, sums_at}
 use Rattle.dgc_server.proofs.SumLaws.{sums-are}
 use Rattle.dgc_server.proofs.Walking.{rest_of, all-kept, leased-dropped, pairs-dropped}
 use Rattle.dgc_server.proofs.IndexLaws.{forgotten, kept-counted}
@@ -21,9 +21,9 @@ invariant_of-self c =
     let rest = map (entry_without o) es in
     let settled = c.self.invariant.1.settled c.self.invariant.3 in
     let named : c.count_of-count.result.clients ≡ length (filter (entry_names o) es) = ap (λ (n : Count). n.clients) c.count_of-count.ensures ∙ c.self.invariant.1.counted Naming o in
-    let pairs : c.sums_without-self-inside.result.pairs ≡ remembered m (rest_of o m es) =
+    let pairs : c.sums_without-self-inside.result.pairs ≡ remembered_count m (rest_of o m es) =
     (let all = pairs-dropped o m c.self.inside.clients.next es settled c.self.invariant.0.noted c.self.invariant.0.once in
-    let before : c.self.inside.sums.pairs ≡ remembered m es = ap (λ (s : Sums). s.pairs) c.self.invariant.2 in
+    let before : c.self.inside.sums.pairs ≡ remembered_count m es = ap (λ (s : Sums). s.pairs) c.self.invariant.2 in
     let after = c.sums_without-self-inside.ensures.pairs in omega arith) in (
       rw (c.drop_object.ensures.moment, c.drop_object.ensures.entries) (sound-dropped m c.self.inside.clients.next c.self.inside.lease o es settled c.self.invariant.0),
       rw (c.drop_object.ensures.moment, c.drop_object.ensures.next) record {
@@ -31,7 +31,7 @@ invariant_of-self c =
         counted = λ w p. forgotten m o w es (counted_at w c.self.inside.counts) (counted_at w c.forget.new.counts) (c.self.invariant.1.counted w) (c.forget.ensures w) p
             ∙ sym (kept-counted m p w rest) ∙ ap (λ l. length (filter (is_counted w m p) l)) (sym c.drop_object.ensures.entries);
       },
-      rw c.drop_object.ensures.moment (sums-are c.sums_without-self-inside.result (length (filter (has_time_left m) (rest_of o m es))) (remembered m (rest_of o m es))
+      rw c.drop_object.ensures.moment (sums-are c.sums_without-self-inside.result (length (filter (has_time_left m) (rest_of o m es))) (remembered_count m (rest_of o m es))
           (c.sums_without-self-inside.ensures.leased ∙ ap (λ (s : Sums). s.leased) c.self.invariant.2 ∙ sym (leased-dropped o m es)) pairs
           ∙ ap (sums_at m) (sym c.drop_object.ensures.entries)),
       rw (c.drop_object.ensures.moment, c.drop_object.ensures.next) c.self.invariant.3,
@@ -64,4 +64,4 @@ sums_without-self-inside-requires c =
     let es = c.self.inside.clients.entries in
     let named : c.count_of-count.result.clients ≡ length (filter (entry_names c.args.object) es) = ap (λ (n : Count). n.clients) c.count_of-count.ensures ∙ c.self.invariant.1.counted Naming c.args.object in
     let all = pairs-dropped c.args.object m c.self.inside.clients.next es (c.self.invariant.1.settled c.self.invariant.3) c.self.invariant.0.noted c.self.invariant.0.once in
-    let pairs : c.self.inside.sums.pairs ≡ remembered m es = ap (λ (s : Sums). s.pairs) c.self.invariant.2 in omega arith
+    let pairs : c.self.inside.sums.pairs ≡ remembered_count m es = ap (λ (s : Sums). s.pairs) c.self.invariant.2 in omega arith

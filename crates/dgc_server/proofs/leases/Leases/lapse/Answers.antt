@@ -2,8 +2,8 @@ use Rattle.std.proofs.Common.{◌≡◌, ◌≤◌, ap, subst, ◌∙◌, arith,
 use Rattle.std.specs.Prelude.{max, filter}
 use Rattle.dgc_server.specs.declared.table.Sums.{Sums}
 use Rattle.dgc_server.specs.Entry.{has_time_left}
-use Rattle.dgc_server.specs.Table.{after_lapse, remembered}
-use Rattle.dgc_server.specs.Stands.{LeaseTable, is_in_order}
+use Rattle.dgc_server.specs.Table.{after_lapse, remembered_count}
+use Rattle.dgc_server.specs.StandsForCalls.{LeaseTable, is_in_order}
 use Rattle.dgc_server.proofs.Few.{few-lapse}
 use Rattle.dgc_server.proofs.Kept.{numbered-lapse, once-lapse, remembered-lapse}
 use Rattle.dgc_server.proofs.Tables.{order-lapse, table-lapsed}
@@ -34,9 +34,9 @@ pub pass-sums-requires-clause-few : goal.pass-sums-requires-clause-few
 pass-sums-requires-clause-few c =
     let es = c.self.inside.clients.entries in
     let leased : c.self.inside.sums.leased ≡ length (filter (has_time_left c.self.inside.clients.moment) es) = ap (λ (s : Sums). s.leased) c.self.invariant.2 in
-    let pairs : c.self.inside.sums.pairs ≡ remembered c.self.inside.clients.moment es = ap (λ (s : Sums). s.pairs) c.self.invariant.2 in
+    let pairs : c.self.inside.sums.pairs ≡ remembered_count c.self.inside.clients.moment es = ap (λ (s : Sums). s.pairs) c.self.invariant.2 in
     let few : length (filter (has_time_left c.self.inside.clients.moment) es) ≤ 65536 = c.self.invariant.0.few in
-    let small : remembered c.self.inside.clients.moment es ≤ 262144 = c.self.invariant.0.small in (omega arith, omega arith)
+    let small : remembered_count c.self.inside.clients.moment es ≤ 262144 = c.self.invariant.0.small in (omega arith, omega arith)
 
 pub returns-clause-stands : goal.returns-clause-stands
 returns-clause-stands c lease moment calls s =

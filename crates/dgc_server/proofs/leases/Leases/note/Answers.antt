@@ -5,9 +5,9 @@ use Rattle.history.specs.declared.limits.TheConstants.{MAX_CLIENTS, MAX_PAIRS}
 use Rattle.history.specs.Leases.{is_dirty_kind}
 use Rattle.dgc_server.specs.declared.table.Sums.{Sums}
 use Rattle.dgc_server.specs.Entry.{Entry, has_time_left, remembered_of}
-use Rattle.dgc_server.specs.Table.{entry_of, with_entry, after_lapse, remembered, clients_after, pairs_after}
-use Rattle.dgc_server.specs.Stands.{LeaseTable, IsSound, entry_after}
-use Rattle.dgc_server.specs.Index.{Naming, is_counted, one_if, sums_at, entry_sums}
+use Rattle.dgc_server.specs.Table.{entry_of, with_entry, after_lapse, remembered_count, clients_after, pairs_after}
+use Rattle.dgc_server.specs.StandsForCalls.{LeaseTable, IsSound, entry_after}
+use Rattle.dgc_server.specs.HolderIndex.{Naming, is_counted, one_if, sums_at, entry_sums}
 use Rattle.dgc_server.proofs.Told.{no-more}
 use Rattle.dgc_server.proofs.SumLaws.{own-leased, own-remembered, sums-with}
 use Rattle.object_ids.specs.declared.ids.ObjId.{ObjId}
@@ -27,9 +27,9 @@ note-requires-clause-few c =
     let m = c.self.inside.clients.moment in
     each-way (λ w. (o : ObjId) → length (filter (is_counted w m o) es) ≤ 262144)
     (λ o. (let few : length (filter (has_time_left m) es) ≤ 65536 = c.self.invariant.0.few in few-holders m m o es 262144 (omega arith) (omega (arith, few))))
-    (λ o. (let all : remembered m (rest_of o m es) + length (filter (is_counted Naming m o) es) ≡ remembered m es =
+    (λ o. (let all : remembered_count m (rest_of o m es) + length (filter (is_counted Naming m o) es) ≡ remembered_count m es =
     pairs-dropped o m c.self.inside.clients.next es (c.self.invariant.1.settled c.self.invariant.3) c.self.invariant.0.noted c.self.invariant.0.once in
-    let small : remembered m es ≤ 262144 = c.self.invariant.0.small in omega (arith, all, small)))
+    let small : remembered_count m es ≤ 262144 = c.self.invariant.0.small in omega (arith, all, small)))
 
 pub sums_with-with-requires-clause-leased : goal.sums_with-with-requires-clause-leased
 sums_with-with-requires-clause-leased c =
@@ -48,7 +48,7 @@ sums_with-with-requires-clause-pairs c =
     let before : c.in_ok-noted.noted.before ≡ entry_sums c.self.inside.clients.moment (entry_of es client) =
     c.in_ok-noted.ensures.noted.before in
     let own : c.in_ok-noted.noted.before.pairs ≡ remembered_of c.self.inside.clients.moment (entry_of es client) = ap (λ (s : Sums). s.pairs) before in
-    let all : c.self.inside.sums.pairs ≡ remembered c.self.inside.clients.moment es = ap (λ (s : Sums). s.pairs) c.self.invariant.2 in
+    let all : c.self.inside.sums.pairs ≡ remembered_count c.self.inside.clients.moment es = ap (λ (s : Sums). s.pairs) c.self.invariant.2 in
     let least = own-remembered c.self.inside.clients.moment es client in omega arith
 
 pub pass-sums-requires-clause-once : goal.pass-sums-requires-clause-once
@@ -87,9 +87,9 @@ pass-sums-requires-clause-few c =
     let es = c.self.inside.clients.entries in
     let m = c.self.inside.clients.moment in
     let leased : c.self.inside.sums.leased ≡ length (filter (has_time_left m) es) = ap (λ (s : Sums). s.leased) c.self.invariant.2 in
-    let pairs : c.self.inside.sums.pairs ≡ remembered m es = ap (λ (s : Sums). s.pairs) c.self.invariant.2 in
+    let pairs : c.self.inside.sums.pairs ≡ remembered_count m es = ap (λ (s : Sums). s.pairs) c.self.invariant.2 in
     let few : length (filter (has_time_left m) es) ≤ 65536 = c.self.invariant.0.few in
-    let small : remembered m es ≤ 262144 = c.self.invariant.0.small in
+    let small : remembered_count m es ≤ 262144 = c.self.invariant.0.small in
     let more = c.sums_with-with.ensures.leased in
     let most = c.sums_with-with.ensures.pairs in
     let one = c.in_ok-noted.ensures.noted.small in (omega (arith, more, one.0, leased, few), omega (arith, most, one.1, pairs, small))
@@ -107,8 +107,8 @@ pass-sums-requires-clause-sums c =
     let all = c.self.invariant.2 in
     let leased : c.sums_with-with.result.leased + c.in_ok-noted.noted.before.leased ≡ length (filter (has_time_left m) es) + one_if (has_time_left m next) =
     c.sums_with-with.ensures.leased ∙ ap (λ (s : Sums). s.leased + c.in_ok-noted.noted.after.leased) all ∙ ap (λ (s : Sums). length (filter (has_time_left m) es) + s.leased) after in
-    let pairs : c.sums_with-with.result.pairs + c.in_ok-noted.noted.before.pairs ≡ remembered m es + remembered_of m next =
-    c.sums_with-with.ensures.pairs ∙ ap (λ (s : Sums). s.pairs + c.in_ok-noted.noted.after.pairs) all ∙ ap (λ (s : Sums). remembered m es + s.pairs) after in
+    let pairs : c.sums_with-with.result.pairs + c.in_ok-noted.noted.before.pairs ≡ remembered_count m es + remembered_of m next =
+    c.sums_with-with.ensures.pairs ∙ ap (λ (s : Sums). s.pairs + c.in_ok-noted.noted.after.pairs) all ∙ ap (λ (s : Sums). remembered_count m es + s.pairs) after in
     rw (c.in_ok-noted.ensures.moment) (sums-with m next es c.in_ok-noted.noted.before c.sums_with-with.result c.self.invariant.0.ordered (before ∙ ap (λ (d : Client). entry_sums m (entry_of es d)) (sym (client-of es client))) leased pairs
     ∙ ap (sums_at m) (sym entries))
 

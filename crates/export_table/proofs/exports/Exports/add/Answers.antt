@@ -4,7 +4,7 @@ use Rattle.object_ids.specs.declared.ids.ObjId.{ObjId}
 use Rattle.history.specs.declared.limits.TheConstants.{MAX_EXPORTS}
 use Rattle.history.specs.Places.{id_at}
 use Rattle.export_table.specs.declared.rows.Export.{Export}
-use Rattle.export_table.specs.Rows.{new_row}
+use Rattle.export_table.specs.ExportRows.{new_row}
 use Rattle.export_table.specs.Slots.{RowsHeld}
 use Rattle.export_table.specs.Table.{ExportTable, IsSound}
 use Rattle.export_table.proofs.Sound.{sound-added}
@@ -12,7 +12,7 @@ use Rattle.export_table.proofs.exports.Exports.add.Goals as goal
 
 pub put-requires-clause-number : goal.put-requires-clause-number
 put-requires-clause-number c =
-    ap (λ (x : Export). x.id.number) c.new.ensures ∙ ap (λ (o : ObjId). o.number) c.id_at-id.ensures ∙ ap (λ (n : ℕ). pos (16 + n)) c.added.ensures
+    ap (λ (x : Export). x.id.number) c.new.ensures ∙ ap (λ (o : ObjId). o.number) c.id_at-id.ensures ∙ ap (λ (n : ℕ). pos (16 + n)) c.added_count.ensures
 
 pub put-requires-clause-early : goal.put-requires-clause-early
 put-requires-clause-early c =
@@ -34,5 +34,5 @@ invariant_of-self-2 c =
     ap (λ (t : RowsHeld). t.rows) c.put.ensures.rows
     ∙ ap (λ (t : RowsHeld). t.rows ++ c.new.result ∷ []) c.in_ok-reserve.ensures.rest
     ∙ ap (λ x. before ++ x ∷ [])
-    (c.new.ensures ∙ ap (λ (o : ObjId). new_row o c.args.kind c.args.pinned) (c.id_at-id.ensures ∙ ap (λ (n : ℕ). id_at c.self.inside.space n) (c.added.ensures ∙ k)))))
+    (c.new.ensures ∙ ap (λ (o : ObjId). new_row o c.args.kind c.args.pinned) (c.id_at-id.ensures ∙ ap (λ (n : ℕ). id_at c.self.inside.space n) (c.added_count.ensures ∙ k)))))
     (sound-added c.self.inside.space c.self.inside.ack c.self.inside.rows.added before c.self.inside.waits.waits c.args.kind c.args.pinned (omega arith) room c.self.invariant))

@@ -1,5 +1,5 @@
 use Rattle.std.proofs.Common.{refl}
-use Rattle.export_table.specs.Rows.{pinned_once}
+use Rattle.export_table.specs.ExportRows.{pinned_once}
 use Rattle.export_table.proofs.Sound.{sound-changed}
 use Rattle.export_table.proofs.exports.Exports.pin.Goals as goal
 

@@ -1,5 +1,5 @@
 use Rattle.std.proofs.Common.{refl}
-use Rattle.export_table.specs.Rows.{unpinned_once}
+use Rattle.export_table.specs.ExportRows.{unpinned_once}
 use Rattle.export_table.proofs.Sound.{sound-changed}
 use Rattle.export_table.proofs.exports.Exports.unpin.Goals as goal
 

@@ -3,8 +3,8 @@ use Rattle.std.specs.Prelude.{vec_len}
 use Rattle.std.proofs.lemmas.List.Prefix.{front_rest}
 use Rattle.object_ids.specs.declared.ids.ObjId.{ObjId}
 use Rattle.dgc_server.specs.Counts.{without_all}
-use Rattle.dgc_server.specs.Stands.{StandsFor}
-use Rattle.export_table.specs.Rows.{held_by, withdrawn}
+use Rattle.dgc_server.specs.StandsForCalls.{StandsFor}
+use Rattle.export_table.specs.ExportRows.{held_by, withdrawn_ids}
 use Rattle.export_table.specs.Table.{ExportTable, IsSound}
 use Rattle.export_table.specs.Slots.{RowsHeld}
 use Rattle.export_table.specs.Waits.{goes_on}
@@ -29,5 +29,5 @@ returns-clause-dropped c lease moment calls s =
     (slice_from c.len-before.result c.deref.result.now
     ∙ ap (λ (n : ℕ). drop n c.deref.result.now) (c.len-before.ensures ∙ len)
     ∙ front_rest c.deref.result.now c.args.gone.now.items _ (c.deref.ensures.value ∙ c.sift.ensures.gone lease moment calls s)
-    ∙ ap (λ (t : ExportTable). withdrawn c.args.now held t.waits t.rows) c.self.view_is)
+    ∙ ap (λ (t : ExportTable). withdrawn_ids c.args.now held t.waits t.rows) c.self.view_is)
     (c.drop_objects.ensures.stands lease moment calls s)

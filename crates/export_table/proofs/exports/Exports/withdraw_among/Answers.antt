@@ -3,8 +3,8 @@ use Rattle.std.specs.Prelude.{vec_len, not, filter}
 use Rattle.std.proofs.lemmas.List.Prefix.{front_rest}
 use Rattle.object_ids.specs.declared.ids.ObjId.{ObjId}
 use Rattle.dgc_server.specs.Counts.{without_all}
-use Rattle.dgc_server.specs.Stands.{StandsFor}
-use Rattle.export_table.specs.Rows.{ids, held_by, stays_among}
+use Rattle.dgc_server.specs.StandsForCalls.{StandsFor}
+use Rattle.export_table.specs.ExportRows.{ids, held_by, stays_among}
 use Rattle.export_table.specs.Table.{ExportTable, IsSound}
 use Rattle.export_table.specs.Slots.{RowsHeld}
 use Rattle.export_table.specs.Waits.{goes_on}

@@ -1,7 +1,7 @@
 use Rattle.std.proofs.Common.{◌≡◌, ◌+◌, ◌-◌, ◌<◌, ◌^◌, ◌++◌, List, length, max, rules, ap, subst, ◌∙◌, arith}
 use Rattle.std.specs.Prelude.{vec_len, not, filter}
 use Rattle.object_ids.specs.declared.ids.ObjId.{ObjId}
-use Rattle.export_table.specs.Rows.{ids, stays_among, held_by, IsPart}
+use Rattle.export_table.specs.ExportRows.{ids, stays_among, held_by, IsPart}
 use Rattle.export_table.specs.Slots.{RowsHeld, rows_here}
 use Rattle.export_table.proofs.Slotted.{rows-counted}
 use Rattle.export_table.proofs.Sweeping.{kept-rows, kept-gone, kept-part, kept-slots}

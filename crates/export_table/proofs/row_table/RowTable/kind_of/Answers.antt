@@ -1,5 +1,5 @@
 use Rattle.std.proofs.Common.{ap, sym, ◌∙◌}
-use Rattle.export_table.specs.Rows.{kind_of}
+use Rattle.export_table.specs.ExportRows.{kind_of}
 use Rattle.export_table.specs.Slots.{RowsHeld}
 use Rattle.export_table.proofs.Slotted.{slot-kind, no-kind}
 use Rattle.export_table.proofs.row_table.RowTable.kind_of.Goals as goal

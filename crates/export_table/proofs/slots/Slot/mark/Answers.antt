@@ -1,5 +1,5 @@
 use Rattle.std.proofs.Common.{max, inl, inr, refl, sym, ◌∙◌}
-use Rattle.export_table.specs.Rows.{is_row_kept, held_by}
+use Rattle.export_table.specs.ExportRows.{is_row_kept, held_by}
 use Rattle.export_table.proofs.Marking.{stays-marked, away-marked, goes-marked}
 use Rattle.export_table.proofs.slots.Slot.mark.Goals as goal
 

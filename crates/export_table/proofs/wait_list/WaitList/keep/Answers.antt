@@ -2,7 +2,7 @@ use Rattle.std.proofs.Common.{◌≡◌, List, ap, sym, subst, ◌∙◌, arith,
 use Rattle.std.specs.Prelude.{filter}
 use Rattle.export_table.specs.declared.waits.Wait.{Wait}
 use Rattle.export_table.specs.Waits.{each_once}
-use Rattle.export_table.specs.Index.{stays, IsIndexOf}
+use Rattle.export_table.specs.WaitIndex.{stays, IsIndexOf}
 use Rattle.export_table.proofs.Sound.{once-filter}
 use Rattle.export_table.proofs.wait_list.WaitList.keep.Goals as goal
 

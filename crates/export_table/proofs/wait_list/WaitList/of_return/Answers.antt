@@ -3,7 +3,7 @@ use Rattle.std.specs.Prelude.{IfOk, filter, not}
 use Rattle.object_ids.specs.declared.ids.ObjId.{ObjId}
 use Rattle.export_table.specs.declared.waits.Wait.{Wait}
 use Rattle.export_table.specs.declared.waits.Stays.TheVariants.{OtherReturns}
-use Rattle.export_table.specs.Index.{stays}
+use Rattle.export_table.specs.WaitIndex.{stays}
 use Rattle.export_table.specs.WaitTable.{WaitTable}
 use Rattle.export_table.proofs.Returning.{objects-between}
 use Rattle.export_table.proofs.wait_list.WaitList.of_return.Goals as goal

@@ -1,24 +1,25 @@
 use Rattle.std.proofs.Common.{◌≡◌, List, length, ap, sym, subst, ◌∙◌, arith, false, true}
 use Rattle.std.specs.List.{list_any}
+use Rattle.sequence.proofs.Lists.{filter-shorter}
 use Rattle.object_ids.specs.Same.{same_id, same_uid}
 use Rattle.export_table.specs.declared.waits.Wait.{Wait}
 use Rattle.export_table.specs.Waits.{is_wait_of, each_once}
-use Rattle.export_table.specs.Index.{IsIndexOf}
+use Rattle.export_table.specs.WaitIndex.{IsIndexOf}
 use Rattle.export_table.specs.WaitTable.{WaitTable}
-use Rattle.export_table.proofs.Sound.{length-filter, once-push}
+use Rattle.export_table.proofs.Sound.{once-push}
 use Rattle.export_table.proofs.wait_list.WaitList.put.Goals as goal
 
 pub add-requires-clause-few : goal.add-requires-clause-few
 add-requires-clause-few c =
     let counted = c.self.invariant.index.counted c.args.wait.object in
-    let fewer = length-filter (λ (w : Wait). same_id w.object c.args.wait.object) c.self.inside.queue.waits in
+    let fewer = filter-shorter (λ (w : Wait). same_id w.object c.args.wait.object) c.self.inside.queue.waits in
     let all : length c.self.inside.queue.waits ≡ length c.args.self.now.waits = ap (λ (t : WaitTable). length t.waits) c.self.view_is in
     let few = c.requires.few in omega arith
 
 pub add-requires-clause-few_returned : goal.add-requires-clause-few_returned
 add-requires-clause-few_returned c =
     let counted = c.self.invariant.index.returned c.args.wait.uid in
-    let fewer = length-filter (λ (w : Wait). same_uid w.uid c.args.wait.uid) c.self.inside.queue.waits in
+    let fewer = filter-shorter (λ (w : Wait). same_uid w.uid c.args.wait.uid) c.self.inside.queue.waits in
     let all : length c.self.inside.queue.waits ≡ length c.args.self.now.waits = ap (λ (t : WaitTable). length t.waits) c.self.view_is in
     let few = c.requires.few in omega arith
 

@@ -2,7 +2,7 @@ use Rattle.std.proofs.Common.{◌≡◌, List, length, drop, ap, sym, subst, ◌
 use Rattle.std.specs.Prelude.{filter, vec_len}
 use Rattle.std.proofs.lemmas.List.{take_at}
 use Rattle.export_table.specs.declared.waits.Wait.{Wait}
-use Rattle.export_table.specs.Index.{stays}
+use Rattle.export_table.specs.WaitIndex.{stays}
 use Rattle.export_table.specs.WaitTable.{IsQueue}
 use Rattle.export_table.proofs.Queued.{queue-kept}
 use Rattle.export_table.proofs.wait_queue.WaitQueue.keep_before.Goals as goal

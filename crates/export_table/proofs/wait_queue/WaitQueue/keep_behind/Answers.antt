@@ -1,4 +1,4 @@
-use Rattle.export_table.specs.Index.{stays}
+use Rattle.export_table.specs.WaitIndex.{stays}
 use Rattle.export_table.proofs.Queued.{queue-kept}
 use Rattle.export_table.proofs.wait_queue.WaitQueue.keep_behind.Goals as goal
 

@@ -1,7 +1,7 @@
 use Rattle.std.proofs.Common.{◌≡◌, ◌+◌, ◌≤◌, List, length, drop, ap, sym, subst, ◌∙◌, arith}
 use Rattle.std.proofs.lemmas.List.{length-drop}
 use Rattle.export_table.specs.declared.waits.Wait.{Wait}
-use Rattle.export_table.specs.Index.{EndsNoEarlier, EndsRise}
+use Rattle.export_table.specs.WaitIndex.{EndsNoEarlier, EndsRise}
 use Rattle.export_table.proofs.Queued.{queue-passed, passed-rise}
 use Rattle.export_table.proofs.wait_queue.WaitQueue.pass.Goals as goal
 

@@ -1,6 +1,6 @@
 use Rattle.std.proofs.Common.{◌≡◌, ℕ, List, [], ◌∷◌, ◌++◌, drop, ap, sym, subst, ◌∙◌}
 use Rattle.export_table.specs.declared.waits.Wait.{Wait}
-use Rattle.export_table.specs.Index.{EndsRise}
+use Rattle.export_table.specs.WaitIndex.{EndsRise}
 use Rattle.export_table.specs.WaitTable.{IsQueue}
 use Rattle.export_table.proofs.Queued.{queue-put}
 use Rattle.export_table.proofs.wait_queue.WaitQueue.put.Goals as goal

@@ -1,6 +1,6 @@
 use Rattle.std.proofs.Common.{true≢false, ◌≡◌, sym, take, length, subst, arith, get_or, refl}
 use Rattle.std.proofs.lemmas.List.{take_more, length-take-le}
-use Rattle.method_hash.specs.Reading.{HasRead}
+use Rattle.method_hash.specs.TextReading.{HasRead}
 use Rattle.method_hash.specs.declared.place.TextPlace.{TextPlace}
 use Rattle.method_hash.specs.declared.place.TextPlace.TheVariants.{End}
 use Rattle.method_hash.proofs.Whole.{breaks_in, breaks_at_end, read_on, read_whole, all_read}

@@ -1,5 +1,5 @@
 use Rattle.std.proofs.Common.{take}
-use Rattle.method_hash.specs.Reading.{HasRead}
+use Rattle.method_hash.specs.TextReading.{HasRead}
 use Rattle.method_hash.proofs.method.Method.parse.Given as goal
 
 abbrev pub invariant-loop-at : goal.invariant-loop-at

@@ -1,5 +1,5 @@
 use Rattle.std.proofs.Common.{◌≡◌, ◌∙◌, sym, ap, string_bytes, map, take, drop, get_or, length, ◌-◌, ◌∷◌, codes, rules, List}
-use Rattle.rmi_cli.proofs.TermWords.{front_of_three, serve_found}
+use Rattle.rmi_cli.proofs.OptionWords.{front_of_three, serve_found}
 use Rattle.rmi_cli.proofs.words.Words.serve.Goals as goal
 
 pub returns-in-len3-up : goal.returns-in-len3-up

@@ -3,8 +3,8 @@ use Rattle.history.specs.declared.limits.TheConstants.{MAX_NAMES, MAX_NAME_UNITS
 use Rattle.std.specs.Prelude.{nat_le}
 use Rattle.std.proofs.lemmas.Bool.{leb-false}
 use Rattle.rmi_registry.specs.declared.binding.Binding.{Binding}
-use Rattle.rmi_registry.specs.Kept.{bindings_of}
-use Rattle.rmi_registry.specs.Named.{is_bound, IsRegistry}
+use Rattle.rmi_registry.specs.MapEntries.{bindings_of}
+use Rattle.rmi_registry.specs.Bindings.{is_bound, IsRegistry}
 use Rattle.rmi_registry.proofs.BindingLaws.{registry-added}
 use Rattle.rmi_registry.proofs.names.Names.add.Goals as goal
 

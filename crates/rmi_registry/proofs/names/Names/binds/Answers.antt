@@ -1,5 +1,5 @@
 use Rattle.std.proofs.Common.{arith}
-use Rattle.rmi_registry.specs.Kept.{bindings_of}
+use Rattle.rmi_registry.specs.MapEntries.{bindings_of}
 use Rattle.rmi_registry.proofs.BindingLaws.{count-few}
 use Rattle.rmi_registry.proofs.names.Names.binds.Goals as goal
 

@@ -1,8 +1,8 @@
 use Rattle.std.proofs.Common.{List, subst, sym, ap, ◌∙◌}
 use Rattle.std.specs.Prelude.{is_some}
 use Rattle.rmi_registry.specs.declared.binding.Binding.{Binding}
-use Rattle.rmi_registry.specs.Kept.{bindings_of}
-use Rattle.rmi_registry.specs.Named.{IsRegistry}
+use Rattle.rmi_registry.specs.MapEntries.{bindings_of}
+use Rattle.rmi_registry.specs.Bindings.{IsRegistry}
 use Rattle.rmi_registry.proofs.BindingLaws.{registry-without, without-absent, missing}
 use Rattle.rmi_registry.proofs.names.Names.unbind.Goals as goal
 

@@ -1,7 +1,7 @@
 use Rattle.std.proofs.Common.{◌≡◌, ap, ℕ, List, length}
 use Rattle.ser_read.specs.Wants.{ReaderState}
 use Rattle.std.proofs.Math.Logic.{∥∥₁_map}
-use Rattle.ser_read.specs.Stands.{stand_of}
+use Rattle.ser_read.specs.ReaderStand.{stand_of}
 use Rattle.ser_read.proofs.Steps.{reads_gives}
 use Rattle.ser_read.proofs.Breaking.{reads_env, want_breaks_fails, want_breaks_caused}
 use Rattle.ser_read.proofs.Served.{bytes_served}

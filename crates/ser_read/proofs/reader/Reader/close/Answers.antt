@@ -1,6 +1,6 @@
 use Rattle.std.proofs.Common.{◌≡◌, None, rules}
 use Rattle.std.proofs.Math.Logic.{∥∥₁_map}
-use Rattle.ser_read.specs.Stands.{stand_of}
+use Rattle.ser_read.specs.ReaderStand.{stand_of}
 use Rattle.ser_read.proofs.Served.{served_graph}
 use Rattle.ser_read.proofs.reader.Reader.close.Goals as goal
 

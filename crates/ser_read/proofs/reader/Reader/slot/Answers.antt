@@ -2,7 +2,7 @@ use Rattle.std.proofs.Common.{◌≡◌, ap}
 use Rattle.class_desc.specs.declared.slot.Slot.{Slot}
 use Rattle.ser_read.specs.Wants.{ReaderState}
 use Rattle.std.proofs.Math.Logic.{∥∥₁_map}
-use Rattle.ser_read.specs.Stands.{stand_of}
+use Rattle.ser_read.specs.ReaderStand.{stand_of}
 use Rattle.ser_read.proofs.Steps.{reads_gives}
 use Rattle.ser_read.proofs.Breaking.{reads_env, want_breaks_fails, want_breaks_caused}
 use Rattle.ser_read.proofs.Served.{slot_served}

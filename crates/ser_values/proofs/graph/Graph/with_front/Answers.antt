@@ -1,6 +1,6 @@
 use Rattle.std.proofs.Common.{rules, ◌≡◌}
 use Rattle.std.proofs.Math.Logic.{∥∥₁_map}
-use Rattle.ser_values.specs.Spelled.{put_block}
+use Rattle.ser_values.specs.Fronts.{put_block}
 use Rattle.ser_values.proofs.FrontLaws.{with_graph, front_undone}
 use Rattle.ser_values.proofs.Reached.{joined_items}
 use Rattle.ser_values.proofs.graph.Graph.with_front.Goals as goal

@@ -1,6 +1,5 @@
 use Rattle.std.proofs.Common.{rules, ◌++◌, ◌∷◌, [], sym, length, ◌<◌}
-use Rattle.ser_values.proofs.Keeps.{kept_close, has-push_last}
-use Rattle.ser_values.proofs.Keeps.{front_push}
+use Rattle.ser_values.proofs.Keeps.{kept_close, has-push_last, front_push}
 use Rattle.ser_values.specs.Seen.{Kept}
 use Rattle.ser_values.proofs.seen.Seen.close.Goals as goal
 

@@ -1,7 +1,7 @@
 use Rattle.std.proofs.Common.{◌++◌, ◌+◌, ◌∷◌, [], Ok, refl, subst, sym, ap, ◌∙◌, rules}
 use Rattle.history.specs.declared.replies.Turn.{Turn}
 use Rattle.history.specs.Steps.{Step}
-use Rattle.space.specs.Acts.{event_of, acted, reported_after}
+use Rattle.space.specs.Acts.{event_of, acted_exports, reported_after}
 use Rattle.space.proofs.EndLaws.{has-withdrawn}
 use Rattle.space.proofs.ReadyLaws.{step-when-ready, whole-when-ready, few-when-ready, abandoned-when-ready, finished-when-ready, countable-when-ready, within-when-ready, early-when-ready, some-when-ready, references-when-ready, stands-when-ready, few-pins-when-ready, bound-when-ready, looks-when-ready, awaiting-when-ready, wait-room-when-ready, few-calls-when-ready, log-when-ready, withdrawal-room-when-ready, gone-room-when-ready, among-when-ready, copy-room-when-ready}
 use Rattle.space.proofs.tables.Tables.take.Goals as goal
@@ -79,13 +79,13 @@ pub returns-clause-taken : goal.returns-clause-taken
 returns-clause-taken c =
     let S : Turn → Type 0 = λ t. Step c.args.self.now.config c.args.self.now.events.items (event_of c.args.by c.args.moment c.args.ask.now) (Ok t) (c.args.self.now.events.items ++ event_of c.args.by c.args.moment c.args.ask.now ∷ []) in
     subst S (sym c.into_turn.ensures.turn) (step-when-ready c.requires.ready c.max-now.ensures c.len-place.ensures
-    (has-withdrawn c.args.self.now.leases c.withdraw_among.new.leases (acted c.args.admitted.stood c.args.admitted.effective c.max-now.result c.args.ask.now c.args.self.now.exports) c.act.new.exports c.withdraw_among.new.exports c.max-now.result c.args.ready.untold.gone.items c.withdraw_among.new.gone.items
+    (has-withdrawn c.args.self.now.leases c.withdraw_among.new.leases (acted_exports c.args.admitted.stood c.args.admitted.effective c.max-now.result c.args.ask.now c.args.self.now.exports) c.act.new.exports c.withdraw_among.new.exports c.max-now.result c.args.ready.untold.gone.items c.withdraw_among.new.gone.items
     c.act.ensures c.withdraw_among.ensures.kept c.withdraw_among.ensures.gone c.withdraw_among.ensures.dropped))
 
 pub returns-clause-with_event : goal.returns-clause-with_event
 returns-clause-with_event c =
     whole-when-ready c.requires.ready c.max-now.ensures c.len-place.ensures
-    (has-withdrawn c.args.self.now.leases c.withdraw_among.new.leases (acted c.args.admitted.stood c.args.admitted.effective c.max-now.result c.args.ask.now c.args.self.now.exports) c.act.new.exports c.withdraw_among.new.exports c.max-now.result c.args.ready.untold.gone.items c.withdraw_among.new.gone.items
+    (has-withdrawn c.args.self.now.leases c.withdraw_among.new.leases (acted_exports c.args.admitted.stood c.args.admitted.effective c.max-now.result c.args.ask.now c.args.self.now.exports) c.act.new.exports c.withdraw_among.new.exports c.max-now.result c.args.ready.untold.gone.items c.withdraw_among.new.gone.items
     c.act.ensures c.withdraw_among.ensures.kept c.withdraw_among.ensures.gone c.withdraw_among.ensures.dropped)
     c.act_on_runs.ensures c.withdraw_among.ensures.noted c.withdraw_among.ensures.room
     (c.reported_after-self.ensures ∙ ap (λ n. reported_after c.args.self.now.reported n c.args.ask.now) c.len.ensures) refl (ap (λ n. c.args.self.now.units + n) c.units_of.ensures.value)

@@ -8,7 +8,7 @@ use Rattle.history.specs.LeaseCalls.{call_with}
 use Rattle.history.specs.Names.{name_in, names}
 use Rattle.history.specs.Steps.{Step}
 use Rattle.history.specs.Table.{places}
-use Rattle.export_table.specs.Rows.{is_exported}
+use Rattle.export_table.specs.ExportRows.{is_exported}
 use Rattle.export_table.specs.Table.{ExportTable}
 use Rattle.dgc_server.proofs.Told.{error-is}
 use Rattle.space.specs.Acts.{ForEachLogBy, event_of, effective_by, await_refusal, told_refusal, Agrees}
@@ -16,7 +16,7 @@ use Rattle.space.proofs.TurnLaws.{room-step, await-step, memory-step, reported-s
 use Rattle.space.proofs.AheadLaws.{room-grown, few-calls}
 use Rattle.space.proofs.AskLaws.{stood-is, keeps-roomy, asked, room-as, room-exports, room-units, returned-few}
 use Rattle.space.proofs.ReadyLaws.{is-ready}
-use Rattle.rmi_registry.specs.Named.{object_of}
+use Rattle.rmi_registry.specs.Bindings.{object_of}
 use Rattle.space.proofs.Bindings.{bindings-counted, bindings-same}
 use Rattle.space.proofs.tables.Tables.turn.Goals as goal
 

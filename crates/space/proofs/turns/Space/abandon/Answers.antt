@@ -1,7 +1,7 @@
 use Rattle.history.specs.declared.asks.Ask.TheVariants.{Abandon}
 use Rattle.std.proofs.Common.{◌≡◌, ◌<◌, [], ◌∷◌, ◌++◌, length, refl, sym, max, rules, arith, ◌+◌}
 use Rattle.std.specs.Prelude.{true}
-use Rattle.history.specs.Running.{running}
+use Rattle.history.specs.Running.{running_calls_by}
 use Rattle.history.specs.Table.{places}
 use Rattle.space.specs.Acts.{event_of}
 use Rattle.space.proofs.CollectLaws.{appended-collects}
@@ -21,7 +21,7 @@ end-requires c =
 pub withdraw-requires-clause-log : goal.withdraw-requires-clause-log
 withdraw-requires-clause-log c =
     let time : c.max-now.result ≡ max c.args.moment c.self.inside.tables.moment = search rules in
-    let runs : 0 < running (places c.self.inside.tables.config c.self.inside.tables.events.items) c.args.by c.args.object = is-running c.self.inside.tables.config c.self.inside.tables.events.items c.args.by c.args.object c.args.self.now c.self.view_is c.requires.running in
+    let runs : 0 < running_calls_by (places c.self.inside.tables.config c.self.inside.tables.events.items) c.args.by c.args.object = is-running c.self.inside.tables.config c.self.inside.tables.events.items c.args.by c.args.object c.args.self.now c.self.view_is c.requires.running in
     let acts = end-acted c.self.inside.tables.config c.self.inside.tables.events.items c.args.by c.args.moment c.args.object c.self.inside.tables.leases c.lapse.new.self c.self.inside.tables.exports c.end.new.self c.self.inside.tables.runs.items c.self.inside.tables.withdrawn.items
     c.self.inside.tables.reported c.self.inside.tables.added c.self.inside.tables.units c.self.inside.tables.moment c.max-now.result c.self.invariant.0 runs c.requires.moment time c.lapse.ensures.stands c.end.ensures in
     has-log c.self.inside.tables.config c.self.inside.tables.events.items (event_of c.args.by c.args.moment (Abandon c.args.object)) c.self.inside.tables.leases c.lapse.new.self c.self.inside.tables.exports c.end.new.self c.self.inside.tables.runs.items c.self.inside.tables.withdrawn.items
@@ -43,7 +43,7 @@ withdraw-requires-clause-few c =
 pub withdraw-requires-clause-among : goal.withdraw-requires-clause-among
 withdraw-requires-clause-among c none =
     let time : c.max-now.result ≡ max c.args.moment c.self.inside.tables.moment = search rules in
-    let runs : 0 < running (places c.self.inside.tables.config c.self.inside.tables.events.items) c.args.by c.args.object = is-running c.self.inside.tables.config c.self.inside.tables.events.items c.args.by c.args.object c.args.self.now c.self.view_is c.requires.running in
+    let runs : 0 < running_calls_by (places c.self.inside.tables.config c.self.inside.tables.events.items) c.args.by c.args.object = is-running c.self.inside.tables.config c.self.inside.tables.events.items c.args.by c.args.object c.args.self.now c.self.view_is c.requires.running in
     let acts = end-acted c.self.inside.tables.config c.self.inside.tables.events.items c.args.by c.args.moment c.args.object c.self.inside.tables.leases c.lapse.new.self c.self.inside.tables.exports c.end.new.self c.self.inside.tables.runs.items c.self.inside.tables.withdrawn.items
     c.self.inside.tables.reported c.self.inside.tables.added c.self.inside.tables.units c.self.inside.tables.moment c.max-now.result c.self.invariant.0 runs c.requires.moment time c.lapse.ensures.stands c.end.ensures in
     settled-but c.self.inside.tables.config c.self.inside.tables.events.items (event_of c.args.by c.args.moment (Abandon c.args.object)) c.self.inside.tables.leases c.lapse.new.self c.self.inside.tables.exports c.end.new.self c.self.inside.tables.runs.items c.self.inside.tables.withdrawn.items
@@ -52,7 +52,7 @@ withdraw-requires-clause-among c none =
 pub invariant_of-self : goal.invariant_of-self
 invariant_of-self c =
     let time : c.max-now.result ≡ max c.args.moment c.self.inside.tables.moment = search rules in
-    let runs : 0 < running (places c.self.inside.tables.config c.self.inside.tables.events.items) c.args.by c.args.object = is-running c.self.inside.tables.config c.self.inside.tables.events.items c.args.by c.args.object c.args.self.now c.self.view_is c.requires.running in
+    let runs : 0 < running_calls_by (places c.self.inside.tables.config c.self.inside.tables.events.items) c.args.by c.args.object = is-running c.self.inside.tables.config c.self.inside.tables.events.items c.args.by c.args.object c.args.self.now c.self.view_is c.requires.running in
     let acts = end-acted c.self.inside.tables.config c.self.inside.tables.events.items c.args.by c.args.moment c.args.object c.self.inside.tables.leases c.lapse.new.self c.self.inside.tables.exports c.end.new.self c.self.inside.tables.runs.items c.self.inside.tables.withdrawn.items
     c.self.inside.tables.reported c.self.inside.tables.added c.self.inside.tables.units c.self.inside.tables.moment c.max-now.result c.self.invariant.0 runs c.requires.moment time c.lapse.ensures.stands c.end.ensures in
     let goes : HasWithdrawn c.lapse.new.self c.withdraw.new.leases c.end.new.self c.withdraw.new.exports c.max-now.result [] c.withdraw.ensures.goes.0 =
@@ -74,7 +74,7 @@ invariant_of-self c =
 pub returns-clause-step : goal.returns-clause-step
 returns-clause-step c =
     let time : c.max-now.result ≡ max c.args.moment c.self.inside.tables.moment = search rules in
-    let runs : 0 < running (places c.self.inside.tables.config c.self.inside.tables.events.items) c.args.by c.args.object = is-running c.self.inside.tables.config c.self.inside.tables.events.items c.args.by c.args.object c.args.self.now c.self.view_is c.requires.running in
+    let runs : 0 < running_calls_by (places c.self.inside.tables.config c.self.inside.tables.events.items) c.args.by c.args.object = is-running c.self.inside.tables.config c.self.inside.tables.events.items c.args.by c.args.object c.args.self.now c.self.view_is c.requires.running in
     let acts = end-acted c.self.inside.tables.config c.self.inside.tables.events.items c.args.by c.args.moment c.args.object c.self.inside.tables.leases c.lapse.new.self c.self.inside.tables.exports c.end.new.self c.self.inside.tables.runs.items c.self.inside.tables.withdrawn.items
     c.self.inside.tables.reported c.self.inside.tables.added c.self.inside.tables.units c.self.inside.tables.moment c.max-now.result c.self.invariant.0 runs c.requires.moment time c.lapse.ensures.stands c.end.ensures in
     end-step c.self.inside.tables.config c.self.inside.tables.events.items c.put_event.new.events.items c.args.by c.args.moment c.args.object c.self.inside.tables.leases c.lapse.new.self c.self.inside.tables.exports c.end.new.self c.self.inside.tables.runs.items c.self.inside.tables.withdrawn.items

@@ -4,7 +4,7 @@ use Rattle.std.specs.Vec.Iter.{into_iter_items, into_iter_len}
 use Rattle.history.specs.declared.asks.Event.{Event}
 use Rattle.history.specs.declared.limits.TheConstants.{END_OF_TIME}
 use Rattle.space.specs.Built.{SpaceHistory}
-use Rattle.space.specs.Lists.{CollectsEach}
+use Rattle.space.specs.EventLists.{CollectsEach}
 use Rattle.space.proofs.CollectLaws.{front-collects}
 use Rattle.space.proofs.ListLaws.{takes-next}
 use Rattle.space.proofs.turns.Space.turns.Goals as goal

@@ -21,7 +21,7 @@ load-requires c =
     let whole : 0 < c.args.self.now.pass.seat.me.0.parts + c.args.pass.seat.me.0.parts = omega (arith, part) in (
       e.0 ∙ r.pass_is.table,
       omega (arith, words),
-      absorbs_at _ _ _ _ c.args.lock.now.sized.1 (ap (λ (m : Sat). m.0.stage) e.2 ∙ r.pass_is.idle) (ap (λ (m : Sat). m.1) e.2 ∙ r.pass_is.empty) (subst (λ (m : Sat). 0 < m.0.parts) (sym e.2) whole),
+      absorbs_at _ _ _ _ c.args.lock.now.sized.1 (ap (λ (m : Sat). m.0.state) e.2 ∙ r.pass_is.idle) (ap (λ (m : Sat). m.1) e.2 ∙ r.pass_is.empty) (subst (λ (m : Sat). 0 < m.0.parts) (sym e.2) whole),
     )
 
 -- Some pass was out.

@@ -15,5 +15,5 @@ load-requires c =
     let r = c.requires.own in let words = c.args.lock.now.sized.0 in let e = c.split_seat-seat.ensures in (
       e.3 ∙ r.pass_is.table,
       omega (arith, words),
-      absorbs_at _ _ _ _ c.args.lock.now.sized.1 (ap (λ (m : Sat). m.0.stage) e.4) (ap (λ (m : Sat). m.1) e.4) (let one = ap (λ (m : Sat). m.0.parts) e.4 in omega (arith, one)),
+      absorbs_at _ _ _ _ c.args.lock.now.sized.1 (ap (λ (m : Sat). m.0.state) e.4) (ap (λ (m : Sat). m.1) e.4) (let one = ap (λ (m : Sat). m.0.parts) e.4 in omega (arith, one)),
     )

@@ -3,20 +3,20 @@ use Rattle.std.specs.Prelude.{IfOk}
 use Rattle.turn_lock.specs.declared.handles.Pass.{Pass}
 use Rattle.turn_lock.specs.Handles.{view_of}
 use Rattle.turn_lock.specs.Orders.{TurnCollects}
-use Rattle.turn_lock.specs.Ports.{PassWent}
+use Rattle.turn_lock.specs.PassPorts.{PassWent}
 use Rattle.turn_lock.specs.PortLaws.{root_after}
 use Rattle.turn_lock.proofs.handles.Root.turn.Goals as goal
 
 pub returns : goal.returns
 returns g c =
-    let t = c.turned.ensures in
-    let went = subst (λ (p : Pass). PassWent p c.turned.new.pass c.turned.result.1) c.own.ensures.value t.went in
+    let t = c.turn_of_pass.ensures in
+    let went = subst (λ (p : Pass). PassWent p c.turn_of_pass.new.pass c.turn_of_pass.result.1) c.own.ensures.value t.went in
     record {
-      root = root_after c.args.lock.now c.args.self.now c.turned.new.pass c.turned.result.1 c.requires.own t.own went;
+      root = root_after c.args.lock.now c.args.self.now c.turn_of_pass.new.pass c.turn_of_pass.result.1 c.requires.own t.own went;
       counts = (refl, refl);
       went = went;
       asked = t.asked;
-      room = subst (λ (p : Pass). p.room ≤ c.turned.new.pass.room + 1) c.own.ensures.value t.room;
+      room = subst (λ (p : Pass). p.room ≤ c.turn_of_pass.new.pass.room + 1) c.own.ensures.value t.room;
       ordered = t.own.ordered;
-      collector = subst (λ (p : Pass). IfOk c.turned.result.0 (λ _. TurnCollects (view_of p) c.args.moment c.args.ask (view_of c.turned.new.pass))) c.own.ensures.value t.collector;
+      collector = subst (λ (p : Pass). IfOk c.turn_of_pass.result.0 (λ _. TurnCollects (view_of p) c.args.moment c.args.ask (view_of c.turn_of_pass.new.pass))) c.own.ensures.value t.collector;
     }

@@ -1,7 +1,7 @@
 use Rattle.std.proofs.Common.{◌≡◌, ◌≤◌, ◌<◌, ◌+◌, ◌++◌, ◌∷◌, [], length, ap, ◌∙◌, refl, rules, arith}
-use Rattle.history.specs.Running.{running}
+use Rattle.history.specs.Running.{running_calls_by}
 use Rattle.history.specs.Table.{places}
-use Rattle.space.specs.Ports.{Shows}
+use Rattle.ports.specs.Ports.{Shows}
 use Rattle.space.proofs.AnswerLaws.{answer-as}
 use Rattle.turn_lock.specs.Handles.{view_of}
 use Rattle.turn_lock.proofs.PortSteps.{tied_entered, tied_unentered, shown_there, went_entered, went_same, went_unentered}
@@ -11,7 +11,7 @@ pub returns-in-Ok-clause-answer : goal.returns-in-Ok-clause-answer
 returns-in-Ok-clause-answer g c =
     let p = c.args.self.now.pass.now in
     let t = c.in-Ok.ensures.turned in
-    answer-as (λ o. 0 < running (places (view_of p).config t.0) p.number o) (Shows c.args.self.now.asked.items) c.args.ask c.in-Ok.answer
+    answer-as (λ o. 0 < running_calls_by (places (view_of p).config t.0) p.number o) (Shows c.args.self.now.asked.items) c.args.ask c.in-Ok.answer
     (λ o h. shown_there (view_of p) t.0 p.number c.args.self.now.asked.items c.args.self.now.asked.capacity o c.requires.ready.0.numbered t.1.came c.requires.ready.1 h) t.2
 
 pub returns-in-Ok-clause-ready : goal.returns-in-Ok-clause-ready

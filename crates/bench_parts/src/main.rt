@@ -1,0 +1,53 @@
+//! Times a part of the product, which the first word names: `graphs`, `streams` or `lock`. The other words say how much of it.
+#![tactic(auto)]
+
+mod crew;
+mod graphs;
+mod lock;
+mod sample;
+mod sizes;
+mod streams;
+
+use graphs::time_graph;
+use lock::time_lock;
+use std::process::ExitCode;
+use std::{env, io};
+use streams::time_stream;
+
+/// A part of the product that is timed.
+#[derive(Clone, Copy)]
+enum Part {
+    Graphs,
+    Streams,
+    Lock,
+}
+
+impl Part {
+    /// The part that a word names.
+    fn named(word: &str) -> Option<Part> {
+        match word {
+            "graphs" => Some(Part::Graphs),
+            "streams" => Some(Part::Streams),
+            "lock" => Some(Part::Lock),
+            _ => None,
+        }
+    }
+}
+
+fn main(rt: HostRuntime) -> io::Result<ExitCode> {
+    let alloc = rt.alloc();
+    let mut words: Vec<String> = env::args(&rt)?.skip(1).collect(alloc)?;
+    let mut part = None;
+    if !words.is_empty() {
+        part = Part::named(words.remove(0).as_str());
+    }
+    match part {
+        Some(Part::Graphs) => time_graph(&rt, alloc, words.as_slice()),
+        Some(Part::Streams) => time_stream(&rt, alloc, rt.stdin()),
+        Some(Part::Lock) => time_lock(&rt, alloc, words.as_slice()),
+        None => {
+            eprintln!(rt; "usage: bench_parts graphs NODES BYTES, streams, or lock THREADS TURNS")?;
+            Ok(ExitCode::from(1))
+        }
+    }
+}

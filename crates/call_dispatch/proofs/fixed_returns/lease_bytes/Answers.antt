@@ -1,5 +1,0 @@
-use Rattle.call_dispatch.proofs.FixedReturns.{lease_is}
-use Rattle.call_dispatch.proofs.fixed_returns.lease_bytes.Goals as goal
-
-pub returns : goal.returns
-returns c = lease_is c.args.uid c.args.duration.now c.args.client.now _ c.in_ok-bytes.ensures

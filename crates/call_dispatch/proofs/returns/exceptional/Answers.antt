@@ -1,5 +1,0 @@
-use Rattle.call_dispatch.proofs.Returning.{fault_written}
-use Rattle.call_dispatch.proofs.returns.exceptional.Goals as goal
-
-pub returns : goal.returns
-returns c = fault_written c.args.uid c.args.message.now c.in_ok-graph.graph c.return_bytes.result c.in_ok-graph.ensures.nodes c.in_ok-graph.ensures.items c.return_bytes.ensures.written

@@ -1,5 +1,0 @@
-use Rattle.std.proofs.Common.{length}
-use Rattle.collector_judge.proofs.listed.+early.Given as goal
-
-abbrev pub decreases-early : goal.decreases-early
-decreases-early l = length l.events.now

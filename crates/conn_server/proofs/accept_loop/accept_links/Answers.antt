@@ -1,0 +1,89 @@
+use Rattle.std.proofs.Common.{rules, ◌≡◌, ◌∙◌, ◌+◌, ◌++◌, ◌∷◌, [], length, ap, sym, refl, arith}
+use Rattle.std.specs.Prelude.{vec_len}
+use Rattle.wire_io.specs.Links.{accepted_as}
+use Rattle.conn_server.specs.Accepts.{shown_all, links_of, ticks_of, with_all}
+use Rattle.conn_server.proofs.Listening.{with_none, one_more}
+use Rattle.conn_server.proofs.accept_loop.accept_links.Goals as goal
+
+pub loop-init : goal.loop-init
+loop-init g c =
+    let a = c.args.accepting in
+    let fresh = c.requires.fresh in
+    let turns = c.requires.turns.1 in
+    let left = g.L.In.Source.left in let held = g.L.Out.Sink.held in let given = g.L.Ticks.Clock.given in
+    let told = g.L.Listener.accepted c.args.listener.now in
+    record {
+      is = c.requires.accepting;
+      turns = omega (arith, turns);
+      count = a.started.ok.0 ∙ ap length fresh.0;
+      tied = fresh.1 ∙ ap (λ l. ticks_of (shown_all left held given l)) (sym fresh.0);
+      links = sym (with_none told) ∙ ap (λ l. with_all told (links_of (shown_all left held given l))) (sym fresh.0);
+      faults = omega arith;
+      ports = refl;
+    }
+
+pub admit-next-requires-clause-turns : goal.admit-next-requires-clause-turns
+admit-next-requires-clause-turns g c κs within =
+    let was = c.loop.invariant in
+    let freed = c.join_ended-accepted.ensures in
+    let room = was.turns in
+    let room2 = freed.turns in
+    let count = was.count in
+    let count2 = freed.count in
+    let test = c.loop-test.true in
+    let few = c.requires.turns.0 in
+    (omega (arith, room, room2, test, few), omega (arith, count, count2, test, few))
+
+pub admit-next-requires-clause-tied : goal.admit-next-requires-clause-tied
+admit-next-requires-clause-tied g c κs within =
+    let freed = c.join_ended-accepted.ensures in
+    ap (λ v. v.items) freed.ticks ∙ (c.loop.invariant.tied ∙ ap (λ l. ticks_of l) (sym freed.links))
+
+pub returns-then-not-taken-clause-links : goal.returns-then-not-taken-clause-links
+returns-then-not-taken-clause-links g c =
+    let left = g.L.In.Source.left in let held = g.L.Out.Sink.held in let given = g.L.Ticks.Clock.given in
+    let next = c.admit-next.result.0 in
+    let was = c.loop.invariant in
+    let before = links_of (shown_all left held given c.loop.accepting.started.items) in
+    let told = g.L.Listener.accepted c.args.listener.now in
+    let link = accepted_as left held given c.in-Ok.link in
+    let freed = c.join_ended-accepted.result in
+    let here : links_of (shown_all left held given next.started.items) ≡ links_of (shown_all left held given freed.started.items) = search rules in
+    let same : links_of (shown_all left held given next.started.items) ≡ before = here ∙ ap (λ l. links_of l) c.join_ended-accepted.ensures.links in
+    let count : vec_len next.started ≡ vec_len freed.started = search rules in
+    let count2 = c.join_ended-accepted.ensures.count in
+    let counter = was.count in
+    let test = c.loop-test.true in (
+      link ∷ [],
+      one_more told (g.L.Listener.accepted c.loop.listener) (g.L.Listener.accepted c.next_link.new.listener) before link was.links c.in-Ok.ensures.accepts.0 ∙ ap (λ l. with_all told (l ++ link ∷ [])) (sym same),
+      (omega (arith, count, count2, counter, test), refl),
+    )
+
+pub loop-preserved : goal.loop-preserved
+loop-preserved g c =
+    let left = g.L.In.Source.left in let held = g.L.Out.Sink.held in let given = g.L.Ticks.Clock.given in
+    let next = c.admit-next.result.0 in
+    let was = c.loop.invariant in
+    let before = links_of (shown_all left held given c.loop.accepting.started.items) in
+    let told = g.L.Listener.accepted c.args.listener.now in
+    let link = accepted_as left held given c.in-Ok.link in
+    let freed = c.join_ended-accepted.result in
+    let here : links_of (shown_all left held given next.started.items) ≡ links_of (shown_all left held given freed.started.items) ++ link ∷ [] = search rules in
+    let longer : links_of (shown_all left held given next.started.items) ≡ before ++ link ∷ [] = here ∙ ap (λ l. links_of l ++ link ∷ []) c.join_ended-accepted.ensures.links in
+    let count : vec_len next.started ≡ vec_len freed.started + 1 = search rules in
+    let count2 = c.join_ended-accepted.ensures.count in
+    let counter = was.count in
+    let room = was.turns in
+    let room2 = c.admit-next.ensures.turns in
+    let room3 = c.join_ended-accepted.ensures.turns in
+    let faults = was.faults in
+    let faults2 = c.in-Ok.ensures.accepts.1 in
+    record {
+      is = c.admit-next.ensures.accepting;
+      turns = omega (arith, room, room2, room3);
+      count = omega (arith, count, count2, counter);
+      tied = c.admit-next.ensures.tied;
+      links = one_more told (g.L.Listener.accepted c.loop.listener) (g.L.Listener.accepted c.next_link.new.listener) before link was.links c.in-Ok.ensures.accepts.0 ∙ ap (with_all told) (sym longer);
+      faults = omega (arith, faults, faults2);
+      ports = c.in-Ok.ensures.ports ∙ was.ports;
+    }

@@ -1,0 +1,102 @@
+use Rattle.std.proofs.Common.{◌∙◌, ◌+◌, ℕ, ap, sym, subst, arith}
+use Rattle.std.specs.Prelude.{vec_len}
+use Rattle.wire_io.specs.Links.{accepted_as}
+use Rattle.conn_server.specs.Accepts.{shown_all, links_of, ticks_of}
+use Rattle.conn_server.specs.Made.{IsHandFor, shown_admitted}
+use Rattle.conn_server.proofs.Listening.{links_on, ticks_on}
+use Rattle.conn_server.proofs.Taking.{same_accepting}
+use Rattle.conn_server.proofs.admission.admit.Goals as goal
+
+pub returns-in_default-clause-accepting : goal.returns-in_default-clause-accepting
+returns-in_default-clause-accepting g c = same_accepting _ _ _ _ _ _ _ c.reserve_link-accepting.ensures.same c.requires.accepting
+
+pub returns-in_default-clause-turns : goal.returns-in_default-clause-turns
+returns-in_default-clause-turns g c = let root = ap (λ r. r.pass.room) c.reserve_link-accepting.ensures.same.root in omega (arith, root)
+
+pub returns-in_default-clause-tied : goal.returns-in_default-clause-tied
+returns-in_default-clause-tied g c =
+    let same = c.reserve_link-accepting.ensures.same in
+    same.ticks ∙ (c.requires.tied ∙ ap (λ l. ticks_of (shown_all g.I.Source.left g.O.Sink.held g.T.Clock.given l)) (sym same.started))
+
+pub returns-in_default-clause-links : goal.returns-in_default-clause-links
+returns-in_default-clause-links g c = ap (λ l. links_of (shown_all g.I.Source.left g.O.Sink.held g.T.Clock.given l)) c.reserve_link-accepting.ensures.same.started
+
+pub returns-in_default-clause-count : goal.returns-in_default-clause-count
+returns-in_default-clause-count g c = c.reserve_link-accepting.ensures.same.count
+
+pub prepare_link-accepting-requires-clause-accepting : goal.prepare_link-accepting-requires-clause-accepting
+prepare_link-accepting-requires-clause-accepting g c = same_accepting _ _ _ _ _ _ _ c.reserve_link-accepting.ensures.same c.requires.accepting
+
+pub prepare_link-accepting-requires-clause-turns : goal.prepare_link-accepting-requires-clause-turns
+prepare_link-accepting-requires-clause-turns g c =
+    let root = ap (λ r. r.pass.room) c.reserve_link-accepting.ensures.same.root in
+    let turns = c.requires.turns.0 in
+    omega (arith, root, turns)
+
+pub prepare_link-accepting-requires-clause-few : goal.prepare_link-accepting-requires-clause-few
+prepare_link-accepting-requires-clause-few g c =
+    let count = c.reserve_link-accepting.ensures.same.count in
+    let few = c.requires.turns.1 in
+    omega (arith, count, few)
+
+pub prepare_link-accepting-requires-clause-room : goal.prepare_link-accepting-requires-clause-room
+prepare_link-accepting-requires-clause-room g c = rw c.in-Some.is at c.reserve_link-accepting.ensures.room
+
+pub prepare_link-accepting-requires-clause-ready : goal.prepare_link-accepting-requires-clause-ready
+prepare_link-accepting-requires-clause-ready g c =
+    let made = c.reserve_link-accepting.ensures in
+    subst (λ (n : ℕ). IsHandFor g.G.Hand.Worker.calls g.G.Hand.Worker.seen c.args.plan.now (n + 1) c.args.link.host c.args.link.port c.in-Some.ready) (sym made.same.count) (rw c.in-Some.is at made.ready)
+
+pub returns-in_default-admitted-clause-accepting : goal.returns-in_default-admitted-clause-accepting
+returns-in_default-admitted-clause-accepting g c = c.prepare_link-accepting.ensures.accepting
+
+pub returns-in_default-admitted-clause-turns : goal.returns-in_default-admitted-clause-turns
+returns-in_default-admitted-clause-turns g c =
+    let root = ap (λ r. r.pass.room) c.reserve_link-accepting.ensures.same.root in
+    let turns = c.prepare_link-accepting.ensures.turns in
+    omega (arith, root, turns)
+
+pub returns-in_default-admitted-clause-tied : goal.returns-in_default-admitted-clause-tied
+returns-in_default-admitted-clause-tied g c =
+    let same = c.reserve_link-accepting.ensures.same in
+    let prepared = c.prepare_link-accepting.ensures in
+    (rw c.in_default-admitted.is at prepared.ticks)
+    ∙ (same.ticks ∙ (c.requires.tied ∙ ap (λ l. ticks_of (shown_all g.I.Source.left g.O.Sink.held g.T.Clock.given l)) (sym (ap (λ v. v.items) prepared.links.0 ∙ same.started))))
+
+pub returns-in_default-admitted-clause-links : goal.returns-in_default-admitted-clause-links
+returns-in_default-admitted-clause-links g c =
+    ap (λ v. links_of (shown_all g.I.Source.left g.O.Sink.held g.T.Clock.given v.items)) c.prepare_link-accepting.ensures.links.0
+    ∙ ap (λ l. links_of (shown_all g.I.Source.left g.O.Sink.held g.T.Clock.given l)) c.reserve_link-accepting.ensures.same.started
+
+pub returns-in_default-admitted-clause-count : goal.returns-in_default-admitted-clause-count
+returns-in_default-admitted-clause-count g c = ap vec_len c.prepare_link-accepting.ensures.links.0 ∙ c.reserve_link-accepting.ensures.same.count
+
+pub returns-clause-accepting : goal.returns-clause-accepting
+returns-clause-accepting g c = c.start_link-accepting.ensures.accepting
+
+pub returns-clause-turns : goal.returns-clause-turns
+returns-clause-turns g c =
+    let root = ap (λ r. r.pass.room) c.reserve_link-accepting.ensures.same.root in
+    let turns = c.prepare_link-accepting.ensures.turns in
+    let begun = c.start_link-accepting.ensures.turns in
+    omega (arith, root, turns, begun)
+
+pub returns-clause-tied : goal.returns-clause-tied
+returns-clause-tied g c =
+    let same = c.reserve_link-accepting.ensures.same in
+    let prepared = c.prepare_link-accepting.ensures in
+    let begun = c.start_link-accepting.ensures in
+    ticks_on (shown_all g.I.Source.left g.O.Sink.held g.T.Clock.given c.prepare_link-accepting.result.0.started.items) _ (shown_admitted g.I.Source.left g.O.Sink.held g.T.Clock.given c.in-Some-admitted.admitted) _ _ begun.links
+    (same.ticks ∙ (c.requires.tied ∙ ap (λ l. ticks_of (shown_all g.I.Source.left g.O.Sink.held g.T.Clock.given l)) (sym (ap (λ v. v.items) prepared.links.0 ∙ same.started))))
+    (ap (λ v. v.items) begun.ticks ∙ (rw c.in-Some-admitted.is at prepared.ticks))
+
+pub returns-clause-links : goal.returns-clause-links
+returns-clause-links g c =
+    let same = c.reserve_link-accepting.ensures.same in
+    let prepared = c.prepare_link-accepting.ensures in
+    links_on (shown_all g.I.Source.left g.O.Sink.held g.T.Clock.given c.prepare_link-accepting.result.0.started.items) _ (shown_admitted g.I.Source.left g.O.Sink.held g.T.Clock.given c.in-Some-admitted.admitted) _ _ c.start_link-accepting.ensures.links
+    (ap (λ l. links_of (shown_all g.I.Source.left g.O.Sink.held g.T.Clock.given l)) (ap (λ v. v.items) prepared.links.0 ∙ same.started))
+    (ap (λ l. accepted_as g.I.Source.left g.O.Sink.held g.T.Clock.given l) (rw c.in-Some-admitted.is at prepared.first))
+
+pub returns-clause-count : goal.returns-clause-count
+returns-clause-count g c = c.start_link-accepting.ensures.count ∙ ap (λ n. n + 1) (ap vec_len c.prepare_link-accepting.ensures.links.0 ∙ c.reserve_link-accepting.ensures.same.count)

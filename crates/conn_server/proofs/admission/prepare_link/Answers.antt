@@ -1,0 +1,27 @@
+use Rattle.std.proofs.Common.{◌∙◌, ◌+◌, ap, sym, refl, arith}
+use Rattle.std.specs.Prelude.{vec_len, vec_capacity}
+use Rattle.conn_server.proofs.Making.{made_for}
+use Rattle.conn_server.proofs.admission.prepare_link.Goals as goal
+
+pub returns-clause-next : goal.returns-clause-next
+returns-clause-next g c =
+    let t = c.with_tick-accepting.ensures in
+    let ready = c.requires.ready in
+    let hand = c.args.ready.hand in
+    let count = ap vec_len t.links.0 in
+    let held = ap vec_capacity t.links.0 in
+    let kept = ap vec_capacity t.links.1 in
+    let few = c.requires.few in
+    let room = c.requires.room.started in
+    let room2 = c.requires.room.reports in
+    record {
+      accepting = t.accepting;
+      few = omega (arith, count, few);
+      can = record { told = t.calls ∙ ready.told; peer_host = ready.peer_host; host = ready.host; time = ready.time; drawn = ready.drawn };
+      made = made_for g.I.Source.left g.O.Sink.held g.T.Clock.given g.H.Worker.seen g.H.Worker.state g.H.Worker.moves c.args.plan.now _ _ c.args.link _ c.of-first.ensures
+          (ap (λ n. n + 1) (sym count)) refl refl ready.terms
+          (rw c.in-Some.is at t.asked) (rw c.in-Some.is at t.given)
+          (g.H.Worker.seen hand, g.H.Worker.state hand, ready.untold, rw c.in-Some.is at t.seen, rw c.in-Some.is at t.state);
+      started = omega (arith, count, held, room);
+      reports = omega (arith, count, kept, room2);
+    }

@@ -1,0 +1,149 @@
+//! Accepting links, and joining their threads.
+ghost use Rattle.std.specs.Prelude.{◌≡◌, ◌≤◌, List, [], ◌++◌, length, vec_len};
+ghost use Rattle.mod_utf.specs.Utf.{utf};
+ghost use Rattle.wire_io.specs.Links.{Accepted, Accepts, accepted_as};
+ghost use Rattle.wire_io.specs.Wire.{Rose};
+ghost use Rattle.wire_io.specs.declared.limits.TheConstants.{MAX_HOST_BYTES};
+ghost use Rattle.turn_lock.specs.Handles.{IsRootOf, view_of};
+ghost use Rattle.conn_server.specs.Accepts.{IsAccepting, shown_all, links_of, ticks_of, with_all};
+ghost use Rattle.conn_server.specs.Joins.{IsJoined};
+ghost use Rattle.conn_server.specs.Made.{IsMadeFor};
+ghost use Rattle.conn_server.specs.Rows.{Paired};
+ghost use Rattle.conn_server.specs.Stops.{Stopped};
+ghost use Rattle.conn_server.specs.Talks.{TalksOver};
+ghost use Rattle.conn_server.specs.Views.{IsTicked};
+ghost use Rattle.conn_server.specs.declared.plan.TheConstants.{MAX_LINKS};
+
+use crate::admission::{Accepting, admit};
+use crate::ended_links::EndedLinks;
+use crate::join::join_ended;
+use crate::link_task::LinkReport;
+use crate::link_thread::{StartedLink, finish};
+use crate::plan::ServePlan;
+use call_dispatch::{Book, Crew, Worker};
+use space::Asked;
+use std::alloc::Global;
+use std::sync::Wait;
+use std::thread::{Scope, Threads};
+use turn_lock::{Root, TurnLock};
+use wire_io::{Clock, Failed, Link, Listener, Sink, Source};
+
+/// How often a listener that fails is asked for the same link at most: for days.
+const MAX_ACCEPT_TRIES: u32 = 10_000_000;
+
+/// How often it is asked again, after a pause each, where no link was served when it failed.
+const MAX_IDLE_TRIES: u32 = 4;
+
+/// Why no more links were accepted.
+#[derive(Clone, Copy)]
+pub enum Stop {
+    /// As many were served as were to be.
+    All,
+    /// The listener failed, and failed again each further time that it was asked.
+    AcceptFault,
+    /// There was no memory for a link that was accepted. It is shut, and not reported.
+    OutOfMemory,
+}
+
+/// The listener's next link. Where it fails it is asked again, once a link has ended or after a pause: as long as one of those that were begun is served,
+/// whose end gives back a descriptor and memory, and then a few times more.
+fn next_link<R: Wait, L: Listener>(
+    rt: &R,
+    listener: &mut L,
+    ended: &EndedLinks,
+    begun: usize,
+) -> Result<Link<L::In, L::Out, L::Ticks>, Failed>
+    ensures accepts { Accepts (accepted_as L.In.left L.Out.held L.Ticks.given) (L.accepted listener.old) (L.accepted listener.new) (L.faults listener.old) (L.faults listener.new) result }
+    ensures ports { L.ports listener.new ≡ L.ports listener.old }
+{
+    let mut idle_tries = 0u32;
+    for _ in 1..MAX_ACCEPT_TRIES {
+        let seen = ended.count();
+        if let Ok(link) = listener.accept() {
+            return Ok(link);
+        }
+        if seen >= begun as u64 {
+            idle_tries = idle_tries.saturating_add(1);
+        }
+        ended.pause(rt, seen);
+        if idle_tries >= MAX_IDLE_TRIES {
+            break;
+        }
+    }
+    listener.accept()
+}
+
+/// Accepts so many links. A thread of the scope serves each. Before a link is admitted, threads of links that have ended are joined.
+pub fn accept_links<'s, E, R: Threads + Wait + Sync, L: Listener, G: Crew>(
+    scope: &Scope<'s, E>,
+    rt: &'s R,
+    alloc: Global,
+    lock: &'s TurnLock,
+    book: &'s Book,
+    ended: &'s EndedLinks,
+    listener: &mut L,
+    crew: &G,
+    plan: &ServePlan,
+    accepting: Accepting<L::In, L::Out, L::Ticks, G::Hand>,
+) -> (Accepting<L::In, L::Out, L::Ticks, G::Hand>, Stop)
+where
+    L::In: 's,
+    L::Out: 's,
+    L::Ticks: 's,
+    G::Hand: 's,
+    requires host { length (utf plan.now.host) ≤ MAX_HOST_BYTES }
+    requires accepting { IsAccepting (TalksOver L.In.left L.Out.held L.Ticks.given G.Hand.calls G.Hand.seen G.Hand.state G.Hand.may G.Hand.moves book.now) (IsMadeFor L.In.left L.Out.held L.Ticks.given G.Hand.seen G.Hand.state G.Hand.moves plan.now) G.Hand.calls lock.now book.now accepting }
+    requires fresh { (accepting.started.items ≡ []) × (accepting.ticks.items ≡ []) }
+    requires turns { (plan.now.count ≤ MAX_LINKS) × (MAX_LINKS ≤ accepting.root.pass.room) }
+    ensures accepting { IsAccepting (TalksOver L.In.left L.Out.held L.Ticks.given G.Hand.calls G.Hand.seen G.Hand.state G.Hand.may G.Hand.moves book.now) (IsMadeFor L.In.left L.Out.held L.Ticks.given G.Hand.seen G.Hand.state G.Hand.moves plan.now) G.Hand.calls lock.now book.now result.0 }
+    ensures tied { result.0.ticks.items ≡ ticks_of (shown_all L.In.left L.Out.held L.Ticks.given result.0.started.items) }
+    ensures links { (lost : List Accepted) × (L.accepted listener.new ≡ with_all (L.accepted listener.old) (links_of (shown_all L.In.left L.Out.held L.Ticks.given result.0.started.items) ++ lost)) × Stopped result.1 plan.now.count (vec_len result.0.started) lost }
+    ensures fault { result.1 ≡ Stop.AcceptFault → Rose (L.faults listener.old) (L.faults listener.new) }
+    ensures faults { L.faults listener.old ≤ L.faults listener.new }
+    ensures ports { L.ports listener.new ≡ L.ports listener.old }
+{
+    let mut accepting = accepting;
+    for _ in 0..plan.count {
+        let Ok(link) = next_link(rt, listener, ended, accepting.started.len()) else {
+            return (accepting, Stop::AcceptFault);
+        };
+        let accepted = join_ended(rt, lock, book, ended, plan, accepting);
+        let (next, taken) = admit(
+            scope, rt, alloc, lock, book, ended, crew, plan, link, accepted,
+        );
+        accepting = next;
+        if !taken {
+            return (accepting, Stop::OutOfMemory);
+        }
+    }
+    (accepting, Stop::All)
+}
+
+/// Waits for each link that wasn't joined, in order of accepting. Gives back the root, the reports and the entries of the root's own turns.
+pub fn join_links<R: Threads, I: Source + Drop, O: Sink + Drop, T: Clock + Drop, H: Worker + Drop>(
+    rt: &R,
+    lock: &TurnLock,
+    book: &Book,
+    plan: &ServePlan,
+    accepting: Accepting<I, O, T, H>,
+) -> (Root, Vec<LinkReport<I, O, T, H>>, Vec<Asked>)
+    requires { IsAccepting (TalksOver I.left O.held T.given H.calls H.seen H.state H.may H.moves book.now) (IsMadeFor I.left O.held T.given H.seen H.state H.moves plan.now) H.calls lock.now book.now accepting }
+    ensures root { IsRootOf lock.now result.0 × (result.0.out ≡ 0) }
+    ensures made { result.0.made ≡ vec_len accepting.started }
+    ensures ticks { IsTicked (view_of result.0.pass) result.2.items × (result.2 ≡ accepting.ticks) }
+    ensures links { Paired (IsJoined (TalksOver I.left O.held T.given H.calls H.seen H.state H.may H.moves book.now) (IsMadeFor I.left O.held T.given H.seen H.state H.moves plan.now) H.calls lock.now (view_of result.0.pass)) 1 accepting.started.items result.1.items }
+{
+    let _ = plan;
+    let Accepting {
+        mut root,
+        started,
+        mut reports,
+        ticks,
+    } = accepting;
+    for link in started {
+        let StartedLink { task, link_state } = link;
+        let report = finish(rt, lock, book, &mut root, &task, link_state);
+        reports.push_reserved(report);
+    }
+    (root, reports, ticks)
+}

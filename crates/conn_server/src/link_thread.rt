@@ -1,0 +1,170 @@
+//! Links that are being served.
+ghost use Rattle.std.specs.Prelude.{◌≡◌, ◌+◌};
+ghost use Rattle.turn_lock.specs.Handles.{IsRootOf, view_of};
+ghost use Rattle.turn_lock.specs.declared.view.View.{View};
+ghost use Rattle.conn_server.specs.Serves.{IsLinkTask, Serves};
+ghost use Rattle.conn_server.specs.Starts.{IsUnder, IsEndOf, open_in};
+ghost use Rattle.conn_server.specs.Talks.{TalksOver};
+ghost use Rattle.conn_server.specs.Views.{Grows};
+
+use crate::ended_links::EndedLinks;
+use crate::link_task::{LinkDone, LinkReport, LinkTask, TaskPromise, serve_task};
+use call_dispatch::{Book, Worker};
+use std::alloc::Global;
+use std::mem;
+use std::snapshot::Snapshot;
+use std::sync::Wait;
+use std::thread::{PromisedHandle, Scope, Threads};
+use turn_lock::{Root, TurnLock};
+use wire_io::{Clock, Sink, Source};
+
+/// A link that was begun: its task, and how far it is.
+#[derive(Drop)]
+pub struct StartedLink<I: Source, O: Sink, T: Clock, H: Worker> {
+    pub task: Snapshot<LinkTask<I, O, T, H>>,
+    pub link_state: LinkState<I, O, T, H>,
+}
+
+/// How far a link is that was begun.
+#[derive(Drop)]
+pub enum LinkState<I: Source, O: Sink, T: Clock, H: Worker> {
+    /// A thread serves it.
+    Running(PromisedHandle<LinkDone<I, O, T, H>, TaskPromise<I, O, T, H>>),
+    /// It was served here, since no thread could be made.
+    ServedHere(LinkDone<I, O, T, H>),
+    /// It was served, and its pass was given back.
+    Ended(LinkReport<I, O, T, H>),
+    /// Its thread is being joined.
+    Joining,
+}
+
+/// Serves a link to its end, and notes that it has ended.
+fn serve_noted<R: Wait, I: Source, O: Sink, T: Clock, H: Worker>(
+    rt: &R,
+    alloc: Global,
+    lock: &TurnLock,
+    book: &Book,
+    ended: &EndedLinks,
+    task: LinkTask<I, O, T, H>,
+) -> LinkDone<I, O, T, H>
+    requires { IsLinkTask H.calls lock.now task }
+    ensures { Serves (TalksOver I.left O.held T.given H.calls H.seen H.state H.may H.moves book.now) lock.now task result }
+{
+    let by = task.by;
+    let done = serve_task(rt, alloc, lock, book, task);
+    ended.note(rt, by);
+    done
+}
+
+/// Serves the link in a thread of the scope. Where none can be made, the task comes back and is done here.
+pub fn start<
+    's,
+    E,
+    R: Threads + Wait + Sync,
+    I: Source + Send + Drop + 's,
+    O: Sink + Send + Drop + 's,
+    T: Clock + Send + Drop + 's,
+    H: Worker + Send + Drop + 's,
+>(
+    scope: &Scope<'s, E>,
+    rt: &'s R,
+    alloc: Global,
+    lock: &'s TurnLock,
+    book: &'s Book,
+    ended: &'s EndedLinks,
+    task: LinkTask<I, O, T, H>,
+) -> StartedLink<I, O, T, H>
+    requires { IsLinkTask H.calls lock.now task }
+    ensures begun { (v : View) → IsUnder (TalksOver I.left O.held T.given H.calls H.seen H.state H.may H.moves book.now) lock.now book.now v result.task.value result.link_state }
+    ensures out { open_in result.link_state ≡ 1 }
+    ensures task { result.task.value ≡ task }
+{
+    let known = Snapshot::of(&task);
+    let kept = TaskPromise {
+        lock: Snapshot::of(lock),
+        book: Snapshot::of(book),
+        task: Snapshot::of(&task),
+    };
+    let spawned = scope.spawn_with(
+        kept,
+        move || -> LinkDone<I, O, T, H>
+            requires { IsLinkTask H.calls lock.now task }
+            ensures { Serves (TalksOver I.left O.held T.given H.calls H.seen H.state H.may H.moves book.entry.now) lock.entry.now task result }
+        { serve_noted(rt, alloc, lock, book, ended, task) },
+    );
+    match spawned {
+        Ok(child) => StartedLink {
+            task: known,
+            link_state: LinkState::Running(child),
+        },
+        Err(refused) => StartedLink {
+            task: known,
+            link_state: LinkState::ServedHere((refused.value)()),
+        },
+    }
+}
+
+/// Gives the root the pass of a link back that was served.
+fn give_back<I: Source, O: Sink, T: Clock, H: Worker>(
+    lock: &TurnLock,
+    book: &Book,
+    root: &mut Root,
+    task: &Snapshot<LinkTask<I, O, T, H>>,
+    done: LinkDone<I, O, T, H>,
+) -> LinkReport<I, O, T, H>
+    requires root { IsRootOf lock.now root.old }
+    requires served { Serves (TalksOver I.left O.held T.given H.calls H.seen H.state H.may H.moves book.now) lock.now task.now.value done }
+    ensures root { IsRootOf lock.now root.new × (root.new.out + 1 ≡ root.old.out) × (root.new.made ≡ root.old.made) × (root.new.pass.room ≡ root.old.pass.room) }
+    ensures grown { Grows (view_of root.old.pass) (view_of root.new.pass) }
+    ensures ended { IsEndOf (TalksOver I.left O.held T.given H.calls H.seen H.state H.may H.moves book.now) (view_of root.new.pass) task.now.value result }
+{
+    let _ = book;
+    let _ = task;
+    let LinkDone { pass, report } = done;
+    root.join(lock, pass);
+    report
+}
+
+/// Waits until the link is served, and gives the root its pass back, unless that was done.
+pub fn finish<R: Threads, I: Source, O: Sink, T: Clock, H: Worker>(
+    rt: &R,
+    lock: &TurnLock,
+    book: &Book,
+    root: &mut Root,
+    task: &Snapshot<LinkTask<I, O, T, H>>,
+    link_state: LinkState<I, O, T, H>,
+) -> LinkReport<I, O, T, H>
+    requires root { IsRootOf lock.now root.old }
+    requires begun { IsUnder (TalksOver I.left O.held T.given H.calls H.seen H.state H.may H.moves book.now) lock.now book.now (view_of root.old.pass) task.now.value link_state }
+    ensures root { IsRootOf lock.now root.new × (root.new.out + open_in link_state ≡ root.old.out) × (root.new.made ≡ root.old.made) × (root.new.pass.room ≡ root.old.pass.room) }
+    ensures grown { Grows (view_of root.old.pass) (view_of root.new.pass) }
+    ensures ended { IsEndOf (TalksOver I.left O.held T.given H.calls H.seen H.state H.may H.moves book.now) (view_of root.new.pass) task.now.value result }
+{
+    match link_state {
+        LinkState::Running(child) => give_back(lock, book, root, task, child.join(rt)),
+        LinkState::ServedHere(done) => give_back(lock, book, root, task, done),
+        LinkState::Ended(report) => report,
+        LinkState::Joining => unreachable!(),
+    }
+}
+
+/// Finishes the link, and keeps its report in its place.
+pub fn settle<R: Threads, I: Source + Drop, O: Sink + Drop, T: Clock + Drop, H: Worker + Drop>(
+    rt: &R,
+    lock: &TurnLock,
+    book: &Book,
+    root: &mut Root,
+    started: &mut StartedLink<I, O, T, H>,
+)
+    requires root { IsRootOf lock.now root.old }
+    requires begun { IsUnder (TalksOver I.left O.held T.given H.calls H.seen H.state H.may H.moves book.now) lock.now book.now (view_of root.old.pass) started.old.task.value started.old.link_state }
+    ensures root { IsRootOf lock.now root.new × (root.new.out + open_in started.old.link_state ≡ root.old.out) × (root.new.made ≡ root.old.made) × (root.new.pass.room ≡ root.old.pass.room) }
+    ensures grown { Grows (view_of root.old.pass) (view_of root.new.pass) }
+    ensures begun { IsUnder (TalksOver I.left O.held T.given H.calls H.seen H.state H.may H.moves book.now) lock.now book.now (view_of root.new.pass) started.new.task.value started.new.link_state }
+    ensures task { started.new.task.value ≡ started.old.task.value }
+    ensures out { open_in started.new.link_state ≡ 0 }
+{
+    let link_state = mem::replace(&mut started.link_state, LinkState::Joining);
+    let report = finish(rt, lock, book, root, &started.task, link_state);
+    started.link_state = LinkState::Ended(report);
+}

@@ -1,7 +1,0 @@
-use Rattle.std.proofs.Common.{◌≡◌, flat_map, take}
-use Rattle.dgc_server.specs.Index.{freed_of}
-use Rattle.dgc_server.specs.Chunks.{all_of}
-use Rattle.dgc_server.proofs.ended.freed_in.Given as goal
-
-abbrev pub invariant-loop-chunk : goal.invariant-loop-chunk
-invariant-loop-chunk l = l.freed.items ≡ flat_map (freed_of l.from l.to) (all_of (take l.chunk-index l.chunks))

@@ -1,5 +1,0 @@
-use Rattle.std.proofs.Common.{length}
-use Rattle.history.proofs.plain.awaiting.+all_returned.Given as goal
-
-abbrev pub decreases-all_returned : goal.decreases-all_returned
-decreases-all_returned l = length l.places.now

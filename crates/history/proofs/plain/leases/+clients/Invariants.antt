@@ -1,5 +1,0 @@
-use Rattle.std.proofs.Common.{length}
-use Rattle.history.proofs.plain.leases.+clients.Given as goal
-
-abbrev pub decreases-clients : goal.decreases-clients
-decreases-clients l = length l.calls.now

@@ -1,5 +1,0 @@
-use Rattle.std.proofs.Common.{length}
-use Rattle.history.proofs.plain.leases.+some_hold.Given as goal
-
-abbrev pub decreases-some_hold : goal.decreases-some_hold
-decreases-some_hold l = length l.clients.now

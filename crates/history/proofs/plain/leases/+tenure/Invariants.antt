@@ -1,5 +1,0 @@
-use Rattle.std.proofs.Common.{length}
-use Rattle.history.proofs.plain.leases.+tenure.Given as goal
-
-abbrev pub decreases-tenure : goal.decreases-tenure
-decreases-tenure l = length l.own.now

@@ -1,5 +1,0 @@
-use Rattle.std.proofs.Common.{length}
-use Rattle.history.proofs.plain.limits.+distinct_names.Given as goal
-
-abbrev pub decreases-distinct_names : goal.decreases-distinct_names
-decreases-distinct_names l = length l.names.now

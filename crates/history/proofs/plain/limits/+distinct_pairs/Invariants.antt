@@ -1,5 +1,0 @@
-use Rattle.std.proofs.Common.{length}
-use Rattle.history.proofs.plain.limits.+distinct_pairs.Given as goal
-
-abbrev pub decreases-distinct_pairs : goal.decreases-distinct_pairs
-decreases-distinct_pairs l = length l.pairs.now

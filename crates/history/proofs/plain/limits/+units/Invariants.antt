@@ -1,5 +1,0 @@
-use Rattle.std.proofs.Common.{length}
-use Rattle.history.proofs.plain.limits.+units.Given as goal
-
-abbrev pub decreases-units : goal.decreases-units
-decreases-units l = length l.places.now

@@ -1,5 +1,0 @@
-use Rattle.std.proofs.Common.{length}
-use Rattle.history.proofs.plain.places.+exported_from.Given as goal
-
-abbrev pub decreases-exported_from : goal.decreases-exported_from
-decreases-exported_from l = length l.kinds.now

@@ -1,5 +1,0 @@
-use Rattle.std.proofs.Common.{length}
-use Rattle.history.proofs.plain.places.+now.Given as goal
-
-abbrev pub decreases-now : goal.decreases-now
-decreases-now l = length l.places.now

@@ -1,5 +1,0 @@
-use Rattle.std.proofs.Common.{length}
-use Rattle.history.proofs.plain.turns.+withdrawals.Given as goal
-
-abbrev pub decreases-withdrawals : goal.decreases-withdrawals
-decreases-withdrawals l = length l.places.now

@@ -1,9 +1,0 @@
-use Rattle.std.proofs.Common.{◌≡◌, true, rules}
-use Rattle.lock_tests.specs.Started.{started_by}
-use Rattle.lock_tests.proofs.Calls.{shown}
-use Rattle.lock_tests.proofs.crews.call.Goals as goal
-
-pub abandon-requires-clause-runs : goal.abandon-requires-clause-runs
-abandon-requires-clause-runs g c =
-    let started : started_by c.turn-answer.result ≡ true = search rules in
-    shown (g.P.Port.asked c.args.port.now) (g.P.Port.asked c.turn-answer.new.self) c.args.moment c.args.object c.turn-answer.result c.turn-answer.ensures.asked c.requires.ended started

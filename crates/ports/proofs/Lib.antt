@@ -1,0 +1,4 @@
+pub mod AskedRowLaws
+pub mod BalanceLaws
+pub mod LegalLaws
+pub mod TieSteps

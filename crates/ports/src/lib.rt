@@ -1,0 +1,14 @@
+//! Ports: a port hands the requests of one connection to a space, and keeps an entry of each turn.
+#![tactic(auto)]
+
+pub mod asked_log;
+mod asked_rows;
+pub mod asked_view;
+pub mod direct_port;
+pub mod laws;
+pub mod port;
+
+pub use asked_log::{AskedLog, PortEntries};
+pub use asked_view::AskedView;
+pub use direct_port::{DirectPort, SpacePort};
+pub use port::Port;

@@ -1,8 +1,0 @@
-use Rattle.std.proofs.Common.{◌≡◌, ◌++◌}
-use Rattle.std.specs.Prelude.{map}
-use Rattle.rmi_registry.specs.Kept.{bindings_of}
-use Rattle.rmi_registry.specs.Named.{names_in}
-use Rattle.rmi_registry.proofs.bound.names.Given as goal
-
-abbrev pub invariant-loop-units : goal.invariant-loop-units
-invariant-loop-units l = l.names ++ map (λ k. k.items) l.units-iterator ≡ names_in (bindings_of l.bound.entries)

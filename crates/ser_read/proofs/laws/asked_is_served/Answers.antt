@@ -1,5 +1,0 @@
-use Rattle.ser_read.proofs.WantLaws.{asked_is_served}
-use Rattle.ser_read.proofs.laws.asked_is_served.Goals as goal
-
-pub returns : goal.returns
-returns c = asked_is_served

@@ -1,5 +1,0 @@
-use Rattle.ser_values.proofs.Standing.{comes_to_one}
-use Rattle.ser_values.proofs.laws.reading_comes_to_one.Goals as goal
-
-pub returns : goal.returns
-returns c = comes_to_one

@@ -1,5 +1,0 @@
-use Rattle.ser_values.proofs.Exact.{graph_of_stream}
-use Rattle.ser_values.proofs.laws.streams_are_of_graphs.Goals as goal
-
-pub returns : goal.returns
-returns c = graph_of_stream

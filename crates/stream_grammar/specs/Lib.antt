@@ -1,0 +1,4 @@
+pub mod Spelled
+pub mod Reading
+pub mod Faults
+pub mod StreamLaws

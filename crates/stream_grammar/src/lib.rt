@@ -1,0 +1,5 @@
+//! Streams of graphs (Java Object Serialization Specification, 6.4): the grammar, reading from left to right with its faults, and
+//! their laws.
+#![tactic(auto)]
+
+pub mod laws;

@@ -1,0 +1,2 @@
+pub mod SystemIds
+pub mod SystemMethods

@@ -1,0 +1,455 @@
+//! What a call of the registry or the collector asks for.
+ghost use Rattle.std.specs.Prelude.{◌≡◌, [], IfOk, if◌then◌else◌};
+ghost use Rattle.history.specs.declared.asks.Ask.TheVariants.{Dirty};
+ghost use Rattle.system_objects.specs.SystemRequests.{Finds, FindsArgument, FindsRequest, FindsNone, IsRequest, bind_of, name_and_object, name_to_change, clean_of, client_draws, client_or, collector_request, request_of, dirty_of, lease_in, live_ref_in, lookup_of, number_in, objids_in, own_object, rebind_of, reference_in, registry_request, short_name, name_to_find, text_in, truth_in, TellsNameless, unbind_of, name_to_unbind, unnamed, vmid_in};
+ghost use Rattle.system_objects.specs.Terms.{terms_of};
+
+use crate::setup::Setup;
+use class_desc::Slot;
+use history::{Ask, Name};
+use java_shapes::{
+    LeaseView, LiveRef, ShapeFault, as_lease, as_live_ref, as_objids, as_text, as_vmid, is_local,
+    is_nameless_lease,
+};
+use jrmp_frames::{Arg, Arguments};
+use method_hash::{CollectorMethod, RegistryMethod};
+use object_ids::{ObjId, ObjIds, Uid, Vmid};
+use sequence::{ByteList, Units};
+use ser_values::Value;
+use std::alloc::{AllocError, Global};
+use system_ids::SystemMethod;
+
+/// Why a call of the registry or the collector is rejected before any turn.
+#[derive(Clone, Copy)]
+pub enum Rejection {
+    /// An argument is none of its method's.
+    WrongArgument,
+    /// Names can't be bound or unbound over this connection.
+    BindingClosed,
+    /// A name has more than 255 units.
+    NameTooLong,
+    /// A reference to be bound is of another host or port than the server's own.
+    ForeignReference,
+}
+
+/// The part of a request that its Return needs.
+pub enum ReplyContext {
+    /// Nothing.
+    Nothing,
+    /// The client of a dirty call.
+    Client(Vmid),
+    /// The name to bind, unbind or look up.
+    Name(Name),
+}
+
+// Written out, so that whoever owns one has one call at each exit, and not the drop of each variant.
+impl Drop for ReplyContext {
+    fn drop(self) {
+        match self {
+            ReplyContext::Nothing => {}
+            ReplyContext::Client(client) => drop(client),
+            ReplyContext::Name(name) => drop(name),
+        }
+    }
+}
+
+/// A call of the registry or the collector, as a request to the space.
+#[derive(Drop)]
+pub enum SystemRequest {
+    /// The call is rejected.
+    Rejected(Rejection),
+    /// The request, and the part of it that its Return needs.
+    Asks(Ask, ReplyContext),
+}
+
+/// Why a call makes no request.
+#[derive(Clone, Copy)]
+enum NoRequest {
+    /// The call is rejected.
+    Rejected(Rejection),
+    /// There was no memory.
+    OutOfMemory,
+}
+
+impl From<AllocError> for NoRequest {
+    ghost use Rattle.system_objects.specs.declared.request.NoRequest.TheVariants.{OutOfMemory};
+
+    ghost from_gives = { λ _ stop. stop ≡ OutOfMemory };
+
+    fn from(_error: AllocError) -> NoRequest {
+        NoRequest::OutOfMemory
+    }
+}
+
+impl From<ShapeFault> for NoRequest {
+    ghost use Rattle.java_shapes.specs.declared.fault.ShapeFault.{ShapeFault};
+    ghost use Rattle.system_objects.specs.SystemRequests.{stop_from};
+
+    ghost from_gives = { λ fault stop. stop ≡ stop_from fault };
+
+    fn from(fault: ShapeFault) -> NoRequest {
+        match fault {
+            ShapeFault::WrongShape => NoRequest::Rejected(Rejection::WrongArgument),
+            ShapeFault::OutOfMemory => NoRequest::OutOfMemory,
+        }
+    }
+}
+
+// ---- arguments
+
+/// The argument at a place, as a reference.
+fn reference_in(arguments: &Arguments, place: usize) -> Result<Slot, NoRequest>
+    ensures { FindsArgument result (reference_in arguments.now place) }
+{
+    match arguments.values.as_slice().get(place) {
+        Some(Arg::Ref(slot)) => Ok(*slot),
+        _ => Err(NoRequest::Rejected(Rejection::WrongArgument)),
+    }
+}
+
+/// The argument at a place, as a number of 64 bits.
+fn number_in(arguments: &Arguments, place: usize) -> Result<i64, NoRequest>
+    ensures { FindsArgument result (number_in arguments.now place) }
+{
+    match arguments.values.as_slice().get(place) {
+        Some(Arg::Prim(Value::Long(number))) => Ok(*number),
+        _ => Err(NoRequest::Rejected(Rejection::WrongArgument)),
+    }
+}
+
+/// The argument at a place, as a truth value.
+fn truth_in(arguments: &Arguments, place: usize) -> Result<bool, NoRequest>
+    ensures { FindsArgument result (truth_in arguments.now place) }
+{
+    match arguments.values.as_slice().get(place) {
+        Some(Arg::Prim(Value::Boolean(truth))) => Ok(*truth),
+        _ => Err(NoRequest::Rejected(Rejection::WrongArgument)),
+    }
+}
+
+/// The argument at a place, as a text.
+fn text_in(alloc: Global, arguments: &Arguments, place: usize) -> Result<Units, NoRequest>
+    ensures { FindsArgument result (text_in arguments.now place) }
+{
+    let slot = reference_in(arguments, place)?;
+    Ok(as_text(alloc, &arguments.graph, slot)?)
+}
+
+/// The argument at a place, as a reference to a remote object.
+fn live_ref_in(alloc: Global, arguments: &Arguments, place: usize) -> Result<LiveRef, NoRequest>
+    ensures { FindsArgument result (live_ref_in arguments.now place) }
+{
+    let slot = reference_in(arguments, place)?;
+    Ok(as_live_ref(alloc, &arguments.graph, slot)?)
+}
+
+/// The argument at a place, as a list of objects.
+fn objids_in(alloc: Global, arguments: &Arguments, place: usize) -> Result<ObjIds, NoRequest>
+    ensures { FindsArgument result (objids_in arguments.now place) }
+{
+    let slot = reference_in(arguments, place)?;
+    Ok(as_objids(alloc, &arguments.graph, slot)?)
+}
+
+/// The argument at a place, as a client.
+fn vmid_in(alloc: Global, arguments: &Arguments, place: usize) -> Result<Vmid, NoRequest>
+    ensures { FindsArgument result (vmid_in arguments.now place) }
+{
+    let slot = reference_in(arguments, place)?;
+    Ok(as_vmid(alloc, &arguments.graph, slot)?)
+}
+
+/// The argument at a place, as a lease.
+fn lease_in(alloc: Global, arguments: &Arguments, place: usize) -> Result<LeaseView, NoRequest>
+    ensures { FindsArgument result (lease_in arguments.now place) }
+{
+    let slot = reference_in(arguments, place)?;
+    Ok(as_lease(alloc, &arguments.graph, slot)?)
+}
+
+/// Whether the argument at a place is a lease that names no client. An argument that is no reference is none of its method's.
+fn is_nameless(arguments: &Arguments, place: usize) -> Result<bool, NoRequest>
+    ensures { TellsNameless result (lease_in arguments.now place) }
+{
+    let slot = reference_in(arguments, place)?;
+    Ok(is_nameless_lease(&arguments.graph, slot))
+}
+
+// ---- names
+
+/// The name of these units.
+fn short_name(units: Units) -> Result<Name, NoRequest>
+    ensures { Finds result (short_name units) }
+{
+    match Name::new(units) {
+        Ok(name) => Ok(name),
+        Err(_long) => Err(NoRequest::Rejected(Rejection::NameTooLong)),
+    }
+}
+
+/// The name to bind or unbind.
+fn name_to_change(binding: bool, units: Units) -> Result<Name, NoRequest>
+    ensures { Finds result (name_to_change binding units) }
+{
+    if !binding {
+        return Err(NoRequest::Rejected(Rejection::BindingClosed));
+    }
+    short_name(units)
+}
+
+/// The name to look up.
+fn name_to_find(alloc: Global, arguments: &Arguments) -> Result<Name, NoRequest>
+    ensures { Finds result (name_to_find (text_in arguments.now 0)) }
+{
+    short_name(text_in(alloc, arguments, 0)?)
+}
+
+/// The name to unbind.
+fn name_to_unbind(alloc: Global, setup: &Setup, arguments: &Arguments) -> Result<Name, NoRequest>
+    ensures { Finds result (name_to_unbind (terms_of [] setup.now) (text_in arguments.now 0)) }
+{
+    name_to_change(setup.binding, text_in(alloc, arguments, 0)?)
+}
+
+/// The object of a reference to the server's own host and port.
+fn own_object(setup: &Setup, reference: &LiveRef) -> Result<ObjId, NoRequest>
+    ensures { Finds result (own_object (terms_of [] setup.now) reference.now) }
+{
+    if !is_local(reference, &setup.host, setup.port) {
+        return Err(NoRequest::Rejected(Rejection::ForeignReference));
+    }
+    Ok(reference.id)
+}
+
+/// The name to bind, and the object.
+fn name_and_object(
+    alloc: Global,
+    setup: &Setup,
+    arguments: &Arguments,
+) -> Result<(Name, ObjId), NoRequest>
+    ensures { Finds result (name_and_object (terms_of [] setup.now) (text_in arguments.now 0) (live_ref_in arguments.now 1)) }
+{
+    let units = text_in(alloc, arguments, 0)?;
+    let reference = live_ref_in(alloc, arguments, 1)?;
+    let name = name_to_change(setup.binding, units)?;
+    let object = own_object(setup, &reference)?;
+    Ok((name, object))
+}
+
+/// A copy of a name, to be kept.
+fn kept_name(alloc: Global, name: &Name) -> Result<ReplyContext, AllocError>
+    ensures { IfOk result (λ kept. kept ≡ ReplyContext.Name name.now) }
+{
+    Ok(ReplyContext::Name(name.copy(alloc)?))
+}
+
+// ---- calls of the registry
+
+/// What a bind asks for.
+fn bind(alloc: Global, setup: &Setup, arguments: &Arguments) -> Result<SystemRequest, NoRequest>
+    ensures { FindsRequest result (bind_of (name_and_object (terms_of [] setup.now) (text_in arguments.now 0) (live_ref_in arguments.now 1))) }
+{
+    let (name, object) = name_and_object(alloc, setup, arguments)?;
+    let kept = kept_name(alloc, &name)?;
+    Ok(SystemRequest::Asks(Ask::Bind { name, object }, kept))
+}
+
+/// What a rebind asks for.
+fn rebind(alloc: Global, setup: &Setup, arguments: &Arguments) -> Result<SystemRequest, NoRequest>
+    ensures { FindsRequest result (rebind_of (name_and_object (terms_of [] setup.now) (text_in arguments.now 0) (live_ref_in arguments.now 1))) }
+{
+    let (name, object) = name_and_object(alloc, setup, arguments)?;
+    Ok(SystemRequest::Asks(Ask::Rebind { name, object }, ReplyContext::Nothing))
+}
+
+/// What an unbind asks for.
+fn unbind(alloc: Global, setup: &Setup, arguments: &Arguments) -> Result<SystemRequest, NoRequest>
+    ensures { FindsRequest result (unbind_of (name_to_unbind (terms_of [] setup.now) (text_in arguments.now 0))) }
+{
+    let name = name_to_unbind(alloc, setup, arguments)?;
+    let kept = kept_name(alloc, &name)?;
+    Ok(SystemRequest::Asks(Ask::Unbind { name }, kept))
+}
+
+/// What a lookup asks for.
+fn lookup(alloc: Global, arguments: &Arguments, uid: Uid) -> Result<SystemRequest, NoRequest>
+    ensures { FindsRequest result (lookup_of uid (name_to_find (text_in arguments.now 0))) }
+{
+    let name = name_to_find(alloc, arguments)?;
+    let kept = kept_name(alloc, &name)?;
+    Ok(SystemRequest::Asks(Ask::Lookup { name, uid }, kept))
+}
+
+/// What a call of the registry asks for.
+fn registry_request(
+    alloc: Global,
+    setup: &Setup,
+    method: RegistryMethod,
+    arguments: &Arguments,
+    uid: Uid,
+) -> Result<SystemRequest, NoRequest>
+    ensures { FindsRequest result (registry_request (terms_of [] setup.now) method arguments.now uid) }
+{
+    match method {
+        RegistryMethod::Bind => bind(alloc, setup, arguments),
+        RegistryMethod::List => Ok(SystemRequest::Asks(Ask::List, ReplyContext::Nothing)),
+        RegistryMethod::Lookup => lookup(alloc, arguments, uid),
+        RegistryMethod::Rebind => rebind(alloc, setup, arguments),
+        RegistryMethod::Unbind => unbind(alloc, setup, arguments),
+    }
+}
+
+// ---- calls of the collector
+
+/// What a clean asks for.
+fn clean(alloc: Global, arguments: &Arguments) -> Result<SystemRequest, NoRequest>
+    ensures { FindsRequest result (clean_of (number_in arguments.now 1) (truth_in arguments.now 3) (vmid_in arguments.now 2) (objids_in arguments.now 0)) }
+{
+    let number = number_in(arguments, 1)?;
+    let strong = truth_in(arguments, 3)?;
+    let client = vmid_in(alloc, arguments, 2)?;
+    let objects = objids_in(alloc, arguments, 0)?;
+    let ask = Ask::Clean {
+        client,
+        number,
+        objects,
+        strong,
+    };
+    Ok(SystemRequest::Asks(ask, ReplyContext::Nothing))
+}
+
+/// The client of a lease, or the one of this identifier at the connection's mark.
+fn client_or(alloc: Global, setup: &Setup, uid: Uid, vmid: Option<Vmid>) -> Result<Vmid, AllocError>
+    ensures { IfOk result (λ client. client ≡ client_or (terms_of [] setup.now) uid vmid) }
+{
+    if let Some(client) = vmid {
+        return Ok(client);
+    }
+    let mark = ByteList::from_slice(alloc, &setup.mark)?;
+    match Vmid::new(mark, uid) {
+        Some(client) => Ok(client),
+        None => unreachable!(),
+    }
+}
+
+/// A copy of a client, to be kept.
+fn kept_client(alloc: Global, client: &Vmid) -> Result<ReplyContext, AllocError>
+    ensures { IfOk result (λ kept. kept ≡ ReplyContext.Client client.now) }
+{
+    Ok(ReplyContext::Client(client.copy(alloc)?))
+}
+
+/// What a dirty of this number, this client, this duration and these objects asks for.
+fn dirty_with(
+    alloc: Global,
+    client: Vmid,
+    number: i64,
+    asked: i64,
+    objects: ObjIds,
+) -> Result<SystemRequest, AllocError>
+    ensures { IfOk result (λ request. request ≡ SystemRequest.Asks (Dirty client number asked objects) (ReplyContext.Client client)) }
+{
+    let kept = kept_client(alloc, &client)?;
+    let ask = Ask::Dirty {
+        client,
+        number,
+        asked,
+        objects,
+    };
+    Ok(SystemRequest::Asks(ask, kept))
+}
+
+/// What a dirty asks for.
+fn dirty(
+    alloc: Global,
+    setup: &Setup,
+    arguments: &Arguments,
+    uid: Uid,
+) -> Result<SystemRequest, NoRequest>
+    ensures { FindsRequest result (dirty_of (terms_of [] setup.now) uid (number_in arguments.now 1) (lease_in arguments.now 2) (objids_in arguments.now 0)) }
+{
+    let number = number_in(arguments, 1)?;
+    let lease = lease_in(alloc, arguments, 2)?;
+    let objects = objids_in(alloc, arguments, 0)?;
+    let asked = lease.value;
+    let client = client_or(alloc, setup, uid, lease.into_vmid())?;
+    Ok(dirty_with(alloc, client, number, asked, objects)?)
+}
+
+/// What a call of the collector asks for.
+fn collector_request(
+    alloc: Global,
+    setup: &Setup,
+    method: CollectorMethod,
+    arguments: &Arguments,
+    client: Uid,
+) -> Result<SystemRequest, NoRequest>
+    ensures { FindsRequest result (collector_request (terms_of [] setup.now) method arguments.now client) }
+{
+    match method {
+        CollectorMethod::Clean => clean(alloc, arguments),
+        CollectorMethod::Dirty => dirty(alloc, setup, arguments, client),
+    }
+}
+
+/// Whether the arguments are those of a dirty, and its lease names no client.
+#[tactic(auto, using(crate::proofs::SystemAsks::named_draws, crate::proofs::SystemAsks::nameless_draws, crate::proofs::SystemAsks::no_objects))]
+fn lacks_client(alloc: Global, arguments: &Arguments) -> Result<bool, NoRequest>
+    ensures { FindsNone result (unnamed (number_in arguments.now 1) (lease_in arguments.now 2) (objids_in arguments.now 0)) }
+{
+    let _number = number_in(arguments, 1)?;
+    if !is_nameless(arguments, 2)? {
+        return Ok(false);
+    }
+    let _objects = objids_in(alloc, arguments, 0)?;
+    Ok(true)
+}
+
+// ---- any call
+
+/// Whether a call is a dirty with right arguments whose lease names no client, so that one is made for it. It is refused only
+/// for want of memory.
+#[tactic(auto, unfolding(crate::specs::SystemRequests::client_draws))]
+pub fn names_no_client(
+    alloc: Global,
+    method: SystemMethod,
+    arguments: &Arguments,
+) -> Result<bool, AllocError>
+    ensures { IfOk result (λ yes. client_draws method arguments.now ≡ (if yes then 1 else 0)) }
+{
+    let SystemMethod::Collector(CollectorMethod::Dirty) = method else {
+        return Ok(false);
+    };
+    match lacks_client(alloc, arguments) {
+        Ok(yes) => Ok(yes),
+        Err(NoRequest::Rejected(_rejection)) => Ok(false),
+        Err(NoRequest::OutOfMemory) => Err(AllocError),
+    }
+}
+
+/// The request of a call of a method with these arguments, or why it is rejected: a wrong argument comes first, then that binding is
+/// closed, a name that is too long, and a reference of another host or port. The identifiers are those of a client that its
+/// lease doesn't name, and of the Return. It is refused only for want of memory.
+#[tactic(auto, unfolding(crate::specs::SystemRequests::request_of))]
+pub fn request_for(
+    alloc: Global,
+    setup: &Setup,
+    method: SystemMethod,
+    arguments: &Arguments,
+    client: Uid,
+    uid: Uid,
+) -> Result<SystemRequest, AllocError>
+    ensures { IfOk result (IsRequest (request_of (terms_of [] setup.now) method arguments.now client uid)) }
+{
+    let request = match method {
+        SystemMethod::Registry(method) => registry_request(alloc, setup, method, arguments, uid),
+        SystemMethod::Collector(method) => {
+            collector_request(alloc, setup, method, arguments, client)
+        }
+    };
+    match request {
+        Ok(request) => Ok(request),
+        Err(NoRequest::Rejected(rejection)) => Ok(SystemRequest::Rejected(rejection)),
+        Err(NoRequest::OutOfMemory) => Err(AllocError),
+    }
+}

@@ -1,0 +1,26 @@
+//! Tests of the collector's crates, over what they offer to callers: identifiers, the definitions of histories, lease tables, export
+//! tables, and spaces. Most are transcripts: a journal's lines, each with what it is answered.
+#![tactic(auto)]
+
+#[cfg(test)]
+mod answers;
+#[cfg(test)]
+mod definitions;
+#[cfg(test)]
+mod export_rows;
+#[cfg(test)]
+mod identifiers;
+#[cfg(test)]
+mod lease_rows;
+#[cfg(test)]
+mod limits;
+#[cfg(test)]
+mod name_rows;
+#[cfg(test)]
+mod port_entries;
+#[cfg(test)]
+mod scripts;
+#[cfg(test)]
+mod spaces;
+#[cfg(test)]
+mod transcripts;

@@ -1,0 +1,157 @@
+//! Hands that keep their calls: each is the hand of one connection, and is told once what the Tick before that connection withdrew.
+ghost use Rattle.std.specs.Prelude.{◌≤◌, length};
+ghost use Rattle.mod_utf.specs.Utf.{utf};
+
+use crate::gates::{Gated, GatedSink, GatedSource};
+use crate::servers::{CONFIG, SPACE, check_all, is_short, listener_of, plan_of};
+use crate::texts::must;
+use call_dispatch::{Book, Crew, Outcome, OutcomeList, Recorded, RecordingWorker};
+use conn_server::{Report, ServePlan, Stop, serve};
+use object_ids::{ObjId, ObjIds, Uid};
+use sample_app::{sample_book, sample_space};
+use sequence::Kinds;
+use ser_values::Value;
+use space::{Ask, Space};
+use std::alloc::{AllocError, Global};
+use std::process::Abort;
+use std::sync::Wait;
+use std::thread::Threads;
+use turn_lock::TurnLock;
+use wire_io::MemClock;
+
+/// Has hands that answer their connection's number to the first invocation, and keep their calls.
+#[derive(Drop)]
+struct Recorders {
+    alloc: Global,
+}
+
+impl Crew for Recorders {
+    type Hand = RecordingWorker;
+
+    fn hand(&self, by: u32) -> Result<RecordingWorker, AllocError> {
+        let mut outcomes = OutcomeList::new(self.alloc);
+        outcomes.push(Outcome::Prim(Value::Long(i64::from(by))))?;
+        Ok(RecordingWorker::new(self.alloc, outcomes))
+    }
+}
+
+/// What is told of all.
+type Told = Report<GatedSource, GatedSink, MemClock, RecordingWorker>;
+
+/// The object that is made beforehand. No client holds it.
+const MADE: ObjId = ObjId {
+    number: 19,
+    space: SPACE,
+};
+
+/// The maker.
+const MAKER: ObjId = ObjId {
+    number: 18,
+    space: SPACE,
+};
+
+/// Has the maker make a counter at the moment 0, which awaits its acknowledgement until the moment 300,000.
+fn make(alloc: Global, space: &mut Space) -> bool {
+    let mut made = Kinds::new(alloc);
+    if made.push(1).is_err() {
+        return false;
+    }
+    let uid = Uid {
+        unique: 1,
+        time: 1,
+        count: 1,
+    };
+    let finish = Ask::Finish {
+        object: MAKER,
+        made,
+        listed: ObjIds::new(alloc),
+        uid,
+    };
+    space.turn(0, 0, Ask::Begin { object: MAKER }).is_ok() && space.turn(0, 0, finish).is_ok()
+}
+
+/// The sample's space, in which a counter was made; None where there is no memory.
+pub(crate) fn space_with_made(alloc: Global) -> Option<Space> {
+    let mut space = sample_space(alloc, &CONFIG).ok()?;
+    if make(alloc, &mut space) {
+        Some(space)
+    } else {
+        None
+    }
+}
+
+/// Serves links with this crew, after a counter was made; None where there is no memory.
+fn serve_with<R: Threads + Wait + Sync>(
+    rt: &R,
+    alloc: Global,
+    listener: &mut Gated,
+    crew: &Recorders,
+    book: &Book,
+    plan: &ServePlan,
+) -> Option<Told>
+    requires few { plan.now.count ≤ 65535 }
+    requires host { length (utf plan.now.host) ≤ 255 }
+{
+    match TurnLock::around(alloc, space_with_made(alloc)?) {
+        Ok((lock, root)) => Some(serve(rt, alloc, listener, crew, book, lock, root, plan)),
+        Err(_space) => None,
+    }
+}
+
+/// Serves links with hands that keep their calls, after a counter was made; None where there is no memory.
+fn serve_told<R: Threads + Wait + Sync>(
+    rt: &R,
+    alloc: Global,
+    listener: &mut Gated,
+    plan: &ServePlan,
+) -> Option<Told>
+    requires few { plan.now.count ≤ 65535 }
+{
+    if !is_short(&plan.host) {
+        return None;
+    }
+    let crew = Recorders { alloc };
+    let book = sample_book(alloc).ok()?;
+    serve_with(rt, alloc, listener, &crew, &book, plan)
+}
+
+/// Two clients that each call a counter. The made one is gone at the first one's Tick.
+const CALLING: &str =
+    "0 | 1234 | 300000 | | opening add_one | ack number +5 first 00000000 +0 | Ended
+0 | 1234 | 300001 | | opening add_one | ack number +5 first 00000000 +0 | Ended";
+
+/// Whether the hands were told so: the first of the object that is gone, and each of its call.
+fn are_told(first: &[Recorded], second: &[Recorded]) -> bool {
+    match (first, second) {
+        ([Recorded::Unreferenced(gone), Recorded::Invoked(_, _)], [Recorded::Invoked(_, _)]) =>
+            gone.number == MADE.number,
+        _ => false,
+    }
+}
+
+/// Looks at what the hands of the two links were told.
+fn check_told(rt: &impl Abort, report: &Told) {
+    match report.links.as_slice() {
+        [one, two] => {
+            let told = are_told(one.hand.recorded(), two.hand.recorded());
+            must(rt, told, "told");
+        }
+        _ => must(rt, false, "two links"),
+    }
+}
+
+#[test]
+fn a_hand_is_told_once_what_its_tick_withdrew(rt: HostRuntime) {
+    let plan = plan_of(&rt, rt.alloc(), 2, 1099);
+    match listener_of(&rt, rt.alloc(), CALLING) {
+        Some(mut listener) => match serve_told(&rt, rt.alloc(), &mut listener, &plan) {
+            Some(report) => {
+                check_all(&rt, rt.alloc(), report.links.as_slice(), CALLING);
+                must(&rt, report.stop == Stop::All, "stop");
+                check_told(&rt, &report);
+            }
+            None => must(&rt, false, "memory"),
+        },
+        None => must(&rt, false, "memory"),
+    }
+}

@@ -1,0 +1,23 @@
+//! The space of the tests.
+use history::SpaceConfig;
+use object_ids::{ObjId, Uid};
+
+/// The identifier of the space.
+pub const SPACE: Uid = Uid {
+    unique: 7,
+    time: 9,
+    count: 0,
+};
+
+/// What the space keeps to.
+pub const CONFIG: SpaceConfig = SpaceConfig {
+    lease_ms: 600_000,
+    ack_ms: 300_000,
+    uid: SPACE,
+};
+
+/// The first object that the space exports.
+pub const FIRST: ObjId = ObjId {
+    number: 16,
+    space: SPACE,
+};

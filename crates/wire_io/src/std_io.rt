@@ -1,0 +1,201 @@
+//! Sources, sinks and clocks over the real thing. They tell no content, and contracts see each as its count of faults.
+ghost use Rattle.std.specs.Prelude.{◌≡◌, ◌≤◌, ◌⊎◌, ℕ, [], ◌∷◌, None, IfOk, OnOk, OnErr};
+ghost use Rattle.wire_io.specs.Wire.{Read, Written, Gave, next_count};
+ghost use Rattle.wire_io.specs.declared.limits.TheConstants.{LAST_MOMENT};
+
+use crate::clock::Clock;
+use crate::limits::LAST_MOMENT;
+use crate::read_ahead::ReadAhead;
+use crate::sink::Sink;
+use crate::source::{Failed, Source};
+use std::alloc::{AllocError, Global};
+use std::io::{Read, Write};
+use std::marker::Model;
+use std::{io, time};
+
+/// Bytes from a reader, as standard input or a file.
+///
+/// It reads ahead into a buffer of its own, so that a read of one byte is seldom a call of the system. Each error of
+/// the reader is a fault, one that interrupts a call among them.
+#[derive(Drop)]
+pub struct StdSource<R> {
+    reader: ReadAhead<R>,
+    faults: u64,
+}
+
+impl<R> Model for StdSource<R> {
+    ghost Value = { ℕ };
+
+    ghost view = { λ s. s.faults };
+}
+
+impl<R: Read + Drop> StdSource<R> {
+    /// The source of this reader's bytes. It takes memory for the buffer, and drops the reader where there is none.
+    pub fn new(alloc: Global, reader: R) -> Result<StdSource<R>, AllocError>
+        ensures { IfOk result (λ source. source ≡ 0) }
+    {
+        Ok(StdSource {
+            reader: ReadAhead::new(alloc, reader)?,
+            faults: 0,
+        })
+    }
+}
+
+impl<R> StdSource<R> {
+    /// How many reads failed.
+    pub fn faults(&self) -> u64
+        ensures { result ≡ self.now }
+    {
+        self.faults
+    }
+}
+
+impl<R: Read> Source for StdSource<R> {
+    ghost left = { λ _. None };
+
+    ghost faults = { λ s. s };
+
+    #[inline(always)]
+    fn read(&mut self, buf: &mut [u8]) -> Result<usize, Failed>
+        ensures read { Read None None self.old self.new buf.new result }
+        ensures ok { OnOk result (self.new ≡ self.old) }
+        ensures err { OnErr result (self.new ≡ next_count self.old) }
+    {
+        match self.reader.read(buf) {
+            Ok(n) => Ok(n),
+            Err(failed) => {
+                self.faults = self.faults.saturating_add(1);
+                Err(failed)
+            }
+        }
+    }
+
+    fn shut(&mut self)
+        ensures { self.new ≡ self.old }
+    {}
+}
+
+/// Bytes to a writer, as standard output or a file.
+///
+/// It keeps no bytes back: each write is one of the writer. Each error of the writer is a fault, and so is a write that
+/// takes no byte of a piece that is not empty.
+#[derive(Drop)]
+pub struct StdSink<W> {
+    writer: W,
+    faults: u64,
+}
+
+impl<W> Model for StdSink<W> {
+    ghost Value = { ℕ };
+
+    ghost view = { λ s. s.faults };
+}
+
+impl<W> StdSink<W> {
+    /// The sink to this writer. It takes no memory.
+    pub fn new(writer: W) -> StdSink<W>
+        ensures { result ≡ 0 }
+    {
+        StdSink { writer, faults: 0 }
+    }
+
+    /// How many writes failed.
+    pub fn faults(&self) -> u64
+        ensures { result ≡ self.now }
+    {
+        self.faults
+    }
+}
+
+impl<W: Write> Sink for StdSink<W> {
+    ghost held = { λ _. None };
+
+    ghost faults = { λ s. s };
+
+    fn write(&mut self, piece: &[u8]) -> Result<usize, Failed>
+        ensures written { Written None None self.old self.new piece.now result }
+        ensures ok { OnOk result (self.new ≡ self.old) }
+        ensures err { OnErr result (self.new ≡ next_count self.old) }
+    {
+        match self.writer.write(piece) {
+            Ok(n) if n > 0 || piece.is_empty() => Ok(n),
+            _ => {
+                self.faults = self.faults.saturating_add(1);
+                Err(Failed)
+            }
+        }
+    }
+
+    fn shut(&mut self)
+        ensures { self.new ≡ self.old }
+    {}
+}
+
+/// The time of day, in milliseconds since the year 1970 began, and 2^62 - 1 in place of a later moment.
+///
+/// Where the system gives no time, that is a fault, and the moment given last is given again; at first that is 0.
+#[derive(Drop)]
+pub struct StdClock<R> {
+    rt: R,
+    last: u64,
+    faults: u64,
+}
+
+impl<R> Model for StdClock<R> {
+    ghost use Rattle.std.specs.Prelude.{ℕ, ◌≤◌};
+    ghost use Rattle.wire_io.specs.declared.limits.TheConstants.{LAST_MOMENT};
+
+    ghost Value = { ℕ };
+
+    ghost view = { λ c. c.faults };
+
+    ghost invariant = { λ c. c.last ≤ LAST_MOMENT };
+}
+
+impl<R> StdClock<R> {
+    /// The clock of this runtime. It takes no memory, and does not read the time yet.
+    pub fn new(rt: R) -> StdClock<R>
+        ensures { result ≡ 0 }
+    {
+        StdClock {
+            rt,
+            last: 0,
+            faults: 0,
+        }
+    }
+
+    /// How often the system gave no time.
+    pub fn faults(&self) -> u64
+        ensures { result ≡ self.now }
+    {
+        self.faults
+    }
+}
+
+impl<R: time::Clock> Clock for StdClock<R> {
+    ghost given = { λ _. None };
+
+    fn now(&mut self) -> u64
+        ensures bound { result ≤ LAST_MOMENT }
+        ensures given { Gave None None (result ∷ []) }
+        ensures faults { (self.new ≡ self.old) ⊎ (self.new ≡ next_count self.old) }
+    {
+        match milliseconds_since_1970(&self.rt) {
+            Ok(moment) => self.last = moment,
+            Err(_) => self.faults = self.faults.saturating_add(1),
+        }
+        self.last
+    }
+}
+
+/// The system's time in milliseconds.
+fn milliseconds_since_1970<R: time::Clock>(rt: &R) -> io::Result<u64>
+    ensures { IfOk result (λ moment. moment ≤ LAST_MOMENT) }
+{
+    let since = rt.since_1970()?;
+    let milliseconds = since
+        .as_secs()
+        .saturating_mul(1000)
+        .saturating_add(u64::from(since.subsec_millis()));
+    Ok(milliseconds.min(LAST_MOMENT))
+}
