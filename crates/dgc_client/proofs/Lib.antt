@@ -1,0 +1,4 @@
+pub mod Logs
+pub mod RefEntries
+pub mod SentEntries
+pub mod Told

@@ -1,0 +1,5 @@
+pub mod Laws
+pub mod Log
+pub mod RefMap
+pub mod SentMap
+pub mod StandsForLog
