@@ -1,0 +1,7 @@
+pub mod Members
+pub mod Grammar
+pub mod Reading
+pub mod Text
+pub mod Whole
+pub mod Loops
+pub mod Laws
