@@ -1,6 +1,7 @@
-//! Times a part of the product, which the first word names: `graphs`, `streams` or `lock`. The other words say how much of it.
+//! Times a part of the product, which the first word names: `graphs`, `streams`, `suid` or `lock`. The other words say how much of it.
 #![tactic(auto)]
 
+mod classes;
 mod crew;
 mod graphs;
 mod lock;
@@ -8,6 +9,7 @@ mod sample;
 mod sizes;
 mod streams;
 
+use classes::time_class;
 use graphs::time_graph;
 use lock::time_lock;
 use std::process::ExitCode;
@@ -19,6 +21,7 @@ use streams::time_stream;
 enum Part {
     Graphs,
     Streams,
+    Suid,
     Lock,
 }
 
@@ -28,6 +31,7 @@ impl Part {
         match word {
             "graphs" => Some(Part::Graphs),
             "streams" => Some(Part::Streams),
+            "suid" => Some(Part::Suid),
             "lock" => Some(Part::Lock),
             _ => None,
         }
@@ -44,9 +48,12 @@ fn main(rt: HostRuntime) -> io::Result<ExitCode> {
     match part {
         Some(Part::Graphs) => time_graph(&rt, alloc, words.as_slice()),
         Some(Part::Streams) => time_stream(&rt, alloc, rt.stdin()),
+        Some(Part::Suid) => time_class(&rt, alloc, rt.stdin()),
         Some(Part::Lock) => time_lock(&rt, alloc, words.as_slice()),
         None => {
-            eprintln!(rt; "usage: bench_parts graphs NODES BYTES, streams, or lock THREADS TURNS")?;
+            eprintln!(rt;
+                "usage: bench_parts graphs NODES BYTES, streams, suid, or lock THREADS TURNS"
+            )?;
             Ok(ExitCode::from(1))
         }
     }

@@ -107,6 +107,7 @@ stopped may moves first now a sent (frames.Stream fault) h = inr (fault, refl, h
 stopped may moves first now a sent (frames.BadHeader at) h = absurd h
 stopped may moves first now a sent (frames.UnknownProtocol byte) h = absurd h
 stopped may moves first now a sent (frames.BadMessage byte at) h = absurd h
+stopped may moves first now a sent (frames.BadKind byte at) h = absurd h
 
 -- How many bytes an acknowledgement takes, and that none is written.
 pub ack_most : (may : Invocation → Outcome → Type 0) (moves : States → Call → States → Type 0) (first now : PullState) (a b : Observed) (sent : ℕ) (result : Result ℕ ConnEnd)

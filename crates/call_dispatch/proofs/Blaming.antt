@@ -7,7 +7,7 @@ use Rattle.ser_read.specs.declared.fault.StreamFault.TheVariants as faults
 use Rattle.ser_read.specs.declared.fault.Large.TheVariants.{Bytes, Nodes, Depth}
 use Rattle.ser_read.specs.Wants.{WantFault, serve_to_close}
 use Rattle.jrmp_frames.specs.declared.fault.FrameFault.{FrameFault}
-use Rattle.jrmp_frames.specs.declared.fault.FrameFault.TheVariants.{BadHeader, UnknownProtocol, BadMessage, Stream}
+use Rattle.jrmp_frames.specs.declared.fault.FrameFault.TheVariants.{BadHeader, UnknownProtocol, BadMessage, BadKind, Stream}
 use Rattle.jrmp_frames.specs.declared.head.CallHead.{CallHead}
 use Rattle.jrmp_frames.specs.Messages.{wants_of}
 use Rattle.jrmp_frames.specs.Calls.{BreaksIn}
@@ -44,6 +44,7 @@ pub broken_blames : {Y : Type 0} (read : ℕ → List ℕ → Result Y WantFault
 broken_blames read f k p q (BadHeader at) le h = absurd h
 broken_blames read f k p q (UnknownProtocol byte) le h = absurd h
 broken_blames read f k p q (BadMessage byte at) le h = absurd h
+broken_blames read f k p q (BadKind byte at) le h = absurd h
 broken_blames read f k p q (Stream (faults.Bad kind at)) le h = blameless f q.faults k (ends.BadStream kind at) (omega (arith, le, h.is.takes.faults)) ((λ same. cc), (λ w. w))
 broken_blames read f k p q (Stream (faults.TooLarge Nodes at)) le h = blameless f q.faults k (ends.TooLarge Nodes at) (omega (arith, le, h.is.takes.faults)) ((λ same. cc), (λ w. w))
 broken_blames read f k p q (Stream (faults.TooLarge Depth at)) le h = blameless f q.faults k (ends.TooLarge Depth at) (omega (arith, le, h.is.takes.faults)) ((λ same. cc), (λ w. w))

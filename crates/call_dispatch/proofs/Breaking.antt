@@ -6,7 +6,7 @@ use Rattle.ser_read.specs.declared.fault.StreamFault.TheVariants as faults
 use Rattle.ser_read.specs.declared.fault.Large.TheVariants.{Bytes, Nodes, Depth}
 use Rattle.ser_read.specs.Wants.{WantFault}
 use Rattle.jrmp_frames.specs.declared.fault.FrameFault.{FrameFault}
-use Rattle.jrmp_frames.specs.declared.fault.FrameFault.TheVariants.{BadHeader, UnknownProtocol, BadMessage, Stream}
+use Rattle.jrmp_frames.specs.declared.fault.FrameFault.TheVariants.{BadHeader, UnknownProtocol, BadMessage, BadKind, Stream}
 use Rattle.jrmp_frames.specs.Calls.{BreaksIn}
 use Rattle.call_dispatch.specs.Progress.{end_from}
 use Rattle.call_dispatch.specs.Inside.{BreaksAt}
@@ -17,6 +17,7 @@ pub breaks_at : {Y : Type 0} (read : ℕ → List ℕ → Result Y WantFault) (o
 breaks_at read old new (BadHeader at) within h = absurd h
 breaks_at read old new (UnknownProtocol byte) within h = absurd h
 breaks_at read old new (BadMessage byte at) within h = absurd h
+breaks_at read old new (BadKind byte at) within h = absurd h
 breaks_at read old new (Stream (faults.Bad kind p)) within h =
     let d = h.is in
     (d.taken, d.takes.left, ((λ r. rw d.takes.at at d.is r), d.least, omega (arith, within, d.takes.at, d.takes.stop)))

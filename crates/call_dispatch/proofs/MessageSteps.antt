@@ -5,7 +5,7 @@ use Rattle.wire_io.specs.Pulled.{PullState}
 use Rattle.jrmp_frames.specs.declared.header.Protocol.TheVariants.{Stream, SingleOp}
 use Rattle.jrmp_frames.specs.Gives.{GivesCode}
 use Rattle.jrmp_frames.specs.declared.fault.FrameFault.{FrameFault}
-use Rattle.jrmp_frames.specs.declared.fault.FrameFault.TheVariants.{BadHeader, UnknownProtocol, BadMessage}
+use Rattle.jrmp_frames.specs.declared.fault.FrameFault.TheVariants.{BadHeader, UnknownProtocol, BadMessage, BadKind}
 use Rattle.jrmp_frames.specs.declared.fault.FrameFault.TheVariants as frames
 use Rattle.call_dispatch.specs.declared.outcome.Invocation.{Invocation}
 use Rattle.call_dispatch.specs.declared.outcome.Outcome.{Outcome}
@@ -30,6 +30,7 @@ code_ends may moves terms start old new held side drawn sent w (UnknownProtocol 
 code_ends may moves terms start old new held side drawn sent w (BadMessage byte at) stands code room h =
     talks_took may moves terms start _ _ old.at sent w (byte ∷ []) (ends.BadMessage byte at) stands h.2.left refl refl refl
     (code, h.1, h.0 ∙ stands.position, refl)
+code_ends may moves terms start old new held side drawn sent w (BadKind byte at) stands code room h = absurd h
 code_ends may moves terms start old new held side drawn sent w (frames.Stream fault) stands code room (more, h) =
     talks_in may moves terms start old new held side drawn sent w (λ part. part ≡ []) fault stands h
     (λ part inside. omega (arith, ap length inside, room)) (λ part inside. (λ at is. absurd (more at is), inr (code, inside)))

@@ -8,7 +8,7 @@ use Rattle.jrmp_frames.specs.declared.header.Protocol.TheVariants.{Stream, Singl
 use Rattle.jrmp_frames.specs.Frames.{header_start, header, IsInHeader, IsEndpoint, IsInEndpoint, protocol_ack, protocol_not_supported}
 use Rattle.jrmp_frames.specs.Gives.{GivesHeader, GivesEndpoint}
 use Rattle.jrmp_frames.specs.declared.fault.FrameFault.{FrameFault}
-use Rattle.jrmp_frames.specs.declared.fault.FrameFault.TheVariants.{BadHeader, UnknownProtocol, BadMessage}
+use Rattle.jrmp_frames.specs.declared.fault.FrameFault.TheVariants.{BadHeader, UnknownProtocol, BadMessage, BadKind}
 use Rattle.jrmp_frames.specs.declared.fault.FrameFault.TheVariants as frames
 use Rattle.call_dispatch.specs.declared.outcome.Invocation.{Invocation}
 use Rattle.call_dispatch.specs.declared.outcome.Outcome.{Outcome}
@@ -50,6 +50,7 @@ header_ends may moves terms old new held side drawn (BadHeader at) first last to
     (refl, (bytes, rw same at breaks, refl))
 header_ends may moves terms old new held side drawn (UnknownProtocol byte) first last told h = absurd (told byte refl)
 header_ends may moves terms old new held side drawn (BadMessage byte at) first last told h = absurd h
+header_ends may moves terms old new held side drawn (BadKind byte at) first last told h = absurd h
 header_ends may moves terms old new held side drawn (frames.Stream fault) first last told h =
     talks_in may moves terms _ old new held side drawn 0 nothing IsInHeader fault (stands_nothing may moves terms _ old.at first) h
     (λ part inside. omega (arith, in_header_short part inside, first, last)) (λ part inside. (λ at is. inside, inl inside))
@@ -93,6 +94,7 @@ pub endpoint_ends : (may : Invocation → Outcome → Type 0) (moves : States �
 endpoint_ends may moves terms start old new held side drawn sent (BadHeader at) stands room h = absurd h
 endpoint_ends may moves terms start old new held side drawn sent (UnknownProtocol byte) stands room h = absurd h
 endpoint_ends may moves terms start old new held side drawn sent (BadMessage byte at) stands room h = absurd h
+endpoint_ends may moves terms start old new held side drawn sent (BadKind byte at) stands room h = absurd h
 endpoint_ends may moves terms start old new held side drawn sent (frames.Stream fault) stands room h =
     talks_in may moves terms start old new held side drawn sent greeted IsInEndpoint fault stands h
     (λ part inside. omega (arith, in_endpoint_short part inside, room)) (λ part inside. (λ at is. inside, inl inside))

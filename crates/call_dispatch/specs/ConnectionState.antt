@@ -1,6 +1,6 @@
 -- The state of a connection, and what leads from one to another.
 use Rattle.std.specs.Prelude.{◌≡◌, ℕ, ◌+◌, List, [], ◌++◌, Option}
-use Rattle.wire_io.specs.Wire.{Wires, with_front, with_end}
+use Rattle.wire_io.specs.Wire.{ReadHalf, WriteHalf, Wires, with_front, with_end}
 use Rattle.space.specs.declared.asked.Asked.{Asked}
 use Rattle.system_objects.specs.declared.setup.Setup.{Setup}
 use Rattle.call_dispatch.specs.declared.connection.Connection.{Connection}
@@ -22,19 +22,19 @@ observed_of given asked invoked seen state c =
     record { asked = asked c.port.now; given = given c.clock.now; invoked = invoked c.worker.now; seen = seen c.worker.now; state = state c.worker.now }
 
 -- the state of what a connection is served with, by what each part shows
-abbrev pub state_of_parts : {S K C P W : Type 0} → (S → Option (List ℕ)) → (K → Option (List ℕ)) → (C → Option (List ℕ)) → (P → List Asked)
+abbrev pub state_of_parts : {S K C P W : Type 0} → (S → ReadHalf) → (K → WriteHalf) → (C → Option (List ℕ)) → (P → List Asked)
     → (W → ℕ) → (W → Option (List Call)) → (W → Option States) → S → K → C → P → W → Setup → ConnectionState
-state_of_parts left held given asked invoked seen state source sink clock port worker setup = record {
-  wires = record { left = left source; held = held sink };
+state_of_parts read_half write_half given asked invoked seen state source sink clock port worker setup = record {
+  wires = record { left = (read_half source).left; held = (write_half sink).held };
   side = record { asked = asked port; given = given clock; invoked = invoked worker; seen = seen worker; state = state worker };
   drawn = setup.draw.drawn;
 }
 
 -- the state of a connection
-abbrev pub state_of_connection : {S K C P W : Type 0} → (S → Option (List ℕ)) → (K → Option (List ℕ)) → (C → Option (List ℕ)) → (P → List Asked)
+abbrev pub state_of_connection : {S K C P W : Type 0} → (S → ReadHalf) → (K → WriteHalf) → (C → Option (List ℕ)) → (P → List Asked)
     → (W → ℕ) → (W → Option (List Call)) → (W → Option States) → Connection S K C P W → ConnectionState
-state_of_connection left held given asked invoked seen state c =
-    state_of_parts left held given asked invoked seen state c.pull.source.now c.sink.now c.clock.now c.port.now c.worker.now c.setup.now
+state_of_connection read_half write_half given asked invoked seen state c =
+    state_of_parts read_half write_half given asked invoked seen state c.pull.source.now c.sink.now c.clock.now c.port.now c.worker.now c.setup.now
 
 -- what a connection took, did, drew and wrote
 pub record Transcript : Type 0 where

@@ -1,5 +1,9 @@
--- The dialogue of one connection (Java RMI Specification, 10.2), as a relation between whole lists: the bytes taken, what was
--- done, the bytes that the source has left then, the bytes written and the end. It is an opening, whole exchanges and an end.
+-- The dialogue of one connection, by this grammar (Java RMI Specification, 10.2). Before '/' stands what the client sends, behind it the answer:
+--   Dialogue = Opening Exchange .. Exchange End
+--   Opening  = JRMI 0002 4B / ProtocolAck, and then Endpoint / nothing; or JRMI 0002 4C / nothing, with at most one exchange
+--   Exchange = Ping / PingAck; or DgcAck / nothing; or Call / Return
+--   End      = the input's end; a refused or cut Opening; a byte that begins no message; a cut Exchange; a Return that closes; one message too many
+-- It is a relation between whole lists: the bytes taken, what was done, the bytes that the source has left then, the bytes written and the end.
 use Rattle.std.specs.Prelude.{◌≡◌, true, false, ℕ, ◌+◌, ◌<◌, ◌≤◌, ◌⊎◌, List, [], ◌∷◌, ◌++◌, length, take, slice_get, Option, Some, Ok}
 use Rattle.std.specs.List.{flat_map}
 use Rattle.wire_io.specs.Wire.{NothingLeft}
@@ -213,6 +217,20 @@ EndsInCall terms w tail rest end = IsAtCode w × (count_of w < MAX_MESSAGES)
     × (EndsInHead (length (taken_in w)) tail rest end ⊎ (EndsInArguments terms.kinds (length (taken_in w)) tail rest end ⊎ EndsInSystem (length (taken_in w)) tail rest end))
 
 -- Where each end stands: what stands whole, what came after it, and what is left.
+--   Ended: the input ended where a message's code was to come, or single-op's one message was served.
+--   BadHeader: the last byte taken is the first that differs from the header's.
+--   UnknownProtocol: the header ends with the byte of no protocol, and 4F was written.
+--   BadMessage: the byte taken in a code's place begins no message.
+--   Truncated: the input ended inside the opening, an acknowledgement or a Call.
+--   NoSuchObject: the last exchange is a Call of an object that is not exported, and its Return.
+--   NoSuchMethod: the last exchange is a Call of a method that its object has not, and its Return.
+--   SpaceFull: the last exchange is a Call that the full history refused, and its Return.
+--   BadStream: the bytes of a Call are wrong.
+--   TooLarge: a Call has too many bytes or nodes, or is too deep.
+--   MessageLimit: as many messages as a connection may have were served, and the code of another was taken.
+--   ReadFault: the source failed inside the opening, an acknowledgement or a Call, or where a code was to come.
+--   WriteFault: the sink failed inside an answer, of which a front was written.
+--   OutOfMemory: there was no memory for the acknowledgement of the opening, for the next exchange, or inside a Call.
 abbrev pub Ends : Terms → ℕ → Completed → Transcript → Option (List ℕ) → ConnEnd → Type 0
 Ends terms drawn w tail rest Ended = ((IsAtCode w × NothingLeft rest) ⊎ IsDone w) × (tail ≡ bytes_taken [])
 Ends terms drawn w tail rest (BadHeader at) = (w ≡ nothing) × ((more : List ℕ) × BreaksHeader at more × (tail ≡ bytes_taken more))

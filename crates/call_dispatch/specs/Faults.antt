@@ -1,6 +1,6 @@
 -- What a connection's steps say of the outside's failures.
 use Rattle.std.specs.Prelude.{◌≡◌, ℕ, ◌≤◌, Result, Ok, Err}
-use Rattle.wire_io.specs.Wire.{Rose}
+use Rattle.wire_io.specs.Wire.{ReadHalf, WriteHalf, Rose}
 use Rattle.call_dispatch.specs.declared.connection.Connection.{Connection}
 use Rattle.call_dispatch.specs.declared.end.ConnEnd.{ConnEnd}
 use Rattle.call_dispatch.specs.declared.end.ConnEnd.TheVariants.{ReadFault}
@@ -12,8 +12,8 @@ pub record FaultCounts : Type 0 where
   pub sink : ℕ
 
 -- the counts of a connection
-abbrev pub counts_of : {S K C P W : Type 0} → (S → ℕ) → (K → ℕ) → Connection S K C P W → FaultCounts
-counts_of source sink c = record { source = source c.pull.source.now; sink = sink c.sink.now }
+abbrev pub counts_of : {S K C P W : Type 0} → (S → ReadHalf) → (K → WriteHalf) → Connection S K C P W → FaultCounts
+counts_of read_half write_half c = record { source = (read_half c.pull.source.now).faults; sink = (write_half c.sink.now).faults }
 
 -- No count fell.
 pub record Grew (before after : FaultCounts) : Type 0 where

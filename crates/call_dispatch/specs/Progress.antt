@@ -3,7 +3,7 @@ use Rattle.std.specs.Prelude.{◌≡◌, ℕ, ◌+◌, ◌<◌, ◌^◌, List, [
 use Rattle.wire_io.specs.Wire.{with_front, with_end}
 use Rattle.ser_read.specs.declared.fault.StreamFault.TheVariants as faults
 use Rattle.jrmp_frames.specs.declared.fault.FrameFault.{FrameFault}
-use Rattle.jrmp_frames.specs.declared.fault.FrameFault.TheVariants.{BadHeader, UnknownProtocol, BadMessage, Stream}
+use Rattle.jrmp_frames.specs.declared.fault.FrameFault.TheVariants.{BadHeader, UnknownProtocol, BadMessage, BadKind, Stream}
 use Rattle.jrmp_frames.specs.declared.header.Protocol.{Protocol}
 use Rattle.jrmp_frames.specs.declared.header.Protocol.TheVariants as protocols
 use Rattle.jrmp_frames.specs.declared.code.Code.TheVariants as codes
@@ -111,11 +111,12 @@ abbrev pub Writes : Option (List ℕ) → Option (List ℕ) → ℕ → List ℕ
 Writes before after sent answer (Ok sent_after) = (after ≡ with_end before answer) × (sent_after ≡ sent + length answer)
 Writes before after sent answer (Err end) = (part : ℕ) × (part < length answer) × (end ≡ ends.WriteFault (sent + part)) × (after ≡ with_end before (take part answer))
 
--- the end that a fault in reading makes
+-- the end that a fault in reading makes; a server reads no kind of a return
 abbrev pub end_from : FrameFault → ConnEnd
 end_from (BadHeader at) = ends.BadHeader at
 end_from (UnknownProtocol byte) = ends.UnknownProtocol byte
 end_from (BadMessage byte at) = ends.BadMessage byte at
+end_from (BadKind byte at) = ends.BadMessage byte at
 end_from (Stream (faults.Bad kind at)) = ends.BadStream kind at
 end_from (Stream (faults.TooLarge what at)) = ends.TooLarge what at
 end_from (Stream (faults.Truncated at)) = ends.Truncated at

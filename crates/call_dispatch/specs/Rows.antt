@@ -44,6 +44,12 @@ pub data Exchange : Type 0 where
   served : List ℕ → CallHead → Uid → AtHead → Exchange
   system : List ℕ → CallHead → Uid → System → Exchange
 
+-- The row of each exchange.
+--   ping: a Ping is answered by a PingAck, and nothing is done.
+--   acknowledged: an acknowledgement is noted in one turn, and nothing is written.
+--   served: a Call of an exported object begins, invokes the worker and finishes in turns. One identifier is drawn, for its Return.
+--   system: a Call of the registry or the collector takes one turn, or none where it is rejected. An identifier is drawn for its Return, and
+--   another for a client that has none.
 abbrev pub row_of : Exchange → Row
 row_of ping = record { message = code_byte Ping ∷ []; acts = []; draws = 0; written = ping_ack; closes = None }
 row_of (acknowledged uid moment answer) = record { message = dgc_ack uid; acts = acts_of moment (Ack uid) answer; draws = 0; written = []; closes = None }

@@ -10,9 +10,9 @@ use wire_io::sink::Sink;
 /// Writes an answer after `sent` bytes of the connection. It answers how many were sent by then.
 pub fn write_answer<K: Sink>(sink: &mut K, bytes: &[u8], sent: u64) -> Result<u64, ConnEnd>
     requires { sent + length bytes.now < 2 ^ 64 }
-    ensures writes { Writes (K.held sink.old) (K.held sink.new) sent bytes.now result }
-    ensures write_fault { OnErr result (Rose (K.faults sink.old) (K.faults sink.new)) }
-    ensures sink_faults { K.faults sink.old ≤ K.faults sink.new }
+    ensures writes { Writes (K.half sink.old).held (K.half sink.new).held sent bytes.now result }
+    ensures write_fault { OnErr result (Rose (K.half sink.old).faults (K.half sink.new).faults) }
+    ensures sink_faults { (K.half sink.old).faults ≤ (K.half sink.new).faults }
 {
     match put_all(sink, bytes) {
         Ok(()) => Ok(sent + bytes.len() as u64),

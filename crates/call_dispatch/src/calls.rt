@@ -243,9 +243,9 @@ fn run_call<S: Source, K: Sink, C: Clock, P: Port, W: Worker>(
     requires room { 1 < P.room_of connection.old.port.now }
     requires calls { W.calls connection.old.worker.now < 2 ^ 62 }
     requires runs { RunsOne head.id (P.asked connection.old.port.now) }
-    ensures runs_on { (first : PullState) → ReadsHead first (pull_state S.left S.faults connection.old.pull) head reader.stand → RunsOn W.may W.moves (terms_of connection.old.book.now connection.old.setup.now)
+    ensures runs_on { (first : PullState) → ReadsHead first (pull_state S.half connection.old.pull) head reader.stand → RunsOn W.may W.moves (terms_of connection.old.book.now connection.old.setup.now)
         (next_of (terms_of connection.old.book.now connection.old.setup.now) connection.old.setup.now.draw.drawn) head kind
-        first (pull_state S.left S.faults connection.new.pull)
+        first (pull_state S.half connection.new.pull)
         (observed_of C.given P.asked W.calls W.seen W.state connection.old)
         (observed_of C.given P.asked W.calls W.seen W.state connection.new)
         connection.old.setup.now.draw.drawn connection.new.setup.now.draw.drawn result }
@@ -304,9 +304,9 @@ pub fn call_object<S: Source, K: Sink, C: Clock, P: Port, W: Worker>(
     requires room { 2 < P.room_of connection.old.port.now }
     requires calls { W.calls connection.old.worker.now < 2 ^ 62 }
     requires balanced { Balanced (P.asked connection.old.port.now) }
-    ensures answers { (first : PullState) → ReadsHead first (pull_state S.left S.faults connection.old.pull) head reader.stand → Answers W.may W.moves (terms_of connection.old.book.now connection.old.setup.now)
+    ensures answers { (first : PullState) → ReadsHead first (pull_state S.half connection.old.pull) head reader.stand → Answers W.may W.moves (terms_of connection.old.book.now connection.old.setup.now)
         (next_of (terms_of connection.old.book.now connection.old.setup.now) connection.old.setup.now.draw.drawn) head
-        first (pull_state S.left S.faults connection.new.pull)
+        first (pull_state S.half connection.new.pull)
         (observed_of C.given P.asked W.calls W.seen W.state connection.old)
         (observed_of C.given P.asked W.calls W.seen W.state connection.new)
         connection.old.setup.now.draw.drawn connection.new.setup.now.draw.drawn result }

@@ -50,7 +50,7 @@ impl From<AllocError> for ConnEnd {
     }
 }
 
-/// The end that a fault in reading makes.
+/// Returns the end that a fault in reading makes. A bad kind, which only a client reads, ends as a bad message.
 pub fn end_of(fault: FrameFault) -> ConnEnd
     ensures { result ≡ end_from fault }
 {
@@ -58,6 +58,7 @@ pub fn end_of(fault: FrameFault) -> ConnEnd
         FrameFault::BadHeader { at } => ConnEnd::BadHeader { at },
         FrameFault::UnknownProtocol { byte } => ConnEnd::UnknownProtocol { byte },
         FrameFault::BadMessage { byte, at } => ConnEnd::BadMessage { byte, at },
+        FrameFault::BadKind { byte, at } => ConnEnd::BadMessage { byte, at },
         FrameFault::Stream(inside) => match inside {
             StreamFault::Bad { kind, at } => ConnEnd::BadStream { kind, at },
             StreamFault::TooLarge { what, at } => ConnEnd::TooLarge { what, at },

@@ -55,13 +55,13 @@ pub fn serve_messages<S: Source, K: Sink, C: Clock, P: Port, W: Worker>(
     requires balanced { Balanced (P.asked connection.old.port.now) }
     requires calls { W.calls connection.old.worker.now < 2 ^ 61 }
     ensures goes_on { FinishesDialogue W.may W.moves (terms_of connection.old.book.now connection.old.setup.now) opened.protocol
-        (state_of_connection S.left K.held C.given P.asked W.calls W.seen W.state connection.old)
-        (state_of_connection S.left K.held C.given P.asked W.calls W.seen W.state connection.new) connection.old.pull.at opened.sent result }
+        (state_of_connection S.half K.half C.given P.asked W.calls W.seen W.state connection.old)
+        (state_of_connection S.half K.half C.given P.asked W.calls W.seen W.state connection.new) connection.old.pull.at opened.sent result }
     ensures lent { IsLent connection.old connection.new }
     ensures balanced { Balanced (P.asked connection.new.port.now) }
     ensures ready { P.ready connection.new.port.now }
     ensures leads { P.leads connection.old.port.now connection.new.port.now }
-    ensures blames { Blames (counts_of S.faults K.faults connection.old) (counts_of S.faults K.faults connection.new) result }
+    ensures blames { Blames (counts_of S.half K.half connection.old) (counts_of S.half K.half connection.new) result }
 {
     match opened.protocol {
         Protocol::Stream => serve_many(alloc, connection, opened.sent),
@@ -85,13 +85,13 @@ fn serve_one<S: Source, K: Sink, C: Clock, P: Port, W: Worker>(
     requires balanced { Balanced (P.asked connection.old.port.now) }
     requires calls { W.calls connection.old.worker.now < 2 ^ 61 }
     ensures goes_on { FinishesDialogue W.may W.moves (terms_of connection.old.book.now connection.old.setup.now) SingleOp
-        (state_of_connection S.left K.held C.given P.asked W.calls W.seen W.state connection.old)
-        (state_of_connection S.left K.held C.given P.asked W.calls W.seen W.state connection.new) connection.old.pull.at before result }
+        (state_of_connection S.half K.half C.given P.asked W.calls W.seen W.state connection.old)
+        (state_of_connection S.half K.half C.given P.asked W.calls W.seen W.state connection.new) connection.old.pull.at before result }
     ensures lent { IsLent connection.old connection.new }
     ensures balanced { Balanced (P.asked connection.new.port.now) }
     ensures ready { P.ready connection.new.port.now }
     ensures leads { P.leads connection.old.port.now connection.new.port.now }
-    ensures blames { Blames (counts_of S.faults K.faults connection.old) (counts_of S.faults K.faults connection.new) result }
+    ensures blames { Blames (counts_of S.half K.half connection.old) (counts_of S.half K.half connection.new) result }
 {
     match serve_message(alloc, connection, 0, before) {
         Ok(_sent) => ConnEnd::Ended,
@@ -115,13 +115,13 @@ fn serve_many<S: Source, K: Sink, C: Clock, P: Port, W: Worker>(
     requires balanced { Balanced (P.asked connection.old.port.now) }
     requires calls { W.calls connection.old.worker.now < 2 ^ 61 }
     ensures goes_on { FinishesDialogue W.may W.moves (terms_of connection.old.book.now connection.old.setup.now) Stream
-        (state_of_connection S.left K.held C.given P.asked W.calls W.seen W.state connection.old)
-        (state_of_connection S.left K.held C.given P.asked W.calls W.seen W.state connection.new) connection.old.pull.at before result }
+        (state_of_connection S.half K.half C.given P.asked W.calls W.seen W.state connection.old)
+        (state_of_connection S.half K.half C.given P.asked W.calls W.seen W.state connection.new) connection.old.pull.at before result }
     ensures lent { IsLent connection.old connection.new }
     ensures balanced { Balanced (P.asked connection.new.port.now) }
     ensures ready { P.ready connection.new.port.now }
     ensures leads { P.leads connection.old.port.now connection.new.port.now }
-    ensures blames { Blames (counts_of S.faults K.faults connection.old) (counts_of S.faults K.faults connection.new) result }
+    ensures blames { Blames (counts_of S.half K.half connection.old) (counts_of S.half K.half connection.new) result }
 {
     let mut sent = before;
     let mut served: u32 = 0;
@@ -153,8 +153,8 @@ fn serve_message<S: Source, K: Sink, C: Clock, P: Port, W: Worker>(
     requires balanced { Balanced (P.asked connection.old.port.now) }
     requires calls { W.calls connection.old.worker.now < 2 ^ 62 }
     ensures steps { Steps W.may W.moves (terms_of connection.old.book.now connection.old.setup.now)
-        (state_of_connection S.left K.held C.given P.asked W.calls W.seen W.state connection.old)
-        (state_of_connection S.left K.held C.given P.asked W.calls W.seen W.state connection.new) connection.old.pull.at sent served connection.new.pull.at result }
+        (state_of_connection S.half K.half C.given P.asked W.calls W.seen W.state connection.old)
+        (state_of_connection S.half K.half C.given P.asked W.calls W.seen W.state connection.new) connection.old.pull.at sent served connection.new.pull.at result }
     ensures going { OnOk result (served < MAX_MESSAGES) }
     ensures most { IfOk result (λ after. (after ≤ sent + RETURN_BYTES) × (connection.new.pull.at ≤ connection.old.pull.at + MESSAGE_BYTES)) }
     ensures lent { IsLent connection.old connection.new }
@@ -164,7 +164,7 @@ fn serve_message<S: Source, K: Sink, C: Clock, P: Port, W: Worker>(
     ensures room { P.room_of connection.old.port.now ≤ P.room_of connection.new.port.now + 3 }
     ensures calls { W.calls connection.new.worker.now ≤ W.calls connection.old.worker.now + 1 }
     ensures drawn { connection.new.setup.now.draw.drawn ≤ connection.old.setup.now.draw.drawn + 2 }
-    ensures blames { BlamesIn (counts_of S.faults K.faults connection.old) (counts_of S.faults K.faults connection.new) result }
+    ensures blames { BlamesIn (counts_of S.half K.half connection.old) (counts_of S.half K.half connection.new) result }
 {
     connection.pull.mark(MESSAGE_BYTES);
     let code = match read_code(&mut connection.pull) {
@@ -221,7 +221,7 @@ fn acknowledge<S: Source, K: Sink, C: Clock, P: Port, W: Worker>(
     requires room { 0 < P.room_of connection.old.port.now }
     requires balanced { Balanced (P.asked connection.old.port.now) }
     ensures acknowledges { Acknowledges W.may W.moves
-        (pull_state S.left S.faults connection.old.pull) (pull_state S.left S.faults connection.new.pull)
+        (pull_state S.half connection.old.pull) (pull_state S.half connection.new.pull)
         (observed_of C.given P.asked W.calls W.seen W.state connection.old)
         (observed_of C.given P.asked W.calls W.seen W.state connection.new) sent result }
     ensures sink { connection.new.sink ≡ connection.old.sink }
@@ -255,8 +255,8 @@ fn serve_call<S: Source, K: Sink, C: Clock, P: Port, W: Worker>(
     requires balanced { Balanced (P.asked connection.old.port.now) }
     requires calls { W.calls connection.old.worker.now < 2 ^ 62 }
     ensures serves { ServesCall W.may W.moves (terms_of connection.old.book.now connection.old.setup.now)
-        (state_of_connection S.left K.held C.given P.asked W.calls W.seen W.state connection.old)
-        (state_of_connection S.left K.held C.given P.asked W.calls W.seen W.state connection.new) connection.old.pull.at connection.old.pull.stop sent connection.new.pull.at result }
+        (state_of_connection S.half K.half C.given P.asked W.calls W.seen W.state connection.old)
+        (state_of_connection S.half K.half C.given P.asked W.calls W.seen W.state connection.new) connection.old.pull.at connection.old.pull.stop sent connection.new.pull.at result }
     ensures most { IfOk result (λ after. (after ≤ sent + RETURN_BYTES) × (connection.new.pull.at ≤ connection.old.pull.stop)) }
     ensures lent { IsLent connection.old connection.new }
     ensures balanced { Balanced (P.asked connection.new.port.now) }
@@ -265,7 +265,7 @@ fn serve_call<S: Source, K: Sink, C: Clock, P: Port, W: Worker>(
     ensures room { P.room_of connection.old.port.now ≤ P.room_of connection.new.port.now + 3 }
     ensures calls { W.calls connection.new.worker.now ≤ W.calls connection.old.worker.now + 1 }
     ensures drawn { connection.new.setup.now.draw.drawn ≤ connection.old.setup.now.draw.drawn + 2 }
-    ensures blames { BlamesIn (counts_of S.faults K.faults connection.old) (counts_of S.faults K.faults connection.new) result }
+    ensures blames { BlamesIn (counts_of S.half K.half connection.old) (counts_of S.half K.half connection.new) result }
 {
     match read_head(alloc, &mut connection.pull) {
         Ok((head, reader)) => {
@@ -280,7 +280,7 @@ fn serve_call<S: Source, K: Sink, C: Clock, P: Port, W: Worker>(
 fn send<K: Sink>(sink: &mut K, answer: Answer, sent: u64) -> Result<u64, ConnEnd>
     requires sent { sent < 2 ^ 61 }
     requires short { length answer.bytes ≤ RETURN_BYTES }
-    ensures sends { Sends (K.held sink.old) (K.held sink.new) (K.faults sink.old) (K.faults sink.new) sent answer result }
+    ensures sends { Sends (K.half sink.old).held (K.half sink.new).held (K.half sink.old).faults (K.half sink.new).faults sent answer result }
     ensures most { IfOk result (λ after. after ≤ sent + RETURN_BYTES) }
 {
     let after = write_answer(sink, answer.bytes.as_slice(), sent)?;

@@ -40,10 +40,10 @@ pub fn open_connection<S: Source, K: Sink, C: Clock, P: Port, W: Worker>(
     requires at { connection.old.pull.at ≡ 0 }
     requires stop { connection.old.pull.stop ≡ LAST_POSITION }
     ensures opens { StandsOpened W.may W.moves (terms_of connection.old.book.now connection.old.setup.now)
-        (state_of_connection S.left K.held C.given P.asked W.calls W.seen W.state connection.old)
-        (state_of_connection S.left K.held C.given P.asked W.calls W.seen W.state connection.new) connection.new.pull.at result }
+        (state_of_connection S.half K.half C.given P.asked W.calls W.seen W.state connection.old)
+        (state_of_connection S.half K.half C.given P.asked W.calls W.seen W.state connection.new) connection.new.pull.at result }
     ensures stays { Stays connection.old connection.new }
-    ensures blames { BlamesIn (counts_of S.faults K.faults connection.old) (counts_of S.faults K.faults connection.new) result }
+    ensures blames { BlamesIn (counts_of S.half K.half connection.old) (counts_of S.half K.half connection.new) result }
 {
     match read_header(&mut connection.pull) {
         Ok(Protocol::Stream) => open_stream(alloc, connection),
@@ -67,10 +67,10 @@ fn open_stream<S: Source, K: Sink, C: Clock, P: Port, W: Worker>(
     requires at { connection.old.pull.at ≡ 7 }
     requires stop { connection.old.pull.stop ≡ LAST_POSITION }
     ensures opens { OpensStream W.may W.moves (terms_of connection.old.book.now connection.old.setup.now)
-        (state_of_connection S.left K.held C.given P.asked W.calls W.seen W.state connection.old)
-        (state_of_connection S.left K.held C.given P.asked W.calls W.seen W.state connection.new) connection.new.pull.at result }
+        (state_of_connection S.half K.half C.given P.asked W.calls W.seen W.state connection.old)
+        (state_of_connection S.half K.half C.given P.asked W.calls W.seen W.state connection.new) connection.new.pull.at result }
     ensures stays { Stays connection.old connection.new }
-    ensures blames { BlamesIn (counts_of S.faults K.faults connection.old) (counts_of S.faults K.faults connection.new) result }
+    ensures blames { BlamesIn (counts_of S.half K.half connection.old) (counts_of S.half K.half connection.new) result }
 {
     let ack = acknowledgement(alloc, connection.setup)?;
     let sent = write_answer(connection.sink, ack.as_slice(), 0)?;
@@ -93,9 +93,9 @@ fn acknowledgement(alloc: Global, setup: &Setup) -> Result<ByteList, AllocError>
 
 /// Tells the client that no protocol with this byte is served, and answers how the connection ended.
 fn refuse<K: Sink>(sink: &mut K, byte: u8) -> ConnEnd
-    ensures refuses { Refuses byte (K.held sink.old) (K.held sink.new) result }
-    ensures write_fault { IsWriteFault result → Rose (K.faults sink.old) (K.faults sink.new) }
-    ensures sink_faults { K.faults sink.old ≤ K.faults sink.new }
+    ensures refuses { Refuses byte (K.half sink.old).held (K.half sink.new).held result }
+    ensures write_fault { IsWriteFault result → Rose (K.half sink.old).faults (K.half sink.new).faults }
+    ensures sink_faults { (K.half sink.old).faults ≤ (K.half sink.new).faults }
 {
     match write_answer(sink, &[0x4F], 0) {
         Ok(_sent) => ConnEnd::UnknownProtocol { byte },

@@ -55,14 +55,14 @@ pub fn serve_connection<S: Source, K: Sink, C: Clock, P: Port, W: Worker>(
     // What was taken, done, drawn and written is a dialogue with the end, and the only one of the input and of what the outside
     // answered, unless something outside failed.
     ensures dialogue { IsServedFrom W.may W.moves (terms_of book.now setup.old)
-        (state_of_parts S.left K.held C.given P.asked W.calls W.seen W.state source.old sink.old clock.old port.old worker.old setup.old)
-        (state_of_parts S.left K.held C.given P.asked W.calls W.seen W.state source.new sink.new clock.new port.new worker.new setup.new) result }
+        (state_of_parts S.half K.half C.given P.asked W.calls W.seen W.state source.old sink.old clock.old port.old worker.old setup.old)
+        (state_of_parts S.half K.half C.given P.asked W.calls W.seen W.state source.new sink.new clock.new port.new worker.new setup.new) result }
 
     // The worker's invocations are those of the Calls that were taken, in their order: of each Call one at most, of the object and the method
     // that it names, with the graph that its bytes spell. This holds of the message, too, in which the connection ended.
     ensures invoked { InvokesEachOnce (terms_of book.now setup.old)
-        (state_of_parts S.left K.held C.given P.asked W.calls W.seen W.state source.old sink.old clock.old port.old worker.old setup.old)
-        (state_of_parts S.left K.held C.given P.asked W.calls W.seen W.state source.new sink.new clock.new port.new worker.new setup.new) }
+        (state_of_parts S.half K.half C.given P.asked W.calls W.seen W.state source.old sink.old clock.old port.old worker.old setup.old)
+        (state_of_parts S.half K.half C.given P.asked W.calls W.seen W.state source.new sink.new clock.new port.new worker.new setup.new) }
 
     // No call runs afterwards, and the port can be used on.
     ensures balanced { (more : List Asked) × (P.asked port.new ≡ P.asked port.old ++ more) × Balanced more }
@@ -71,10 +71,10 @@ pub fn serve_connection<S: Source, K: Sink, C: Clock, P: Port, W: Worker>(
     ensures terms { terms_of book.now setup.new ≡ terms_of book.now setup.old }
 
     // The outside's failures.
-    ensures read_fault { result ≡ ConnEnd.ReadFault → Rose (S.faults source.old) (S.faults source.new) }
-    ensures write_fault { IsWriteFault result → Rose (K.faults sink.old) (K.faults sink.new) }
-    ensures source_faults { S.faults source.old ≤ S.faults source.new }
-    ensures sink_faults { K.faults sink.old ≤ K.faults sink.new }
+    ensures read_fault { result ≡ ConnEnd.ReadFault → Rose (S.half source.old).faults (S.half source.new).faults }
+    ensures write_fault { IsWriteFault result → Rose (K.half sink.old).faults (K.half sink.new).faults }
+    ensures source_faults { (S.half source.old).faults ≤ (S.half source.new).faults }
+    ensures sink_faults { (K.half sink.old).faults ≤ (K.half sink.new).faults }
 {
     let pull = Pull::new(source);
     let mut connection = Connection {
@@ -105,13 +105,13 @@ fn talk<S: Source, K: Sink, C: Clock, P: Port, W: Worker>(
     requires balanced { Balanced (P.asked connection.old.port.now) }
     requires calls { W.calls connection.old.worker.now < 2 ^ 61 }
     ensures dialogue { Talked W.may W.moves (terms_of connection.old.book.now connection.old.setup.now)
-        (state_of_connection S.left K.held C.given P.asked W.calls W.seen W.state connection.old)
-        (state_of_connection S.left K.held C.given P.asked W.calls W.seen W.state connection.new) result }
+        (state_of_connection S.half K.half C.given P.asked W.calls W.seen W.state connection.old)
+        (state_of_connection S.half K.half C.given P.asked W.calls W.seen W.state connection.new) result }
     ensures lent { IsLent connection.old connection.new }
     ensures balanced { Balanced (P.asked connection.new.port.now) }
     ensures ready { P.ready connection.new.port.now }
     ensures leads { P.leads connection.old.port.now connection.new.port.now }
-    ensures blames { Blames (counts_of S.faults K.faults connection.old) (counts_of S.faults K.faults connection.new) result }
+    ensures blames { Blames (counts_of S.half K.half connection.old) (counts_of S.half K.half connection.new) result }
 {
     match open_connection(alloc, connection) {
         Ok(opened) => serve_messages(alloc, connection, opened),

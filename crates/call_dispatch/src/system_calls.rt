@@ -168,9 +168,9 @@ fn call_system_object<S: Source, K: Sink, C: Clock, P: Port, W: Worker>(
     requires ready { P.ready connection.old.port.now }
     requires room { 0 < P.room_of connection.old.port.now }
     requires balanced { Balanced (P.asked connection.old.port.now) }
-    ensures answers { (first : PullState) → ReadsHead first (pull_state S.left S.faults connection.old.pull) head reader.stand
+    ensures answers { (first : PullState) → ReadsHead first (pull_state S.half connection.old.pull) head reader.stand
         → AnswersSystem W.may W.moves (terms_of connection.old.book.now connection.old.setup.now) head
-        first (pull_state S.left S.faults connection.new.pull)
+        first (pull_state S.half connection.new.pull)
         (observed_of C.given P.asked W.calls W.seen W.state connection.old)
         (observed_of C.given P.asked W.calls W.seen W.state connection.new)
         connection.old.setup.now.draw.drawn connection.new.setup.now.draw.drawn result }
@@ -213,9 +213,9 @@ pub fn dispatch_call<S: Source, K: Sink, C: Clock, P: Port, W: Worker>(
     requires room { 2 < P.room_of connection.old.port.now }
     requires calls { W.calls connection.old.worker.now < 2 ^ 62 }
     requires balanced { Balanced (P.asked connection.old.port.now) }
-    ensures answers { (first : PullState) → ReadsHead first (pull_state S.left S.faults connection.old.pull) head reader.stand
+    ensures answers { (first : PullState) → ReadsHead first (pull_state S.half connection.old.pull) head reader.stand
         → AnswersAny W.may W.moves (terms_of connection.old.book.now connection.old.setup.now) head
-        first (pull_state S.left S.faults connection.new.pull)
+        first (pull_state S.half connection.new.pull)
         (observed_of C.given P.asked W.calls W.seen W.state connection.old)
         (observed_of C.given P.asked W.calls W.seen W.state connection.new)
         connection.old.setup.now.draw.drawn connection.new.setup.now.draw.drawn result }

@@ -1,4 +1,5 @@
 -- What closing the lock shows.
+use Rattle.wire_io.specs.Wire.{ReadHalf, WriteHalf}
 use Rattle.std.proofs.Common.{◌≡◌, ℕ, suc, ◌<◌, List, [], ◌∷◌, ◌++◌, length, drop, ap, ◌∙◌, sym, subst, arith, Option}
 use Rattle.std.specs.Prelude.{Contains}
 use Rattle.std.proofs.Math.Seq.{drop-append_seam}
@@ -26,11 +27,11 @@ use Rattle.conn_server.proofs.Histories.{starts_on, others_by, went_before, turn
 use Rattle.conn_server.proofs.Rows.{paired_map}
 
 module _ {I O T H : Type 0} (IsLink : ℕ → Accepted × Asked → LinkReport I O T H → Type 0) (lock : TurnLock) where
-  module _ (left : I → Option (List ℕ)) (held : O → Option (List ℕ)) (given : T → Option (List ℕ)) (Talked : AdmittedLink I O T H → LinkReport I O T H → Type 0) (Made : ℕ → AdmittedLink I O T H → Type 0) (calls : H → ℕ)
-      (link : (k : ℕ) (g : AdmittedLink I O T H) (r : LinkReport I O T H) → Made k g → Talked g r → r.by ≡ k → IsLink k (shown_admitted left held given g) r) where
+  module _ (read_half : I → ReadHalf) (write_half : O → WriteHalf) (given : T → Option (List ℕ)) (Talked : AdmittedLink I O T H → LinkReport I O T H → Type 0) (Made : ℕ → AdmittedLink I O T H → Type 0) (calls : H → ℕ)
+      (link : (k : ℕ) (g : AdmittedLink I O T H) (r : LinkReport I O T H) → Made k g → Talked g r → r.by ≡ k → IsLink k (shown_admitted read_half write_half given g) r) where
     -- What the pass of a link that was begun had seen was the opening, and other connections' events.
     joined_known : (v : View) (k : ℕ) (s : StartedLink I O T H) (r : LinkReport I O T H) → IsJoined Talked Made calls lock v k s r
-        → IsKnown IsLink (opening_of lock) v k (shown_admitted left held given (task_of s).admitted) r
+        → IsKnown IsLink (opening_of lock) v k (shown_admitted read_half write_half given (task_of s).admitted) r
     joined_known v k s r j =
         let p = view_of (task_of s).pass in
         let pass = j.task.can.own.0 in
@@ -47,7 +48,7 @@ module _ {I O T H : Type 0} (IsLink : ℕ → Accepted × Asked → LinkReport I
         }
 
     pub paired_known : (v : View) (n : ℕ) (all : List (StartedLink I O T H)) (reports : List (LinkReport I O T H)) → Paired (IsJoined Talked Made calls lock v) n all reports
-        → Paired (IsKnown IsLink (opening_of lock) v) n (shown_all left held given all) reports
+        → Paired (IsKnown IsLink (opening_of lock) v) n (shown_all read_half write_half given all) reports
     paired_known v n [] [] p = tt
     paired_known v n (s ∷ all) (r ∷ reports) p = (joined_known v n s r p.0, paired_known v (suc n) all reports p.1)
     paired_known v n [] (r ∷ reports) p = absurd p

@@ -6,11 +6,9 @@ use Rattle.std.proofs.Math.Seq.{drop-append_seam}
 use Rattle.history.specs.declared.asks.Event.{Event}
 use Rattle.history.specs.declared.asks.SpaceConfig.{SpaceConfig}
 use Rattle.history.specs.Steps.{turn_of}
-use Rattle.history.proofs.CollectorLaws.{collects-after}
 use Rattle.space.specs.Acts.{event_of}
 use Rattle.ports.specs.Balance.{AreOfOthers, WentAmong}
 use Rattle.space.specs.Built.{SpaceHistory}
-use Rattle.space.specs.EventLists.{CollectsEach}
 use Rattle.ports.specs.Ports.{GoesBy}
 use Rattle.space.specs.declared.asked.Asked.{Asked}
 use Rattle.space.specs.declared.asked.AskedEnd.{AskedEnd}
@@ -51,7 +49,7 @@ goes_event : (config : SpaceConfig) (k : ℕ) (h : Events) (m : ℕ) (a : Ask) (
     → next ≡ h ++ taken_with k (record { moment = m; ask = a; end = end }) end
 goes_event config k h m a (Turned turn) next g = (taken-turn config h next (event_of k m a) turn g).1
 goes_event config k h m a (Abandoned place) next g = (taken-turn config h next (event_of k m a) (turn_of config h (event_of k m a)) g.2).1
-goes_event config k h m a (Denied refused) next g = (refused-turn config h next (event_of k m a) refused g).1 ∙ sym (append-nil h)
+goes_event config k h m a (Denied refused) next g = (refused-turn config h next (event_of k m a) refused g.1).1 ∙ sym (append-nil h)
 
 own_taken : (k m : ℕ) (a : Ask) (end : AskedEnd) → events_by k (taken_with k (record { moment = m; ask = a; end = end }) end) ≡ taken_with k (record { moment = m; ask = a; end = end }) end
 own_taken k m a (Turned turn) = ap (λ b. cond b (event_of k m a ∷ []) []) (eq-eqb k k refl)
@@ -100,14 +98,3 @@ turns_closed s h k entries last tail went starts begins own =
   where
     after_opening : events_after s k h ≡ events_by k tail
     after_opening = ap (λ l. events_by k (drop (length s.events) l)) begins ∙ ap (events_by k) (drop-append_seam s.events tail)
-
--- ---- the collector
-
--- At each event of a history the collector keeps what there is a reason to keep.
-collects_from : (config : SpaceConfig) (h events : Events) → CollectsEach config h events (h ++ events)
-collects_from config h [] = append-nil h
-collects_from config h (e ∷ events) =
-    (h ++ e ∷ [], collects-after config h e (h ++ e ∷ []) refl, subst (λ (l : Events). CollectsEach config (h ++ e ∷ []) events l) (append_assoc h (e ∷ []) events) (collects_from config (h ++ e ∷ []) events))
-
-pub collects_all : (config : SpaceConfig) (events : Events) → CollectsEach config [] events events
-collects_all config events = collects_from config [] events

@@ -1,7 +1,7 @@
 -- A link that was admitted is made for its connection.
 use Rattle.std.proofs.Common.{◌≡◌, ℕ, List, [], ◌∷◌, sym, subst, ◌∙◌, ap}
 use Rattle.std.specs.Prelude.{Option}
-use Rattle.wire_io.specs.Wire.{Gave}
+use Rattle.wire_io.specs.Wire.{ReadHalf, WriteHalf, Gave}
 use Rattle.wire_io.specs.declared.link.Link.{Link}
 use Rattle.history.specs.declared.asks.Ask.TheVariants.{Tick}
 use Rattle.call_dispatch.specs.Acts.{Call, States}
@@ -12,15 +12,15 @@ use Rattle.conn_server.specs.Plans.{link_terms}
 use Rattle.conn_server.specs.declared.link_task.AdmittedLink.{AdmittedLink}
 use Rattle.conn_server.specs.declared.plan.ServePlan.{ServePlan}
 
-pub made_for : {I O T H : Type 0} (left : I → Option (List ℕ)) (held : O → Option (List ℕ)) (given : T → Option (List ℕ)) (seen : H → Option (List Call)) (state : H → Option States)
+pub made_for : {I O T H : Type 0} (read_half : I → ReadHalf) (write_half : O → WriteHalf) (given : T → Option (List ℕ)) (seen : H → Option (List Call)) (state : H → Option States)
     (moves : States → Call → States → Type 0) (plan : ServePlan) (k by : ℕ) (link : Link I O T) (admitted : AdmittedLink I O T H) → admitted.first.value ≡ link → by ≡ k
-    → left admitted.source ≡ left link.source → held admitted.sink ≡ held link.sink
+    → (read_half admitted.source).left ≡ (read_half link.source).left → (write_half admitted.sink).held ≡ (write_half link.sink).held
     → ((kinds : List Kind) → terms_of kinds admitted.setup ≡ link_terms kinds plan by link.host link.port)
     → admitted.tick.value.ask ≡ Tick → Gave (given link.clock) (given admitted.clock) (admitted.tick.value.moment ∷ []) → WasTold moves (seen admitted.hand) (state admitted.hand) admitted.tick.value
-    → IsMadeFor left held given seen state moves plan k admitted
-made_for {I = I} {O = O} {T = T} left held given seen state moves plan k by link admitted is number source sink terms asked gave told = record {
-  left_is = source ∙ ap (λ (x : Link I O T). left x.source) (sym is);
-  held_is = sink ∙ ap (λ (x : Link I O T). held x.sink) (sym is);
+    → IsMadeFor read_half write_half given seen state moves plan k admitted
+made_for {I = I} {O = O} {T = T} read_half write_half given seen state moves plan k by link admitted is number source sink terms asked gave told = record {
+  left_is = source ∙ ap (λ (x : Link I O T). (read_half x.source).left) (sym is);
+  held_is = sink ∙ ap (λ (x : Link I O T). (write_half x.sink).held) (sym is);
   terms = λ kinds. subst (λ (x : ℕ × Link I O T). terms_of kinds admitted.setup ≡ link_terms kinds plan x.0 x.1.host x.1.port) (λ i. (number i, sym is i)) (terms kinds);
   tick_asked = asked;
   ticked = subst (λ (x : Link I O T). Gave (given x.clock) (given admitted.clock) (admitted.tick.value.moment ∷ [])) (sym is) gave;

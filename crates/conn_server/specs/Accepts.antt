@@ -1,4 +1,5 @@
 -- What holds while links are accepted.
+use Rattle.wire_io.specs.Wire.{ReadHalf, WriteHalf}
 use Rattle.std.specs.Prelude.{◌≡◌, ℕ, ◌+◌, ◌<◌, ◌≤◌, List, [], ◌++◌, map, sum_by, vec_len, vec_capacity, Option, Some, None}
 use Rattle.wire_io.specs.Links.{Accepted}
 use Rattle.space.specs.declared.asked.Asked.{Asked}
@@ -37,8 +38,8 @@ pub record IsBegun {I O T H : Type 0} (Talked : AdmittedLink I O T H → LinkRep
   pub link_state : IsUnder Talked lock kinds v (task_of started) started.link_state
 
 -- What the listener tells of these links, each with the entry of the server's turn before it.
-abbrev pub shown_all : {I O T H : Type 0} → (I → Option (List ℕ)) → (O → Option (List ℕ)) → (T → Option (List ℕ)) → List (StartedLink I O T H) → List (Accepted × Asked)
-shown_all left held given all = map (λ s. shown_admitted left held given (task_of s).admitted) all
+abbrev pub shown_all : {I O T H : Type 0} → (I → ReadHalf) → (O → WriteHalf) → (T → Option (List ℕ)) → List (StartedLink I O T H) → List (Accepted × Asked)
+shown_all read_half write_half given all = map (λ s. shown_admitted read_half write_half given (task_of s).admitted) all
 
 -- The links alone.
 abbrev pub links_of : List (Accepted × Asked) → List Accepted

@@ -2,7 +2,7 @@
 use Rattle.std.specs.Prelude.{◌≡◌, ℕ, List, [], ◌∷◌, ◌≤◌, ℤ, pos, ◌<ℤ◌, length, map, Option}
 use Rattle.mod_utf.specs.Utf.{utf}
 use Rattle.wire_io.specs.Links.{Accepted, accepted_as}
-use Rattle.wire_io.specs.Wire.{Gave}
+use Rattle.wire_io.specs.Wire.{ReadHalf, WriteHalf, Gave}
 use Rattle.wire_io.specs.declared.limits.TheConstants.{MAX_HOST_BYTES}
 use Rattle.object_ids.specs.declared.ids.ObjId.{ObjId}
 use Rattle.history.specs.declared.asks.Ask.TheVariants.{Tick}
@@ -33,15 +33,15 @@ abbrev pub WasTold : (States → Call → States → Type 0) → Option (List Ca
 WasTold moves seen state entry = (seen_before : Option (List Call)) × (state_before : Option States) × IsUntold seen_before × TellsMore seen_before (told_of entry) seen × LeadsStates moves state_before (told_of entry) state
 
 -- What a listener tells of a link that was admitted, and the entry of the server's turn before it.
-abbrev pub shown_admitted : {I O T H : Type 0} → (I → Option (List ℕ)) → (O → Option (List ℕ)) → (T → Option (List ℕ)) → AdmittedLink I O T H → Accepted × Asked
-shown_admitted left held given admitted = (accepted_as left held given admitted.first.value, admitted.tick.value)
+abbrev pub shown_admitted : {I O T H : Type 0} → (I → ReadHalf) → (O → WriteHalf) → (T → Option (List ℕ)) → AdmittedLink I O T H → Accepted × Asked
+shown_admitted read_half write_half given admitted = (accepted_as read_half write_half given admitted.first.value, admitted.tick.value)
 
 -- A link was admitted for connection k, as it was accepted: nothing was read or written on it yet; its setup is the plan's; a Tick was made at a
 -- moment of its clock, which gave no other; and its hand was told what that Tick withdrew, and nothing else.
-pub record IsMadeFor {I O T H : Type 0} (left : I → Option (List ℕ)) (held : O → Option (List ℕ)) (given : T → Option (List ℕ)) (seen : H → Option (List Call)) (state : H → Option States)
+pub record IsMadeFor {I O T H : Type 0} (read_half : I → ReadHalf) (write_half : O → WriteHalf) (given : T → Option (List ℕ)) (seen : H → Option (List Call)) (state : H → Option States)
     (moves : States → Call → States → Type 0) (plan : ServePlan) (k : ℕ) (admitted : AdmittedLink I O T H) : Type 0 where
-  pub left_is : left admitted.source ≡ left admitted.first.value.source
-  pub held_is : held admitted.sink ≡ held admitted.first.value.sink
+  pub left_is : (read_half admitted.source).left ≡ (read_half admitted.first.value.source).left
+  pub held_is : (write_half admitted.sink).held ≡ (write_half admitted.first.value.sink).held
   pub terms : (kinds : List Kind) → terms_of kinds admitted.setup ≡ link_terms kinds plan k admitted.first.value.host admitted.first.value.port
   pub tick_asked : admitted.tick.value.ask ≡ Tick
   pub ticked : Gave (given admitted.first.value.clock) (given admitted.clock) (admitted.tick.value.moment ∷ [])

@@ -1,7 +1,7 @@
 -- What is told of the links, over the history that was left.
 use Rattle.std.specs.Prelude.{◌≡◌, ◌<◌, ℕ, List, [], ◌∷◌, ◌++◌, length, drop, Contains, Option}
 use Rattle.wire_io.specs.Links.{Accepted}
-use Rattle.wire_io.specs.Wire.{Gave}
+use Rattle.wire_io.specs.Wire.{ReadHalf, WriteHalf, Gave}
 use Rattle.history.specs.Steps.{IsLegal}
 use Rattle.history.specs.declared.asks.Ask.TheVariants.{Tick}
 use Rattle.ports.specs.Balance.{WentAmong}
@@ -42,13 +42,13 @@ pub record AreTurnsOf (s : SpaceHistory) (k : ℕ) (entries : List Asked) (h : S
 -- What is told of a link's own connection, of which the listener and the server's turn before it tell p: it was served on the terms of its
 -- number, the plan and the link, from the link's own first byte on; its clock gave the moment of that turn, a Tick, and then those of the
 -- connection; and its hand was told what the Tick withdrew, and then of the connection's calls alone.
-pub record IsLinkOf {I O T H : Type 0} (left : I → Option (List ℕ)) (held : O → Option (List ℕ)) (given : T → Option (List ℕ)) (calls : H → ℕ) (seen : H → Option (List Call)) (state : H → Option States)
+pub record IsLinkOf {I O T H : Type 0} (read_half : I → ReadHalf) (write_half : O → WriteHalf) (given : T → Option (List ℕ)) (calls : H → ℕ) (seen : H → Option (List Call)) (state : H → Option States)
     (may : Invocation → Outcome → Type 0) (moves : States → Call → States → Type 0) (kinds : List Kind) (plan : ServePlan) (k : ℕ) (p : Accepted × Asked) (report : LinkReport I O T H) : Type 0 where
   pub by : report.by ≡ k
   pub given_then : Option (List ℕ)
   pub seen_then : Option (List Call)
   pub state_then : Option States
-  pub talks : Talks left held given calls seen state may moves (link_terms kinds plan k p.0.host p.0.port) (first_spot p.0.left p.0.held given_then seen_then state_then) report
+  pub talks : Talks read_half write_half given calls seen state may moves (link_terms kinds plan k p.0.host p.0.port) (first_spot p.0.left p.0.held given_then seen_then state_then) report
   pub tick_asked : p.1.ask ≡ Tick
   pub ticked : Gave p.0.given given_then (p.1.moment ∷ [])
   pub told : WasTold moves seen_then state_then p.1
@@ -76,13 +76,14 @@ pub record IsAllJoined {I O T H : Type 0} (IsLink : ℕ → Accepted × Asked �
   pub links : Paired (IsKnown IsLink (opening_of lock) (view_of o.root.pass)) 1 served o.links.items
 
 -- Links were served over a space that was opened so, of which the listener tells these before and after. The one history that is left is legal and
--- goes on from the opening, and at each of its events the collector kept what there was a reason to keep, and withdrew the rest. Each link that was
+-- goes on from the opening. The rows of the space that is left are what the collector made of none: at each event it kept what there was a reason to
+-- keep, and withdrew the rest. Each link that was
 -- accepted has its Tick and its report, but the one, if any, for which there was no memory; and there are no turns but these.
 pub record ServesLinks {I O T H : Type 0} (IsLink : ℕ → Accepted × Asked → LinkReport I O T H → Type 0) (opening : SpaceHistory) (count : ℕ) (accepted accepted_after : Option (List Accepted)) (report : Report I O T H) : Type 0 where
   pub config : report.space.configuration ≡ opening.configuration
   pub legal : IsLegal report.space.configuration report.space.events
   pub begins : StartsWith report.space.events opening.events
-  pub collects : CollectsEach report.space.configuration [] report.space.events report.space.events
+  pub collects : CollectsEach report.space.configuration [] [] report.space.events report.space.events report.space.rows
   pub links : (served : List (Accepted × Asked)) × (lost : List Accepted)
       × (accepted_after ≡ with_all accepted (links_of served ++ lost))
       × (report.ticks ≡ ticks_of served)

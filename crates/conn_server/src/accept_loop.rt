@@ -53,8 +53,8 @@ fn next_link<R: Wait, L: Listener>(
     ended: &EndedLinks,
     begun: usize,
 ) -> Result<Link<L::In, L::Out, L::Ticks>, Failed>
-    ensures accepts { Accepts (accepted_as L.In.left L.Out.held L.Ticks.given) (L.accepted listener.old) (L.accepted listener.new) (L.faults listener.old) (L.faults listener.new) result }
-    ensures ports { L.ports listener.new ≡ L.ports listener.old }
+    ensures accepts { Accepts (accepted_as L.In.half L.Out.half L.Ticks.given) (L.listening listener.old) (L.listening listener.new) result }
+    ensures ports { (L.listening listener.new).ports ≡ (L.listening listener.old).ports }
 {
     let mut idle_tries = 0u32;
     for _ in 1..MAX_ACCEPT_TRIES {
@@ -92,15 +92,15 @@ where
     L::Ticks: 's,
     G::Hand: 's,
     requires host { length (utf plan.now.host) ≤ MAX_HOST_BYTES }
-    requires accepting { IsAccepting (TalksOver L.In.left L.Out.held L.Ticks.given G.Hand.calls G.Hand.seen G.Hand.state G.Hand.may G.Hand.moves book.now) (IsMadeFor L.In.left L.Out.held L.Ticks.given G.Hand.seen G.Hand.state G.Hand.moves plan.now) G.Hand.calls lock.now book.now accepting }
+    requires accepting { IsAccepting (TalksOver L.In.half L.Out.half L.Ticks.given G.Hand.calls G.Hand.seen G.Hand.state G.Hand.may G.Hand.moves book.now) (IsMadeFor L.In.half L.Out.half L.Ticks.given G.Hand.seen G.Hand.state G.Hand.moves plan.now) G.Hand.calls lock.now book.now accepting }
     requires fresh { (accepting.started.items ≡ []) × (accepting.ticks.items ≡ []) }
     requires turns { (plan.now.count ≤ MAX_LINKS) × (MAX_LINKS ≤ accepting.root.pass.room) }
-    ensures accepting { IsAccepting (TalksOver L.In.left L.Out.held L.Ticks.given G.Hand.calls G.Hand.seen G.Hand.state G.Hand.may G.Hand.moves book.now) (IsMadeFor L.In.left L.Out.held L.Ticks.given G.Hand.seen G.Hand.state G.Hand.moves plan.now) G.Hand.calls lock.now book.now result.0 }
-    ensures tied { result.0.ticks.items ≡ ticks_of (shown_all L.In.left L.Out.held L.Ticks.given result.0.started.items) }
-    ensures links { (lost : List Accepted) × (L.accepted listener.new ≡ with_all (L.accepted listener.old) (links_of (shown_all L.In.left L.Out.held L.Ticks.given result.0.started.items) ++ lost)) × Stopped result.1 plan.now.count (vec_len result.0.started) lost }
-    ensures fault { result.1 ≡ Stop.AcceptFault → Rose (L.faults listener.old) (L.faults listener.new) }
-    ensures faults { L.faults listener.old ≤ L.faults listener.new }
-    ensures ports { L.ports listener.new ≡ L.ports listener.old }
+    ensures accepting { IsAccepting (TalksOver L.In.half L.Out.half L.Ticks.given G.Hand.calls G.Hand.seen G.Hand.state G.Hand.may G.Hand.moves book.now) (IsMadeFor L.In.half L.Out.half L.Ticks.given G.Hand.seen G.Hand.state G.Hand.moves plan.now) G.Hand.calls lock.now book.now result.0 }
+    ensures tied { result.0.ticks.items ≡ ticks_of (shown_all L.In.half L.Out.half L.Ticks.given result.0.started.items) }
+    ensures links { (lost : List Accepted) × ((L.listening listener.new).accepted ≡ with_all (L.listening listener.old).accepted (links_of (shown_all L.In.half L.Out.half L.Ticks.given result.0.started.items) ++ lost)) × Stopped result.1 plan.now.count (vec_len result.0.started) lost }
+    ensures fault { result.1 ≡ Stop.AcceptFault → Rose (L.listening listener.old).faults (L.listening listener.new).faults }
+    ensures faults { (L.listening listener.old).faults ≤ (L.listening listener.new).faults }
+    ensures ports { (L.listening listener.new).ports ≡ (L.listening listener.old).ports }
 {
     let mut accepting = accepting;
     for _ in 0..plan.count {
@@ -127,11 +127,11 @@ pub fn join_links<R: Threads, I: Source + Drop, O: Sink + Drop, T: Clock + Drop,
     plan: &ServePlan,
     accepting: Accepting<I, O, T, H>,
 ) -> (Root, Vec<LinkReport<I, O, T, H>>, Vec<Asked>)
-    requires { IsAccepting (TalksOver I.left O.held T.given H.calls H.seen H.state H.may H.moves book.now) (IsMadeFor I.left O.held T.given H.seen H.state H.moves plan.now) H.calls lock.now book.now accepting }
+    requires { IsAccepting (TalksOver I.half O.half T.given H.calls H.seen H.state H.may H.moves book.now) (IsMadeFor I.half O.half T.given H.seen H.state H.moves plan.now) H.calls lock.now book.now accepting }
     ensures root { IsRootOf lock.now result.0 × (result.0.out ≡ 0) }
     ensures made { result.0.made ≡ vec_len accepting.started }
     ensures ticks { IsTicked (view_of result.0.pass) result.2.items × (result.2 ≡ accepting.ticks) }
-    ensures links { Paired (IsJoined (TalksOver I.left O.held T.given H.calls H.seen H.state H.may H.moves book.now) (IsMadeFor I.left O.held T.given H.seen H.state H.moves plan.now) H.calls lock.now (view_of result.0.pass)) 1 accepting.started.items result.1.items }
+    ensures links { Paired (IsJoined (TalksOver I.half O.half T.given H.calls H.seen H.state H.may H.moves book.now) (IsMadeFor I.half O.half T.given H.seen H.state H.moves plan.now) H.calls lock.now (view_of result.0.pass)) 1 accepting.started.items result.1.items }
 {
     let _ = plan;
     let Accepting {

@@ -209,11 +209,11 @@ fn start_link<
     admitted: AdmittedLink<I, O, T, H>,
     accepting: Accepting<I, O, T, H>,
 ) -> Accepting<I, O, T, H>
-    requires { IsNext (TalksOver I.left O.held T.given H.calls H.seen H.state H.may H.moves book.now) (IsMadeFor I.left O.held T.given H.seen H.state H.moves plan.now) H.calls lock.now book.now accepting admitted }
-    ensures accepting { IsAccepting (TalksOver I.left O.held T.given H.calls H.seen H.state H.may H.moves book.now) (IsMadeFor I.left O.held T.given H.seen H.state H.moves plan.now) H.calls lock.now book.now result }
+    requires { IsNext (TalksOver I.half O.half T.given H.calls H.seen H.state H.may H.moves book.now) (IsMadeFor I.half O.half T.given H.seen H.state H.moves plan.now) H.calls lock.now book.now accepting admitted }
+    ensures accepting { IsAccepting (TalksOver I.half O.half T.given H.calls H.seen H.state H.may H.moves book.now) (IsMadeFor I.half O.half T.given H.seen H.state H.moves plan.now) H.calls lock.now book.now result }
     ensures turns { result.root.pass.room ≡ accepting.root.pass.room }
     ensures ticks { result.ticks ≡ accepting.ticks }
-    ensures links { shown_all I.left O.held T.given result.started.items ≡ shown_all I.left O.held T.given accepting.started.items ++ shown_admitted I.left O.held T.given admitted ∷ [] }
+    ensures links { shown_all I.half O.half T.given result.started.items ≡ shown_all I.half O.half T.given accepting.started.items ++ shown_admitted I.half O.half T.given admitted ∷ [] }
     ensures count { vec_len result.started ≡ vec_len accepting.started + 1 }
 {
     let _ = plan;
@@ -249,10 +249,10 @@ fn with_tick<R: Wait, I: Source, O: Sink, T: Clock, H: Worker>(
     hand: &mut H,
     accepting: Accepting<I, O, T, H>,
 ) -> (Accepting<I, O, T, H>, Option<Snapshot<Asked>>)
-    requires accepting { IsAccepting (TalksOver I.left O.held T.given H.calls H.seen H.state H.may H.moves book.now) (IsMadeFor I.left O.held T.given H.seen H.state H.moves plan.now) H.calls lock.now book.now accepting }
+    requires accepting { IsAccepting (TalksOver I.half O.half T.given H.calls H.seen H.state H.may H.moves book.now) (IsMadeFor I.half O.half T.given H.seen H.state H.moves plan.now) H.calls lock.now book.now accepting }
     requires turns { 0 < accepting.root.pass.room }
     requires room { vec_len accepting.ticks < vec_capacity accepting.ticks }
-    ensures accepting { IsAccepting (TalksOver I.left O.held T.given H.calls H.seen H.state H.may H.moves book.now) (IsMadeFor I.left O.held T.given H.seen H.state H.moves plan.now) H.calls lock.now book.now result.0 }
+    ensures accepting { IsAccepting (TalksOver I.half O.half T.given H.calls H.seen H.state H.may H.moves book.now) (IsMadeFor I.half O.half T.given H.seen H.state H.moves plan.now) H.calls lock.now book.now result.0 }
     ensures turns { accepting.root.pass.room ≤ result.0.root.pass.room + 1 }
     ensures links { (result.0.started ≡ accepting.started) × (result.0.reports ≡ accepting.reports) }
     ensures ticks { MatchOption result.1 (result.0.ticks.items ≡ accepting.ticks.items) (λ entry. result.0.ticks.items ≡ accepting.ticks.items ++ entry.value ∷ []) }
@@ -319,17 +319,17 @@ fn prepare_link<R: Wait, I: Source + Drop, O: Sink + Drop, T: Clock + Drop, H: W
     ready: HandAndSetup<H>,
     accepting: Accepting<I, O, T, H>,
 ) -> (Accepting<I, O, T, H>, Option<AdmittedLink<I, O, T, H>>)
-    requires accepting { IsAccepting (TalksOver I.left O.held T.given H.calls H.seen H.state H.may H.moves book.now) (IsMadeFor I.left O.held T.given H.seen H.state H.moves plan.now) H.calls lock.now book.now accepting }
+    requires accepting { IsAccepting (TalksOver I.half O.half T.given H.calls H.seen H.state H.may H.moves book.now) (IsMadeFor I.half O.half T.given H.seen H.state H.moves plan.now) H.calls lock.now book.now accepting }
     requires turns { 0 < accepting.root.pass.room }
     requires few { vec_len accepting.started < MAX_LINKS }
     requires room { HasRoom accepting }
     requires ready { IsHandFor H.calls H.seen plan.now (vec_len accepting.started + 1) link.host link.port ready }
-    ensures accepting { IsAccepting (TalksOver I.left O.held T.given H.calls H.seen H.state H.may H.moves book.now) (IsMadeFor I.left O.held T.given H.seen H.state H.moves plan.now) H.calls lock.now book.now result.0 }
+    ensures accepting { IsAccepting (TalksOver I.half O.half T.given H.calls H.seen H.state H.may H.moves book.now) (IsMadeFor I.half O.half T.given H.seen H.state H.moves plan.now) H.calls lock.now book.now result.0 }
     ensures turns { accepting.root.pass.room ≤ result.0.root.pass.room + 1 }
     ensures links { (result.0.started ≡ accepting.started) × (result.0.reports ≡ accepting.reports) }
     ensures ticks { MatchOption result.1 (result.0.ticks.items ≡ accepting.ticks.items) (λ admitted. result.0.ticks.items ≡ accepting.ticks.items ++ admitted.tick.value ∷ []) }
     ensures first { IfSome result.1 (λ admitted. admitted.first.value ≡ link) }
-    ensures next { IfSome result.1 (λ admitted. IsNext (TalksOver I.left O.held T.given H.calls H.seen H.state H.may H.moves book.now) (IsMadeFor I.left O.held T.given H.seen H.state H.moves plan.now) H.calls lock.now book.now result.0 admitted) }
+    ensures next { IfSome result.1 (λ admitted. IsNext (TalksOver I.half O.half T.given H.calls H.seen H.state H.may H.moves book.now) (IsMadeFor I.half O.half T.given H.seen H.state H.moves plan.now) H.calls lock.now book.now result.0 admitted) }
 {
     let first = Snapshot::of(&link);
     let Link {
@@ -383,15 +383,15 @@ pub fn admit<
 where
     G::Hand: 's,
     requires host { length (utf plan.now.host) ≤ MAX_HOST_BYTES }
-    requires accepting { IsAccepting (TalksOver I.left O.held T.given G.Hand.calls G.Hand.seen G.Hand.state G.Hand.may G.Hand.moves book.now) (IsMadeFor I.left O.held T.given G.Hand.seen G.Hand.state G.Hand.moves plan.now) G.Hand.calls lock.now book.now accepting }
+    requires accepting { IsAccepting (TalksOver I.half O.half T.given G.Hand.calls G.Hand.seen G.Hand.state G.Hand.may G.Hand.moves book.now) (IsMadeFor I.half O.half T.given G.Hand.seen G.Hand.state G.Hand.moves plan.now) G.Hand.calls lock.now book.now accepting }
     requires turns { (0 < accepting.root.pass.room) × (vec_len accepting.started < MAX_LINKS) }
-    requires tied { accepting.ticks.items ≡ ticks_of (shown_all I.left O.held T.given accepting.started.items) }
-    ensures accepting { IsAccepting (TalksOver I.left O.held T.given G.Hand.calls G.Hand.seen G.Hand.state G.Hand.may G.Hand.moves book.now) (IsMadeFor I.left O.held T.given G.Hand.seen G.Hand.state G.Hand.moves plan.now) G.Hand.calls lock.now book.now result.0 }
+    requires tied { accepting.ticks.items ≡ ticks_of (shown_all I.half O.half T.given accepting.started.items) }
+    ensures accepting { IsAccepting (TalksOver I.half O.half T.given G.Hand.calls G.Hand.seen G.Hand.state G.Hand.may G.Hand.moves book.now) (IsMadeFor I.half O.half T.given G.Hand.seen G.Hand.state G.Hand.moves plan.now) G.Hand.calls lock.now book.now result.0 }
     ensures turns { accepting.root.pass.room ≤ result.0.root.pass.room + 1 }
-    ensures tied { result.0.ticks.items ≡ ticks_of (shown_all I.left O.held T.given result.0.started.items) }
+    ensures tied { result.0.ticks.items ≡ ticks_of (shown_all I.half O.half T.given result.0.started.items) }
     ensures links { MatchBool result.1
-        (links_of (shown_all I.left O.held T.given result.0.started.items) ≡ links_of (shown_all I.left O.held T.given accepting.started.items) ++ accepted_as I.left O.held T.given link ∷ [])
-        (links_of (shown_all I.left O.held T.given result.0.started.items) ≡ links_of (shown_all I.left O.held T.given accepting.started.items)) }
+        (links_of (shown_all I.half O.half T.given result.0.started.items) ≡ links_of (shown_all I.half O.half T.given accepting.started.items) ++ accepted_as I.half O.half T.given link ∷ [])
+        (links_of (shown_all I.half O.half T.given result.0.started.items) ≡ links_of (shown_all I.half O.half T.given accepting.started.items)) }
     ensures count { MatchBool result.1 (vec_len result.0.started ≡ vec_len accepting.started + 1) (vec_len result.0.started ≡ vec_len accepting.started) }
 {
     let (accepting, ready) = reserve_link(alloc, crew, plan, &link, accepting);

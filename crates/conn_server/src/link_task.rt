@@ -70,7 +70,7 @@ pub struct TaskPromise<I, O, T, H> {
 
 impl<I: Source, O: Sink, T: Clock, H: Worker> Promise<LinkDone<I, O, T, H>>
     for TaskPromise<I, O, T, H> {
-    ghost kept_by = { λ p r. Serves (TalksOver I.left O.held T.given H.calls H.seen H.state H.may H.moves p.book.value) p.lock.value p.task.value r };
+    ghost kept_by = { λ p r. Serves (TalksOver I.half O.half T.given H.calls H.seen H.state H.may H.moves p.book.value) p.lock.value p.task.value r };
 }
 
 /// Serves a link to its connection's end, and shuts both its halves.
@@ -82,7 +82,7 @@ pub fn serve_task<R: Wait, I: Source, O: Sink, T: Clock, H: Worker>(
     task: LinkTask<I, O, T, H>,
 ) -> LinkDone<I, O, T, H>
     requires { IsLinkTask H.calls lock.now task }
-    ensures { Serves (TalksOver I.left O.held T.given H.calls H.seen H.state H.may H.moves book.now) lock.now task result }
+    ensures { Serves (TalksOver I.half O.half T.given H.calls H.seen H.state H.may H.moves book.now) lock.now task result }
 {
     let LinkTask {
         by,

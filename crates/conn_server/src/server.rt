@@ -72,11 +72,11 @@ where
     requires fresh { IsFresh lock.now root }
     requires few { plan.now.count ≤ MAX_LINKS }
     requires host { length (utf plan.now.host) ≤ MAX_HOST_BYTES }
-    ensures served { (served : List (Accepted × Asked)) × IsAllJoined (IsLinkOf L.In.left L.Out.held L.Ticks.given G.Hand.calls G.Hand.seen G.Hand.state G.Hand.may G.Hand.moves book.now plan.now) lock.now served result
-        × ((lost : List Accepted) × (L.accepted listener.new ≡ with_all (L.accepted listener.old) (links_of served ++ lost)) × Stopped result.stop plan.now.count (length result.links.items) lost) }
-    ensures fault { result.stop ≡ Stop.AcceptFault → Rose (L.faults listener.old) (L.faults listener.new) }
-    ensures faults { L.faults listener.old ≤ L.faults listener.new }
-    ensures ports { L.ports listener.new ≡ L.ports listener.old }
+    ensures served { (served : List (Accepted × Asked)) × IsAllJoined (IsLinkOf L.In.half L.Out.half L.Ticks.given G.Hand.calls G.Hand.seen G.Hand.state G.Hand.may G.Hand.moves book.now plan.now) lock.now served result
+        × ((lost : List Accepted) × ((L.listening listener.new).accepted ≡ with_all (L.listening listener.old).accepted (links_of served ++ lost)) × Stopped result.stop plan.now.count (length result.links.items) lost) }
+    ensures fault { result.stop ≡ Stop.AcceptFault → Rose (L.listening listener.old).faults (L.listening listener.new).faults }
+    ensures faults { (L.listening listener.old).faults ≤ (L.listening listener.new).faults }
+    ensures ports { (L.listening listener.new).ports ≡ (L.listening listener.old).ports }
 {
     let accepting = Accepting {
         root,
@@ -124,13 +124,13 @@ pub fn serve<R: Threads + Wait + Sync, L: Listener, G: Crew>(
     // The one history that is left is legal and goes on from the lock's, and the collector kept and withdrew at each of its events as it is to. Each
     // link that was accepted has its Tick and its report, but the one, if any, for which there was no memory; and there are no turns but these.
     ensures served { ServesLinks
-        (IsLinkOf L.In.left L.Out.held L.Ticks.given G.Hand.calls G.Hand.seen G.Hand.state G.Hand.may G.Hand.moves book.now plan.now)
-        (opening_of lock) plan.now.count (L.accepted listener.old) (L.accepted listener.new) result }
+        (IsLinkOf L.In.half L.Out.half L.Ticks.given G.Hand.calls G.Hand.seen G.Hand.state G.Hand.may G.Hand.moves book.now plan.now)
+        (opening_of lock) plan.now.count (L.listening listener.old).accepted (L.listening listener.new).accepted result }
 
     // The listener.
-    ensures fault { result.stop ≡ Stop.AcceptFault → Rose (L.faults listener.old) (L.faults listener.new) }
-    ensures faults { L.faults listener.old ≤ L.faults listener.new }
-    ensures ports { L.ports listener.new ≡ L.ports listener.old }
+    ensures fault { result.stop ≡ Stop.AcceptFault → Rose (L.listening listener.old).faults (L.listening listener.new).faults }
+    ensures faults { (L.listening listener.old).faults ≤ (L.listening listener.new).faults }
+    ensures ports { (L.listening listener.new).ports ≡ (L.listening listener.old).ports }
 {
     let shared = &lock;
     let noted = EndedLinks::new(alloc);
@@ -141,11 +141,11 @@ pub fn serve<R: Threads + Wait + Sync, L: Listener, G: Crew>(
         move |scope| -> (&mut L, AllJoined<L::In, L::Out, L::Ticks, G::Hand>)
             requires { IsFresh shared.now root × (plan.now.count ≤ MAX_LINKS) × (length (utf plan.now.host) ≤ MAX_HOST_BYTES) }
             ensures left { (result.0.ghost_name ≡ listener.entry.ghost_name) }
-            ensures served { (served : List (Accepted × Asked)) × IsAllJoined (IsLinkOf L.In.left L.Out.held L.Ticks.given G.Hand.calls G.Hand.seen G.Hand.state G.Hand.may G.Hand.moves book.entry.now plan.entry.now) shared.entry.now served result.1
-                × ((lost : List Accepted) × (L.accepted result.0.now ≡ with_all (L.accepted listener.entry.now) (links_of served ++ lost)) × Stopped result.1.stop plan.entry.now.count (length result.1.links.items) lost) }
-            ensures fault { result.1.stop ≡ Stop.AcceptFault → Rose (L.faults listener.entry.now) (L.faults result.0.now) }
-            ensures faults { L.faults listener.entry.now ≤ L.faults result.0.now }
-            ensures ports { L.ports result.0.now ≡ L.ports listener.entry.now }
+            ensures served { (served : List (Accepted × Asked)) × IsAllJoined (IsLinkOf L.In.half L.Out.half L.Ticks.given G.Hand.calls G.Hand.seen G.Hand.state G.Hand.may G.Hand.moves book.entry.now plan.entry.now) shared.entry.now served result.1
+                × ((lost : List Accepted) × ((L.listening result.0.now).accepted ≡ with_all (L.listening listener.entry.now).accepted (links_of served ++ lost)) × Stopped result.1.stop plan.entry.now.count (length result.1.links.items) lost) }
+            ensures fault { result.1.stop ≡ Stop.AcceptFault → Rose (L.listening listener.entry.now).faults (L.listening result.0.now).faults }
+            ensures faults { (L.listening listener.entry.now).faults ≤ (L.listening result.0.now).faults }
+            ensures ports { (L.listening result.0.now).ports ≡ (L.listening listener.entry.now).ports }
         {
             let outcome = serve_within(
                 scope, rt, alloc, shared, book, ended, root, listener, crew, plan,

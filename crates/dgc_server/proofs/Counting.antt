@@ -244,19 +244,19 @@ pairs-alone t es before order once same =
     (λ p. list_any-append (same_pair p) before [] ∙ or_false (list_any (same_pair p) before) ∙ same p)
     ∙ length-kept_pairs t es ∙ omega arith
 
-new-brought : (lease : ℕ) (before : List Call) (kind : CallKind) (now : ℕ) (c : Client) (n : ℤ) (os : List ObjId) →
-    new_pairs lease before (new_call kind now c n os) ≡ (if call_counts kind (has_time lease now (calls_of c before)) then pairs_of c os else [])
+new-brought : (lease : ℕ) (before : List Call) (kind : CallKind) (now : ℕ) (c : Client) (n asked : ℤ) (os : List ObjId) →
+    new_pairs lease before (new_call kind now c n asked os) ≡ (if call_counts kind (has_time lease now (calls_of c before)) then pairs_of c os else [])
 unfolding new_pairs
-new-brought lease before Dirty now c n os = refl
-new-brought lease before Weak now c n os = refl
-new-brought lease before Strong now c n os = refl
+new-brought lease before Dirty now c n asked os = refl
+new-brought lease before Weak now c n asked os = refl
+new-brought lease before Strong now c n asked os = refl
 
 -- THE PAIRS THAT ARE REMEMBERED AFTER A CALL are counted.
-pub pairs-counted : (lease m : ℕ) (table : LeaseTable) (calls : List Call) (kind : CallKind) (now : ℕ) (c : Client) (n : ℤ) (os : List ObjId) → m ≤ now → StandsFor lease table m calls → is_in_order table.entries ≡ true →
-    pairs_with_call lease calls (new_call kind now c n os) ≡ pairs_after now table.entries c kind os
-pairs-counted lease m table calls kind now c n os le s order =
+pub pairs-counted : (lease m : ℕ) (table : LeaseTable) (calls : List Call) (kind : CallKind) (now : ℕ) (c : Client) (n asked : ℤ) (os : List ObjId) → m ≤ now → StandsFor lease table m calls → is_in_order table.entries ≡ true →
+    pairs_with_call lease calls (new_call kind now c n asked os) ≡ pairs_after now table.entries c kind os
+pairs-counted lease m table calls kind now c n asked os le s order =
     ap (λ l. length (distinct same_pair (pairs lease now calls ++ l)))
-    (new-brought lease calls kind now c n os ∙ ap (λ b. if call_counts kind b then pairs_of c os else []) (time-left lease m now (entry_of table.entries c) (calls_of c calls) le (s.each c)))
+    (new-brought lease calls kind now c n asked os ∙ ap (λ b. if call_counts kind b then pairs_of c os else []) (time-left lease m now (entry_of table.entries c) (calls_of c calls) le (s.each c)))
     ∙ go (call_counts kind (has_time_left now (entry_of table.entries c)))
   where
     once : AllByRecursion (λ e. each_once e.objects ≡ true) table.entries

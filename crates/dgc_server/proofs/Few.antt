@@ -1,6 +1,6 @@
 -- How many clients have time left, as time passes and after a call.
 use Rattle.std.proofs.Common.{◌≡◌, ℕ, ◌+◌, ◌≤◌, List, [], ◌∷◌, length, refl, ap, sym, ◌∙◌, arith, cond, map, suc}
-use Rattle.std.specs.Prelude.{ℤ, Bool, true, false, IsTrue, filter, nat_lt, if◌then◌else◌}
+use Rattle.std.specs.Prelude.{ℤ, Bool, true, false, IsTrue, filter, max, nat_lt, if◌then◌else◌}
 use Rattle.std.specs.Ordering.{is_lt, is_eq}
 use Rattle.std.specs.declared.cmp.Ordering.{Ordering}
 use Rattle.std.specs.declared.cmp.Ordering.TheVariants.{Less, Equal, Greater}
@@ -139,7 +139,7 @@ few-noted m time lease kind c n os es most le order few room =
 
     clean : (k : CallKind) → is_dirty_kind k ≡ false → length (filter (has_time_left time) (with_entry (entry_after lease k n os time (entry_of es c)) es)) ≤ most
     clean k d =
-        let same_time : has_time_left time (entry_after lease k n os time (entry_of es c)) ≡ has_time_left time (entry_of es c) = ap (λ b. nat_lt time (if b then time + lease else (entry_of es c).until)) d in
+        let same_time : has_time_left time (entry_after lease k n os time (entry_of es c)) ≡ has_time_left time (entry_of es c) = ap (λ b. nat_lt time (if b then max (time + lease) (entry_of es c).until else (entry_of es c).until)) d in
         let e = same (length (filter (has_time_left time) (with_entry (entry_after lease k n os time (entry_of es c)) es))) (length (filter (has_time_left time) es)) (has_time_left time (entry_of es c))
         (counted k ∙ ap (λ b. length (filter (has_time_left time) es) + (if b then 1 else 0)) same_time) in
         let f = fewer (has_time_left time) (has_time_left m) (λ e x. earlier m time e.until le x) es in

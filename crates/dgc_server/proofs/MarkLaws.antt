@@ -1,6 +1,6 @@
 -- The map from a client's objects to their numbers, as the list of its objects.
 use Rattle.std.proofs.Common.{◌≡◌, ℕ, ◌+◌, ◌-◌, ◌≤◌, ◌<◌, List, [], ◌∷◌, refl, ap, sym, subst, ◌∙◌, arith, cond, length, map, Some, drop, get_or, add-one, suc, zero}
-use Rattle.std.specs.Prelude.{ℤ, Bool, true, false, ◌&&◌, ◌||◌, not, ◌↔◌, IsTrue, is_some, unwrap_or, filter, nat_lt, if◌then◌else◌}
+use Rattle.std.specs.Prelude.{ℤ, Bool, true, false, ◌&&◌, ◌||◌, not, ◌↔◌, IsTrue, is_some, unwrap_or, filter, max, nat_lt, if◌then◌else◌}
 use Rattle.std.specs.List.{list_all}
 use Rattle.std.specs.Map.{lookup, set_value, values_of}
 use Rattle.std.specs.Map.Calls.{RetainsPairs}
@@ -168,8 +168,8 @@ holds-after lease kind n os time from e le some once o = go kind (nat_lt time e.
     other k true f x = ap (λ b. b && dirty k true) (sym (earlier from time e.until le x))
     other k false f x = none k f ∙ sym (ap (λ b. nat_lt from e.until && b) (none k f) ∙ and_false (nat_lt from e.until))
 
-    go : (k : CallKind) (left : Bool) → nat_lt time e.until ≡ left → dirty k left ≡ (nat_lt from (if is_dirty_kind k then time + lease else e.until) && dirty k left)
-    go Dirty left x = ap (λ b. b && dirty Dirty left) (sym (lt-ltb from (time + lease) (omega arith)))
+    go : (k : CallKind) (left : Bool) → nat_lt time e.until ≡ left → dirty k left ≡ (nat_lt from (if is_dirty_kind k then max (time + lease) e.until else e.until) && dirty k left)
+    go Dirty left x = ap (λ b. b && dirty Dirty left) (sym (lt-ltb from (max (time + lease) e.until) (omega arith)))
     go Weak left x = other Weak left refl x
     go Strong left x = other Strong left refl x
 

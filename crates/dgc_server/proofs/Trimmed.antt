@@ -39,6 +39,6 @@ trimmed-lapse k (e ∷ es) = go (is_entry_kept k (entry_after_lapse k e)) refl (
     go false kept rest = rest
 
 -- A call forgets what ended too.
-pub trimmed-noted : (kind : CallKind) (c : Client) (n : ℤ) (os : List ObjId) (time : ℕ) (t u : LeaseTable) → u ≡ table_after kind c n os time t → IsTrimmed u
-trimmed-noted kind c n os time t u same =
-    subst IsTrimmed (sym same) (trimmed-lapse time (with_entry (entry_after t.lease kind n os time (entry_of t.entries c)) t.entries))
+pub trimmed-noted : (granted : ℕ) (kind : CallKind) (c : Client) (n : ℤ) (os : List ObjId) (time : ℕ) (t u : LeaseTable) → u ≡ table_after granted kind c n os time t → IsTrimmed u
+trimmed-noted granted kind c n os time t u same =
+    subst IsTrimmed (sym same) (trimmed-lapse time (with_entry (entry_after granted kind n os time (entry_of t.entries c)) t.entries))

@@ -1,13 +1,13 @@
 -- What is kept of clients without an object stands for their calls as if none had named it.
-use Rattle.std.proofs.Common.{◌≡◌, ℕ, ◌+◌, List, [], ◌∷◌, refl, ap, sym, subst, ◌∙◌, cond, map, None, Some}
-use Rattle.std.specs.Prelude.{ℤ, Bool, true, false, max, ◌&&◌, ◌||◌, not, filter, find, Option, option_map, unwrap_or, if◌then◌else◌}
+use Rattle.std.proofs.Common.{◌≡◌, ℕ, List, [], ◌∷◌, refl, ap, sym, subst, ◌∙◌, cond, map, None}
+use Rattle.std.specs.Prelude.{ℤ, Bool, true, false, max, ◌&&◌, ◌||◌, not, filter, Option, if◌then◌else◌}
 use Rattle.std.specs.List.{list_any}
 use Rattle.object_ids.specs.declared.ids.ObjId.{ObjId}
 use Rattle.object_ids.specs.Client.{Client}
 use Rattle.object_ids.specs.Same.{same_id, same_client}
 use Rattle.object_ids.proofs.Exact.{same_id-equal}
 use Rattle.history.specs.declared.calls.Call.{Call}
-use Rattle.history.specs.Leases.{is_dirty, is_strong, is_naming, lease_end, tenure, calls_of, has_time_left as has_time}
+use Rattle.history.specs.Leases.{is_dirty, is_strong, is_naming, grant_end, lease_end, tenure, calls_of, has_time_left as has_time}
 use Rattle.history.proofs.ListLemmas.{list_any-filter, and_false}
 use Rattle.dgc_server.specs.declared.numbers.Numbers.{Numbers}
 use Rattle.dgc_server.specs.Numbers.{no_numbers, larger}
@@ -51,9 +51,10 @@ unfolding lease_end
 lease_end-without o lease [] = refl
 lease_end-without o lease (x ∷ own) = go (is_dirty x) (lease_end-without o lease own)
   where
-    go : (b : Bool) → unwrap_or (option_map (λ d. d.moment + lease) (find is_dirty (map (without o) own))) 0 ≡ unwrap_or (option_map (λ d. d.moment + lease) (find is_dirty own)) 0 →
-        unwrap_or (option_map (λ d. d.moment + lease) (cond b (Some (without o x)) (find is_dirty (map (without o) own)))) 0 ≡ unwrap_or (option_map (λ d. d.moment + lease) (cond b (Some x) (find is_dirty own))) 0
-    go true r = refl
+    go : (b : Bool) → lease_end lease (map (without o) own) ≡ lease_end lease own →
+        (if b then max (grant_end lease x) (lease_end lease (map (without o) own)) else lease_end lease (map (without o) own))
+        ≡ (if b then max (grant_end lease x) (lease_end lease own) else lease_end lease own)
+    go true r = ap (max (grant_end lease x)) r
     go false r = r
 
 pub tenure-without : (o : ObjId) (lease : ℕ) (own : List Call) → tenure lease (map (without o) own) ≡ map (without o) (tenure lease own)

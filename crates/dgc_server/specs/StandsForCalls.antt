@@ -12,7 +12,7 @@ use Rattle.dgc_server.specs.Numbers.{larger}
 use Rattle.dgc_server.specs.Entry.{ObjectEntry, Entry, numbers_of, has_object, each_has_number, objects_after, has_time_left, is_needed}
 use Rattle.dgc_server.specs.Table.{entry_of, with_entry, after_lapse, remembered_count}
 
--- The duration of a lease, the greatest moment so far, and what is kept of clients.
+-- The configured lease, the greatest moment so far, and what is kept of clients.
 pub record LeaseTable : Type 0 where
   pub lease : ℕ
   pub moment : ℕ
@@ -28,7 +28,7 @@ abbrev pub each_once : List ObjectEntry → Bool
 each_once [] = true
 each_once (e ∷ es) = not (has_object es e.object) && each_once es
 
--- What holds of each table: its leases last from 1 to 2^40 milliseconds, its moments are below 2^62, its clients are in order, each with
+-- What holds of each table: its configured lease is from 1 to 2^40 milliseconds, its moments are below 2^62, its clients are in order, each with
 -- its objects once and some number of each, and few enough of them have time left and few enough pairs are remembered.
 pub record IsSound (lease moment : ℕ) (entries : List Entry) : Type 0 where
   pub some : 1 ≤ lease
@@ -47,18 +47,19 @@ IsTrimmed table = IsTrue (list_all (is_needed table.moment) table.entries)
 
 -- ---- after a call
 
--- What is kept of a client after a call.
+-- What is kept of a client after a call, where a dirty is granted this duration. A dirty that is granted less than is left of the
+-- lease leaves its end.
 abbrev pub entry_after : ℕ → CallKind → ℤ → List ObjId → ℕ → Entry → Entry
-entry_after lease kind n os now e = record e {
-  until = if is_dirty_kind kind then now + lease else e.until;
+entry_after granted kind n os now e = record e {
+  until = if is_dirty_kind kind then max (now + granted) e.until else e.until;
   objects = objects_after (nat_lt now e.until) kind n os e.objects;
 }
 
--- The table after a call.
-abbrev pub table_after : CallKind → Client → ℤ → List ObjId → ℕ → LeaseTable → LeaseTable
-table_after kind c n os now table = record table {
+-- The table after a call, where a dirty is granted this duration.
+abbrev pub table_after : ℕ → CallKind → Client → ℤ → List ObjId → ℕ → LeaseTable → LeaseTable
+table_after granted kind c n os now table = record table {
   moment = now;
-  entries = after_lapse now (with_entry (entry_after table.lease kind n os now (entry_of table.entries c)) table.entries);
+  entries = after_lapse now (with_entry (entry_after granted kind n os now (entry_of table.entries c)) table.entries);
 }
 
 -- ---- the calls
@@ -85,7 +86,7 @@ pub record EntryStands (lease moment : ℕ) (e : Entry) (own : List Call) : Type
   pub strongs : (o : ObjId) → (numbers_of e.objects o).strong ≡ top (is_strong_for o) own
   pub once : IsTrue (each_once e.objects)
 
--- A table stands for these calls, the newest first, where this is the duration of its leases and the greatest moment that it was told.
+-- A table stands for these calls, the newest first, where these are its configured lease and the greatest moment that it was told.
 pub record StandsFor (lease : ℕ) (table : LeaseTable) (moment : ℕ) (calls : List Call) : Type 0 where
   pub is_lease : table.lease ≡ lease
   pub is_moment : table.moment ≡ moment
@@ -93,6 +94,6 @@ pub record StandsFor (lease : ℕ) (table : LeaseTable) (moment : ℕ) (calls : 
 
 -- ---- for the clauses of a table
 
--- This holds for each duration, greatest moment and calls that the table stands for.
+-- This holds for each configured lease, greatest moment and calls that the table stands for.
 abbrev pub ForEachLog : LeaseTable → (ℕ → ℕ → List Call → Type 0) → Type 0
 ForEachLog table P = (lease moment : ℕ) (calls : List Call) → StandsFor lease table moment calls → P lease moment calls

@@ -121,7 +121,7 @@ impl Clients {
         find_in(self.chunks(), client)
     }
 
-    /// Notes a call of a client, by which a lease of this duration begins if it is a dirty, and answers what it changed. The counts and sums are
+    /// Notes a call of a client, by which it is granted a lease of this duration if it is a dirty, and answers what it changed. The counts and sums are
     /// those of the clients' moment. It is refused only for want of memory, and then all is as it was.
     pub fn note(
         &mut self,

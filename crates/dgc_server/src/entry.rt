@@ -1,5 +1,5 @@
 //! What a lease table keeps of one client.
-ghost use Rattle.std.specs.Prelude.{◌≡◌, ◌+◌, ◌<◌, ◌≤◌, ◌^◌, length, IsTrue, IfOk, OnOk, OnErr, true, if◌then◌else◌};
+ghost use Rattle.std.specs.Prelude.{◌≡◌, ◌+◌, ◌<◌, ◌≤◌, ◌^◌, length, max, IsTrue, IfOk, OnOk, OnErr, true, if◌then◌else◌};
 ghost use Rattle.object_ids.specs.declared.ids.ObjId.{ObjId};
 ghost use Rattle.history.specs.Leases.{is_dirty_kind};
 ghost use Rattle.history.specs.declared.limits.TheConstants.{END_OF_TIME, MAX_DURATION_MS};
@@ -148,7 +148,7 @@ impl ClientEntry {
         marks::fresh_count(alloc, &self.kept.objects, named, time < self.until)
     }
 
-    /// Notes a call, by which a lease of this duration begins if it is a dirty. The counts are those of the moment `from`, and change
+    /// Notes a call, by which the client is granted a lease of this duration if it is a dirty. The counts are those of the moment `from`, and change
     /// with what the client holds and names. They note its place in the list of clients. It is refused only for want of memory, and then all
     /// is as it was.
     pub fn note(
@@ -223,12 +223,12 @@ impl ClientEntry {
     }
 }
 
-/// The end of a lease after a call: a dirty moves it.
+/// The end of a lease after a call, where a dirty is granted until `end`: it never falls.
 fn until_after(kind: CallKind, end: u64, until: u64) -> u64
-    ensures { result ≡ (if is_dirty_kind kind then end else until) }
+    ensures { result ≡ (if is_dirty_kind kind then max end until else until) }
 {
     match kind {
-        CallKind::Dirty => end,
+        CallKind::Dirty => end.max(until),
         CallKind::Weak | CallKind::Strong => until,
     }
 }

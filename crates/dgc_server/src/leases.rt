@@ -4,7 +4,7 @@ ghost use Rattle.std.specs.List.{list_any};
 ghost use Rattle.object_ids.specs.declared.ids.ObjId.{ObjId};
 ghost use Rattle.object_ids.specs.Same.{same_id};
 ghost use Rattle.history.specs.declared.limits.TheConstants.{MAX_CLIENTS, MAX_PAIRS, END_OF_TIME, MAX_DURATION_MS};
-ghost use Rattle.history.specs.Leases.{is_dirty_kind, is_held, holders, pairs, lease_rows};
+ghost use Rattle.history.specs.Leases.{is_dirty_kind, grant, is_held, holders, pairs, lease_rows};
 ghost use Rattle.dgc_server.specs.Counts.{dirty_call, clean_call, clean_kind, without, without_all, clients_with_call, pairs_with_call};
 ghost use Rattle.dgc_server.specs.StandsForCalls.{IsSound, IsTrimmed, StandsFor, ForEachLog, table_after};
 ghost use Rattle.dgc_server.specs.HolderIndex.{sums_at};
@@ -15,7 +15,7 @@ use crate::entry::LeaseCall;
 use crate::holders::{Counts, count_of, forget, forget_all, touch_all};
 use crate::table::{self, Sums};
 use crate::{lease_ends, scans};
-use history::{CallKind, LeaseList};
+use history::{CallKind, LeaseList, grant};
 use object_ids::{ObjId, ObjIds, Vmid};
 use std::alloc::{AllocError, Global};
 use std::fmt;
@@ -49,6 +49,7 @@ impl From<AllocError> for LeaseFault {
 /// that the table stands for, the newest first, and of the greatest moment that it was told.
 pub struct Leases {
     alloc: Global,
+    /// The configured lease, in milliseconds.
     lease: u64,
     /// The clients at the greatest moment so far.
     clients: Clients,
@@ -95,7 +96,7 @@ impl Model for Leases {
 }
 
 impl Leases {
-    /// The table of no calls. Each lease lasts for `lease_ms` milliseconds.
+    /// The table of no calls. `lease_ms` is the configured lease in milliseconds, the longest that is granted.
     pub fn fresh(alloc: Global, lease_ms: u64) -> Leases
         requires some { 1 ≤ lease_ms }
         requires short { lease_ms ≤ MAX_DURATION_MS }
@@ -126,38 +127,42 @@ impl Leases {
         self.sums = sums;
     }
 
-    /// Notes a dirty call (Java RMI Specification, chapter 9: `DGC.dirty`), and answers the duration of the
-    /// lease that it grants. Time passes to `now`, as by `lapse`; a moment before the greatest one is read as the
-    /// greatest. After a refusal all is as it was.
+    /// Notes a dirty call (Java RMI Specification, chapter 9: `DGC.dirty`) that asks for a lease of `asked`
+    /// milliseconds, and answers the duration that it grants: from 1 to the configured lease the one that is asked,
+    /// and the configured lease otherwise. The client's lease ends no earlier than before, and no earlier than was
+    /// granted. Time passes to `now`, as by `lapse`; a moment before the greatest one is read as the greatest. After
+    /// a refusal all is as it was.
     pub fn dirty(
         &mut self,
         client: &Vmid,
         number: i64,
+        asked: i64,
         objects: &ObjIds,
         now: u64,
     ) -> Result<u64, LeaseFault>
         requires { now < END_OF_TIME }
         ensures ok { OnOk result (ForEachLog self.old (λ lease moment calls. let time = max now moment in
-            StandsFor lease self.new time (dirty_call time client.now number objects.now ∷ calls))) }
+            StandsFor lease self.new time (dirty_call time client.now number asked objects.now ∷ calls))) }
         ensures freed { OnOk result (IsTrimmed self.new) }
-        ensures granted { IfOk result (λ granted. ForEachLog self.old (λ lease moment calls. granted ≡ lease)) }
+        ensures granted { IfOk result (λ granted. ForEachLog self.old (λ lease moment calls. granted ≡ grant lease asked)) }
 
         // Clients is tested first.
         ensures clients { ForEachLog self.old (λ lease moment calls.
             (result ≡ Err LeaseFault.Clients) ↔ (MAX_CLIENTS < clients_with_call lease (max now moment) calls client.now)) }
         ensures pairs { ForEachLog self.old (λ lease moment calls.
-            let x = dirty_call (max now moment) client.now number objects.now in
+            let x = dirty_call (max now moment) client.now number asked objects.now in
             (result ≡ Err LeaseFault.Pairs)
             ↔ ((clients_with_call lease (max now moment) calls client.now ≤ MAX_CLIENTS) × (MAX_PAIRS < pairs_with_call lease calls x))) }
         ensures err { OnErr result (self.new ≡ self.old) }
     {
+        let granted = grant(self.lease, asked);
         let time = self.time(now);
         let sums = self.sums_by(time);
         if scans::is_past_clients(&self.clients, client, time, sums.leased) {
             return Err(LeaseFault::Clients);
         }
-        self.note(client, &number, objects, CallKind::Dirty, time)?;
-        Ok(self.lease)
+        self.note(client, &number, objects, CallKind::Dirty, granted, time)?;
+        Ok(granted)
     }
 
     /// Notes a clean call (Java RMI Specification, chapter 9: `DGC.clean`). Time passes to `now`, as by `lapse`; a
@@ -180,8 +185,10 @@ impl Leases {
             (result ≡ Err LeaseFault.Pairs) ↔ (MAX_PAIRS < pairs_with_call lease calls x)) }
         ensures err { OnErr result (self.new ≡ self.old) }
     {
+        // A clean is granted nothing; it asks for 0.
+        let granted = grant(self.lease, 0);
         let time = self.time(now);
-        self.note(client, &number, objects, clean_kind(strong), time)
+        self.note(client, &number, objects, clean_kind(strong), granted, time)
     }
 
     /// Whether some client holds an object at this moment. A moment before the greatest one is read as the
@@ -323,21 +330,25 @@ impl Leases {
         scans::sums_by(&self.clients, self.sums, time)
     }
 
-    /// Notes a call at a moment, if the pairs that it brings can be remembered.
+    /// Notes a call at a moment, by which its client is granted a lease of this duration if it is a dirty, if the
+    /// pairs that it brings can be remembered.
     fn note(
         &mut self,
         client: &Vmid,
         number: &i64,
         objects: &ObjIds,
         kind: CallKind,
+        granted: u64,
         time: u64,
     ) -> Result<(), LeaseFault>
+        requires some { 1 ≤ granted }
+        requires short { granted ≤ MAX_DURATION_MS }
         requires early { time < END_OF_TIME }
         requires late { self.old.moment ≤ time }
         requires room { IsTrue (is_dirty_kind kind)
             → clients_after self.old.entries client.now time ≤ MAX_CLIENTS }
         ensures ok { OnOk result (
-            self.new ≡ table_after kind client.now number.now objects.now time self.old) }
+            self.new ≡ table_after granted kind client.now number.now objects.now time self.old) }
         ensures clients { result ≢ Err LeaseFault.Clients }
         ensures pairs { (result ≡ Err LeaseFault.Pairs)
             ↔ (MAX_PAIRS < pairs_after time self.old.entries client.now kind objects.now) }
@@ -357,7 +368,7 @@ impl Leases {
         };
         let noted = self
             .clients
-            .note(self.alloc, &mut self.counts, client, &call, self.lease)?;
+            .note(self.alloc, &mut self.counts, client, &call, granted)?;
         let with = table::sums_with(self.sums, noted.before, noted.after);
         let sums = self.clients.pass(&mut self.counts, with, time);
         self.sums = sums;

@@ -64,7 +64,7 @@ fn place_of(entries: &[ClientEntry], client: &Vmid) -> Result<usize, usize>
     Err(low)
 }
 
-/// Notes a call of a client in the chunk of this index, by which a lease of this duration begins if it is a dirty, and answers what it changed.
+/// Notes a call of a client in the chunk of this index, by which it is granted a lease of this duration if it is a dirty, and answers what it changed.
 /// The counts and sums are those of the moment `from`. It is refused only for want of memory, and then all is as it was.
 pub fn note(
     alloc: Global,

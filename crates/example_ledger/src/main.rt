@@ -107,7 +107,7 @@ fn serve_space<'t, R: Threads + Wait + Sync>(
     requires few { plan.now.count ≤ MAX_LINKS }
     requires host { length (utf plan.now.host) ≤ MAX_HOST_BYTES }
     ensures legal { IfSome result (λ report. IsLegal report.space.configuration report.space.events) }
-    ensures collects { IfSome result (λ report. CollectsEach report.space.configuration [] report.space.events report.space.events) }
+    ensures collects { IfSome result (λ report. CollectsEach report.space.configuration [] [] report.space.events report.space.events report.space.rows) }
 {
     match TurnLock::around(alloc, space) {
         Ok((lock, root)) => Some(serve(rt, alloc, listener, crew, book, lock, root, plan)),

@@ -1,13 +1,13 @@
 -- Holding an object asks of each call only when it came, whose it is, its number, its kind, and whether it names that object.
-use Rattle.std.proofs.Common.{◌≡◌, ℕ, ◌+◌, List, [], ◌∷◌, ◌++◌, refl, ap, sym, ◌∙◌, cond, Some}
-use Rattle.std.specs.Prelude.{Bool, true, false, ◌&&◌, ◌||◌, filter, find, int_lt, nat_lt, if◌then◌else◌, map, option_map, unwrap_or}
+use Rattle.std.proofs.Common.{◌≡◌, ℕ, List, [], ◌∷◌, ◌++◌, refl, ap, sym, ◌∙◌, cond}
+use Rattle.std.specs.Prelude.{Bool, true, false, ◌&&◌, ◌||◌, filter, max, int_lt, nat_lt, if◌then◌else◌, map}
 use Rattle.std.specs.List.{list_any, list_all}
 use Rattle.object_ids.specs.declared.ids.ObjId.{ObjId}
 use Rattle.object_ids.specs.Client.{Client, client_cmp}
 use Rattle.object_ids.specs.Same.{same_client}
 use Rattle.history.specs.Lists.{in_order}
 use Rattle.history.specs.declared.calls.Call.{Call}
-use Rattle.history.specs.Leases.{is_dirty, is_strong, is_naming, lease_end, has_time_left, tenure, strong_cleans, counting_calls, highest_is_dirty, holds, is_remembered, calls_of, clients, clients_with_time_left, holders, is_held}
+use Rattle.history.specs.Leases.{is_dirty, is_strong, is_naming, grant_end, lease_end, has_time_left, tenure, strong_cleans, counting_calls, highest_is_dirty, holds, is_remembered, calls_of, clients, clients_with_time_left, holders, is_held}
 use Rattle.history.proofs.LeaseLaws.{highest_is_dirty-scan, is_held-calls}
 
 pub record Alike (o : ObjId) (x y : Call) : Type 0 where
@@ -15,6 +15,7 @@ pub record Alike (o : ObjId) (x y : Call) : Type 0 where
   pub client : x.client ≡ y.client
   pub number : x.number ≡ y.number
   pub kind : x.kind ≡ y.kind
+  pub asked : x.asked ≡ y.asked
   pub naming : is_naming o x ≡ is_naming o y
 
 abbrev pub AllAlike : ObjId → List Call → List Call → Type 0
@@ -25,7 +26,7 @@ AllAlike o (x ∷ xs) [] = ⊥
 
 pub AllAlike-self : (o : ObjId) (xs : List Call) → AllAlike o xs xs
 AllAlike-self o [] = tt
-AllAlike-self o (x ∷ xs) = (record { moment = refl; client = refl; number = refl; kind = refl; naming = refl }, AllAlike-self o xs)
+AllAlike-self o (x ∷ xs) = (record { moment = refl; client = refl; number = refl; kind = refl; asked = refl; naming = refl }, AllAlike-self o xs)
 
 pub AllAlike-append : (o : ObjId) (xs ys us vs : List Call) → AllAlike o xs ys → AllAlike o us vs → AllAlike o (xs ++ us) (ys ++ vs)
 AllAlike-append o [] [] us vs a b = b
@@ -71,9 +72,9 @@ unfolding lease_end
 lease_end-alike o lease [] [] a = refl
 lease_end-alike o lease (x ∷ xs) (y ∷ ys) a = rw (is_dirty-alike o x y a.0) (go (is_dirty y) (lease_end-alike o lease xs ys a.1))
   where
-    go : (b : Bool) → unwrap_or (option_map (λ d. d.moment + lease) (find is_dirty xs)) 0 ≡ unwrap_or (option_map (λ d. d.moment + lease) (find is_dirty ys)) 0 →
-        unwrap_or (option_map (λ d. d.moment + lease) (cond b (Some x) (find is_dirty xs))) 0 ≡ unwrap_or (option_map (λ d. d.moment + lease) (cond b (Some y) (find is_dirty ys))) 0
-    go true r = ap (λ n. n + lease) a.0.moment
+    go : (b : Bool) → lease_end lease xs ≡ lease_end lease ys →
+        (if b then max (grant_end lease x) (lease_end lease xs) else lease_end lease xs) ≡ (if b then max (grant_end lease y) (lease_end lease ys) else lease_end lease ys)
+    go true r = rw (a.0.moment, a.0.asked, r) refl
     go false r = r
 lease_end-alike o lease [] (y ∷ ys) a = absurd a
 lease_end-alike o lease (x ∷ xs) [] a = absurd a

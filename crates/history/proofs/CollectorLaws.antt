@@ -1,5 +1,5 @@
 -- The collector's sentence: why an object is kept, and what one event leaves and withdraws.
-use Rattle.std.proofs.Common.{true≢false, ◌≡◌, ℕ, ◌<◌, ◌⊎◌, inl, inr, List, [], ◌∷◌, refl, ap, sym, subst, ◌∙◌, arith, Option, Some, None}
+use Rattle.std.proofs.Common.{true≢false, ◌≡◌, ℕ, ◌<◌, ◌⊎◌, inl, inr, List, [], ◌∷◌, ◌++◌, refl, ap, sym, subst, ◌∙◌, arith, append_assoc, append-nil, Option, Some, None}
 use Rattle.std.specs.Prelude.{Bool, true, false, ◌||◌, ◌↔◌, filter, not, nat_lt, is_some, if◌then◌else◌}
 use Rattle.std.specs.List.{list_any}
 use Rattle.std.proofs.lemmas.Bool.{ltb-true, lt-ltb, and_parts, or_left, or_right}
@@ -20,9 +20,9 @@ use Rattle.history.specs.Leases.{lease_end, has_time_left, counting_calls, highe
 use Rattle.history.specs.LeaseCalls.{lease_calls}
 use Rattle.history.specs.Awaiting.{same_returned, until_of, awaits, awaiting_references, is_awaited}
 use Rattle.history.specs.Names.{stands_for, names, is_name_of, is_named}
-use Rattle.history.specs.Table.{is_kept_locally, is_kept, places, withdrawn_objects, with_event}
+use Rattle.history.specs.Table.{is_kept_locally, is_kept, table, places, withdrawn_objects, with_event}
 use Rattle.history.specs.Laws.{SomeConnectionRuns}
-use Rattle.history.specs.Collector.{SomeNameStands, SomeReferenceAwaits, SomeClientHolds, IsNeeded, table_and_exports, Collects}
+use Rattle.history.specs.Collector.{SomeNameStands, SomeReferenceAwaits, SomeClientHolds, IsNeeded, rows_and_exports, rows_after, rows_after_each, Collects, TableCollects}
 use Rattle.history.proofs.ListLemmas.{Somewhere, Somewhere-test, test-Somewhere, witness}
 use Rattle.history.proofs.AwaitingLaws.{returned-equality, awaiting_references-member}
 use Rattle.history.proofs.LeaseLaws.{is_held-calls}
@@ -146,13 +146,28 @@ kept-needed config events x =
 -- ---- one event
 
 goes-push : (config : SpaceConfig) (h : List Event) (e : Event) →
-    withdrawn_objects config (places config (with_event h e)) ≡ filter (λ x. not (is_kept config (places config (with_event h e)) x)) (table_and_exports config h e)
+    withdrawn_objects config (places config (with_event h e)) ≡ filter (λ x. not (is_kept config (places config (with_event h e)) x)) (rows_and_exports config h (table config (places config h)) e)
 goes-push config h e = rw places-push (withdrawn_objects-place config (places config h) e)
 
 -- THE COLLECTOR at one event.
-pub collects : (config : SpaceConfig) (h : List Event) (e : Event) → Collects config h e (with_event h e)
+pub collects : (config : SpaceConfig) (h : List Event) (e : Event) → TableCollects config h e (with_event h e)
 collects config h e = record { after = refl; stays = table-push config h e; goes = goes-push config h e; kept = kept-needed config (with_event h e) }
 
 -- The same of a history that is known to have the event at its end.
-pub collects-after : (config : SpaceConfig) (h : List Event) (e : Event) (h2 : List Event) → h2 ≡ with_event h e → Collects config h e h2
-collects-after config h e h2 same = let P : List Event → Type 0 = λ g. Collects config h e g in subst P (sym same) (collects config h e)
+pub collects-after : (config : SpaceConfig) (h : List Event) (e : Event) (h2 : List Event) → h2 ≡ with_event h e → TableCollects config h e h2
+collects-after config h e h2 same = let P : List Event → Type 0 = λ g. TableCollects config h e g in subst P (sym same) (collects config h e)
+
+-- A table that has the rows of a history's table, and collects at an event, has those of the table after it.
+pub collected-table : (config : SpaceConfig) (h : List Event) (rows : List Exported) (e : Event) (h2 : List Event) (rows2 : List Exported) →
+    Collects config h rows e h2 rows2 → rows ≡ table config (places config h) → rows2 ≡ table config (places config h2)
+collected-table config h rows e h2 rows2 c same =
+    c.stays ∙ ap (λ l. rows_after config h l e) same ∙ sym (table-push config h e) ∙ ap (λ g. table config (places config g)) (sym c.after)
+
+-- ---- lists of events
+
+-- The rows that events leave of a history's table are those of the table after them.
+pub rows_after_each-table : (config : SpaceConfig) (h events : List Event) → rows_after_each config h (table config (places config h)) events ≡ table config (places config (h ++ events))
+rows_after_each-table config h [] = ap (λ g. table config (places config g)) (sym (append-nil h))
+rows_after_each-table config h (e ∷ events) =
+    ap (λ l. rows_after_each config (with_event h e) l events) (sym (table-push config h e)) ∙ rows_after_each-table config (with_event h e) events
+    ∙ ap (λ g. table config (places config g)) (append_assoc h (e ∷ []) events)

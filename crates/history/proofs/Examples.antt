@@ -8,7 +8,7 @@ use Rattle.history.specs.declared.asks.SpaceConfig.{SpaceConfig}
 use Rattle.history.specs.declared.asks.Event.{Event}
 use Rattle.history.specs.declared.asks.Ask.{Ask}
 use Rattle.history.specs.declared.asks.Ask.TheVariants.{Open, Begin, Finish, Abandon, Dirty, Clean, Ack, Bind, Rebind, Unbind, Lookup, Tick}
-use Rattle.history.specs.Leases.{lease_end, tenure, counting_calls, highest_is_dirty, holds, is_remembered, calls_of, clients, clients_with_time_left, lease_rows, holders, is_held, pairs_with}
+use Rattle.history.specs.Leases.{grant, lease_end, tenure, counting_calls, highest_is_dirty, holds, is_remembered, calls_of, clients, clients_with_time_left, lease_rows, holders, is_held, pairs_with}
 use Rattle.history.specs.Places.{now, ever_exported, exported_count}
 use Rattle.history.specs.Running.{running_calls_by, running_calls, is_running}
 use Rattle.history.specs.Awaiting.{until_of, awaits, references, awaiting_references, awaiting_references_to, is_awaited}
@@ -429,7 +429,7 @@ record Outlines : Type 0 where
       ∷ codes "lease -@0/0/0 until 41" ∷ [])
 
 outlines : Outlines
-unfolding lease_end tenure counting_calls highest_is_dirty holds is_remembered calls_of clients clients_with_time_left lease_rows holders is_held pairs_with now ever_exported exported_count running_calls_by running_calls is_running until_of awaits references awaiting_references awaiting_references_to is_awaited stands_for names names_of is_named lease_calls is_kept_locally is_kept table is_effective exports returned_objects place_of places_back places withdrawn_objects withdrawals units outline digits
+unfolding grant lease_end tenure counting_calls highest_is_dirty holds is_remembered calls_of clients clients_with_time_left lease_rows holders is_held pairs_with now ever_exported exported_count running_calls_by running_calls is_running until_of awaits references awaiting_references awaiting_references_to is_awaited stands_for names names_of is_named lease_calls is_kept_locally is_kept table is_effective exports returned_objects place_of places_back places withdrawn_objects withdrawals units outline digits
 outlines = record {
   outline-late_dirty_takes_no_hold = refl;
   outline-dirty_at_the_end_holds_anew = refl;

@@ -5,6 +5,7 @@ pub mod Equalities
 pub mod Examples
 pub mod LeaseRows
 pub mod GoneLaws
+pub mod GrantLaws
 pub mod KeptSince
 pub mod LeaseLaws
 pub mod ListLemmas

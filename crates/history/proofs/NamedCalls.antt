@@ -28,6 +28,6 @@ named-alike s t o e ys =
     each y false h = off (s y) (t y)
 
 pub call_with-alike : (s t : ObjId → Bool) (o : ObjId) → s o ≡ t o → (moment : ℕ) (a : Ask) → AllAlike o (call_with s moment a) (call_with t moment a)
-call_with-alike s t o e moment (Dirty client number asked objects) = (record { moment = refl; client = refl; number = refl; kind = refl; naming = named-alike s t o e objects }, tt)
-call_with-alike s t o e moment (Clean client number objects strong) = (record { moment = refl; client = refl; number = refl; kind = refl; naming = named-alike s t o e objects }, tt)
+call_with-alike s t o e moment (Dirty client number asked objects) = (record { moment = refl; client = refl; number = refl; kind = refl; asked = refl; naming = named-alike s t o e objects }, tt)
+call_with-alike s t o e moment (Clean client number objects strong) = (record { moment = refl; client = refl; number = refl; kind = refl; asked = refl; naming = named-alike s t o e objects }, tt)
 call_with-alike s t o e moment _ = tt

@@ -7,7 +7,7 @@ use Rattle.history.specs.declared.asks.Ask.TheVariants.{Open, Begin, Finish, Aba
 use Rattle.history.specs.declared.replies.Turn.{Turn}
 use Rattle.history.specs.declared.replies.Reply.{Reply}
 use Rattle.history.specs.declared.replies.Reply.TheVariants.{Opened, Started, NoObject, Finished, NotRunning, Granted, Done, Bound, AlreadyBound, Unbound, NotBound, Found, Names}
-use Rattle.history.specs.Leases.{lease_end, tenure, counting_calls, highest_is_dirty, holds, calls_of, clients, is_held}
+use Rattle.history.specs.Leases.{grant, lease_end, tenure, counting_calls, highest_is_dirty, holds, calls_of, clients, is_held}
 use Rattle.history.specs.Places.{now, ever_exported, exported_count}
 use Rattle.history.specs.Running.{running_calls_by, running_calls, is_running}
 use Rattle.history.specs.Awaiting.{until_of, awaits, references, awaiting_references, is_awaited}
@@ -110,7 +110,7 @@ record Turns : Type 0 where
       ∷ turn 8 Done [] ∷ []
 
 the_turns : Turns
-unfolding lease_end tenure counting_calls highest_is_dirty holds calls_of clients is_held now ever_exported exported_count running_calls_by running_calls is_running until_of awaits references awaiting_references is_awaited stands_for names is_named lease_calls is_kept_locally is_kept table is_effective exports returned_objects place_of places_back places withdrawn_objects withdrawals reply unreported_objects gone_objects turns
+unfolding grant lease_end tenure counting_calls highest_is_dirty holds calls_of clients is_held now ever_exported exported_count running_calls_by running_calls is_running until_of awaits references awaiting_references is_awaited stands_for names is_named lease_calls is_kept_locally is_kept table is_effective exports returned_objects place_of places_back places withdrawn_objects withdrawals reply unreported_objects gone_objects turns
 the_turns = record {
   turns-late_dirty_takes_no_hold = refl;
   turns-registry = refl;

@@ -1,6 +1,7 @@
 -- What the collector keeps and withdraws at one event (Java RMI Specification, chapter 9): the sentence that the other definitions
--- come to, with each reason to keep an object in its own words.
-use Rattle.std.specs.Prelude.{◌≡◌, ℕ, ◌<◌, ◌↔◌, ◌⊎◌, true, not, List, ◌++◌, filter, Some}
+-- come to, with each reason to keep an object in its own words. It speaks of the rows of any table, those before the event and those
+-- after it, so that a table which keeps what it should drop doesn't meet it.
+use Rattle.std.specs.Prelude.{◌≡◌, ℕ, ◌<◌, ◌↔◌, ◌⊎◌, true, not, List, [], ◌∷◌, ◌++◌, filter, Some}
 use Rattle.object_ids.specs.declared.ids.Uid.{Uid}
 use Rattle.object_ids.specs.declared.ids.ObjId.{ObjId}
 use Rattle.object_ids.specs.Client.{Client}
@@ -44,14 +45,28 @@ IsNeeded config h x =
 
 -- ---- one event
 
--- The objects of the table before an event, and those that it exports.
-abbrev pub table_and_exports : SpaceConfig → List Event → Event → List Exported
-table_and_exports config h e = table config (places config h) ++ (place_of config (places config h) e).exported_here
+-- The rows of a table before an event, and the objects that it exports.
+abbrev pub rows_and_exports : SpaceConfig → List Event → List Exported → Event → List Exported
+rows_and_exports config h rows e = rows ++ (place_of config (places config h) e).exported_here
 
--- After the event e, with which the history h becomes h2, the table has those of them that are kept, and the others are withdrawn; an
--- object is kept exactly where there is a reason to.
-pub record Collects (config : SpaceConfig) (h : List Event) (e : Event) (h2 : List Event) : Type 0 where
+-- The rows of the table after the event: those of them that are kept.
+abbrev pub rows_after : SpaceConfig → List Event → List Exported → Event → List Exported
+rows_after config h rows e = filter (is_kept config (places config (with_event h e))) (rows_and_exports config h rows e)
+
+-- The rows after a list of events, one event after the other.
+abbrev pub rows_after_each : SpaceConfig → List Event → List Exported → List Event → List Exported
+rows_after_each config h rows [] = rows
+rows_after_each config h rows (e ∷ events) = rows_after_each config (with_event h e) (rows_after config h rows e) events
+
+-- With the event e the history h becomes h2, and a table of exported objects that had the rows `rows` has the rows `rows2`: of those rows, and of
+-- the objects that e exports, it keeps the ones that are kept, and the others are what is withdrawn. An object is kept exactly where there is a
+-- reason to.
+pub record Collects (config : SpaceConfig) (h : List Event) (rows : List Exported) (e : Event) (h2 : List Event) (rows2 : List Exported) : Type 0 where
   pub after : h2 ≡ with_event h e
-  pub stays : table config (places config h2) ≡ filter (is_kept config (places config h2)) (table_and_exports config h e)
-  pub goes : withdrawn_objects config (places config h2) ≡ filter (λ x. not (is_kept config (places config h2) x)) (table_and_exports config h e)
+  pub stays : rows2 ≡ rows_after config h rows e
+  pub goes : withdrawn_objects config (places config h2) ≡ filter (λ x. not (is_kept config (places config h2) x)) (rows_and_exports config h rows e)
   pub kept : (x : Exported) → (is_kept config (places config h2) x ≡ true) ↔ IsNeeded config (places config h2) x
+
+-- The same of the tables of the two histories.
+abbrev pub TableCollects : SpaceConfig → List Event → Event → List Event → Type 0
+TableCollects config h e h2 = Collects config h (table config (places config h)) e h2 (table config (places config h2))

@@ -1,5 +1,5 @@
 -- What the definitions of a history, which go by its newest place, say of the whole history.
-use Rattle.std.specs.Prelude.{◌≡◌, ℕ, ◌+◌, ◌<◌, ◌↔◌, Bool, true, not, List, [], ◌∷◌, length, reverse, ◌&&◌, ◌||◌, nat_lt, nat_le, filter, find, filter_map, map, is_none, Option, Some, option_and_then, option_map, unwrap_or, slice_get, sum_by, ◌==◌}
+use Rattle.std.specs.Prelude.{◌≡◌, ℕ, ◌+◌, ◌<◌, ◌≤◌, ℤ, pos, ◌↔◌, Bool, true, not, List, [], ◌∷◌, length, reverse, ◌&&◌, ◌||◌, nat_lt, nat_le, filter, find, filter_map, map, is_none, Option, Some, option_and_then, option_map, unwrap_or, slice_get, sum_by, ◌==◌}
 use Rattle.std.specs.List.{list_all, list_any}
 use Rattle.object_ids.specs.declared.ids.Uid.{Uid}
 use Rattle.object_ids.specs.declared.ids.ObjId.{ObjId}
@@ -8,6 +8,8 @@ use Rattle.history.specs.declared.asks.Event.{Event}
 use Rattle.history.specs.declared.places.Place.{Place}
 use Rattle.history.specs.declared.places.Exported.{Exported}
 use Rattle.history.specs.declared.places.Returned.{Returned}
+use Rattle.history.specs.declared.calls.Call.{Call}
+use Rattle.history.specs.Leases.{grant, lease_end, is_dirty}
 use Rattle.history.specs.Lists.{distinct, option_any}
 use Rattle.history.specs.Places.{History, has, ever_exported, id_at, exported_count}
 use Rattle.history.specs.Running.{begins_call, ends_call, begins_any, ends_any, running_calls_by, running_calls, is_running}
@@ -54,6 +56,24 @@ awaits_since_return ack t h r = option_any (λ p. nat_lt t (p.moment + ack) && n
 abbrev pub AwaitsSinceReturn : SpaceConfig → List Event → Type 0
 AwaitsSinceReturn config events =
     (ack t : ℕ) (r : Returned) → awaits ack t (places config events) r ≡ awaits_since_return ack t (places config events) r
+
+-- ---- leases: the greatest end of what was granted
+
+-- No call shortens the lease of its client.
+abbrev pub LeaseNeverFalls : Type 0
+LeaseNeverFalls = (lease : ℕ) (x : Call) (own : List Call) → lease_end lease own ≤ lease_end lease (x ∷ own)
+
+-- After a dirty the lease lasts at least as long as the dirty was granted.
+abbrev pub LeaseLastsAsGranted : Type 0
+LeaseLastsAsGranted =
+    (lease : ℕ) (x : Call) (own : List Call) → is_dirty x ≡ true → x.moment + grant lease x.asked ≤ lease_end lease (x ∷ own)
+
+-- No more than the configured lease is granted, and where it is asked that one.
+abbrev pub GrantIsWithin : Type 0
+GrantIsWithin = (lease : ℕ) (asked : ℤ) → grant lease asked ≤ lease
+
+abbrev pub ConfiguredIsGranted : Type 0
+ConfiguredIsGranted = (lease : ℕ) → grant lease (pos lease) ≡ lease
 
 -- ---- names: by their last changes
 

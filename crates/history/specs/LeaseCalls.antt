@@ -1,5 +1,5 @@
 -- The lease calls of a history (Java RMI Specification, chapter 9: DGC).
-use Rattle.std.specs.Prelude.{ℕ, Bool, List, [], ◌∷◌, ◌++◌, filter, if◌then◌else◌}
+use Rattle.std.specs.Prelude.{ℕ, pos, Bool, List, [], ◌∷◌, ◌++◌, filter, if◌then◌else◌}
 use Rattle.object_ids.specs.declared.ids.ObjId.{ObjId}
 use Rattle.history.specs.declared.calls.Call.{Call}
 use Rattle.history.specs.declared.calls.CallKind.TheVariants.{Dirty as DirtyCall, Weak, Strong}
@@ -10,9 +10,9 @@ use Rattle.history.specs.Places.{History, has, ever_exported}
 -- The lease call of an ask, with those of its objects that pass a test; none where it is no Dirty or Clean.
 abbrev pub call_with : (ObjId → Bool) → ℕ → Ask → List Call
 call_with names moment (Dirty client number asked objects) =
-    record { moment = moment; client = client; number = number; objects = filter names objects; kind = DirtyCall } ∷ []
+    record { moment = moment; client = client; number = number; objects = filter names objects; kind = DirtyCall; asked = asked } ∷ []
 call_with names moment (Clean client number objects strong) =
-    record { moment = moment; client = client; number = number; objects = filter names objects; kind = if strong then Strong else Weak } ∷ []
+    record { moment = moment; client = client; number = number; objects = filter names objects; kind = if strong then Strong else Weak; asked = pos 0 } ∷ []
 call_with names moment _ = []
 
 -- The lease calls of a history, the newest first. A call names those of its objects that were exported before it.

@@ -1,6 +1,6 @@
 -- The leases of the collector's clients (Java RMI Specification, chapter 9: the interface DGC), over lists of lease calls with the
 -- newest first: what follows a `∷` is what came before. Moments are in milliseconds and don't go back.
-use Rattle.std.specs.Prelude.{ℕ, ◌+◌, Bool, true, false, not, if◌then◌else◌, List, [], ◌∷◌, ◌++◌, map, ◌&&◌, ◌||◌, nat_lt, filter, find, flat_map, int_lt, Option, option_map, unwrap_or}
+use Rattle.std.specs.Prelude.{ℕ, ℤ, pos, negsuc, ◌+◌, max, Bool, true, false, not, if◌then◌else◌, List, [], ◌∷◌, ◌++◌, map, ◌&&◌, ◌||◌, nat_lt, nat_le, filter, flat_map, int_lt}
 use Rattle.std.specs.List.{list_any}
 use Rattle.std.specs.Ordering.{int_eq}
 use Rattle.object_ids.specs.declared.ids.ObjId.{ObjId}
@@ -37,23 +37,32 @@ is_strong x = is_strong_kind x.kind
 abbrev pub is_naming : ObjId → Call → Bool
 is_naming o x = list_any (λ y. same_id y o) x.objects
 
+-- ---- the duration of a lease
+
+-- The duration that is granted where one is asked and the configured lease is `lease`: from 1 to the configured lease the one that is
+-- asked, and the configured lease otherwise.
+unfoldable pub grant : ℕ → ℤ → ℕ
+grant lease (pos asked) = if nat_lt 0 asked && nat_le asked lease then asked else lease
+grant lease (negsuc n) = lease
+
+-- The moment at which what is granted to a dirty ends.
+abbrev pub grant_end : ℕ → Call → ℕ
+grant_end lease d = d.moment + grant lease d.asked
+
 -- ---- the calls of one client: `own` has no others
 
--- The last dirty. One without objects counts.
-abbrev pub last_dirty : List Call → Option Call
-last_dirty own = find is_dirty own
-
--- The moment at which the lease ends, which is the last dirty's and the duration of a lease; 0 where there is no dirty.
+-- The moment at which the lease ends: the greatest at which what was granted to a dirty ends, and 0 where there is no dirty. So a
+-- dirty never shortens a lease. One without objects counts.
 unfoldable pub lease_end : ℕ → List Call → ℕ
-lease_end lease own = unwrap_or (option_map (λ d. d.moment + lease) (last_dirty own)) 0
+lease_end lease [] = 0
+lease_end lease (x ∷ before) = if is_dirty x then max (grant_end lease x) (lease_end lease before) else lease_end lease before
 
 -- The client has time left at the moment t where its lease ends later.
 abbrev pub has_time_left : ℕ → ℕ → List Call → Bool
 has_time_left lease t own = nat_lt t (lease_end lease own)
 
 -- The tenure: the calls from the last dirty on that came while the client had no time left. That is its first dirty, or one that
--- closes a gap, which is two successive dirties that are the duration of a lease or more apart. A clean that comes while the
--- client has no time left is in no tenure.
+-- came when its lease had ended. A clean that comes while the client has no time left is in no tenure.
 unfoldable pub tenure : ℕ → List Call → List Call
 tenure lease [] = []
 tenure lease (x ∷ before) =

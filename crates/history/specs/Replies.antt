@@ -10,6 +10,7 @@ use Rattle.history.specs.declared.replies.Reply.TheVariants.{Opened, Started, No
 use Rattle.history.specs.declared.places.Place.{Place}
 use Rattle.history.specs.declared.places.Exported.{Exported}
 use Rattle.history.specs.Places.{History, has, kind_of, exported_count, id_at}
+use Rattle.history.specs.Leases.{grant}
 use Rattle.history.specs.Names.{names, stands_for}
 use Rattle.history.specs.Table.{table, place_of, withdrawn_objects}
 
@@ -28,7 +29,7 @@ reply_to config h p (Open kind pinned) = Opened (id_at config.uid (exported_coun
 reply_to config h p (Begin object) = if p.effective then Started (kind_of (table config h) object) else NoObject
 reply_to config h p (Finish object made listed uid) = if p.effective then Finished (ids p.exported_here) else NotRunning
 reply_to config h p (Abandon object) = if p.effective then Done else NotRunning
-reply_to config h p (Dirty client number asked objects) = Granted config.lease_ms
+reply_to config h p (Dirty client number asked objects) = Granted (grant config.lease_ms asked)
 reply_to config h p (Clean client number objects strong) = Done
 reply_to config h p (Ack uid) = Done
 reply_to config h p (Bind name object) = if p.effective then Bound else if has (table config h) object then AlreadyBound else NoObject

@@ -12,7 +12,8 @@ use std::alloc::{AllocError, Global};
 /// What a space keeps to from its first event on.
 #[derive(Clone, Copy, Debug, PartialEq, Eq)]
 pub struct SpaceConfig {
-    /// The duration of a lease, from 1 to 2^40 milliseconds.
+    /// The configured lease, from 1 to 2^40 milliseconds: the longest that is granted, and the one that is granted to a
+    /// dirty call that asks for more or for less than 1.
     pub lease_ms: u64,
     /// How long a returned reference awaits its acknowledgement, from 1 to 2^40 milliseconds.
     pub ack_ms: u64,

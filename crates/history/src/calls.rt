@@ -1,5 +1,6 @@
 //! Lease calls: what clients send to the collector.
-ghost use Rattle.std.specs.Prelude.{◌≡◌, IfOk};
+ghost use Rattle.std.specs.Prelude.{◌≡◌, ◌≤◌, IfOk};
+ghost use Rattle.history.specs.Leases as words;
 
 use object_ids::{ObjId, ObjIds, Vmid};
 use sequence::{Same, Sequence, TryCopy};
@@ -27,8 +28,10 @@ pub struct Call {
     pub number: i64,
     /// The objects that it names after their export.
     pub objects: ObjIds,
-    /// What it asks for.
+    /// Its kind.
     pub kind: CallKind,
+    /// The duration for which a dirty asks, in milliseconds; 0 at a clean.
+    pub asked: i64,
 }
 
 // Written out, so that whoever owns one has one call at each exit, and not the drop of each field.
@@ -40,9 +43,24 @@ impl Drop for Call {
             number: _,
             objects,
             kind: _,
+            asked: _,
         } = self;
         drop(client);
         drop(objects);
+    }
+}
+
+/// Returns the duration that a dirty which asks for `asked` milliseconds is granted, where the configured lease is
+/// `lease_ms`: from 1 to the configured lease what it asks for, and the configured lease otherwise.
+#[tactic(auto, unfolding(crate::specs::Leases::grant))]
+pub fn grant(lease_ms: u64, asked: i64) -> u64
+    ensures value { result ≡ words.grant lease_ms asked }
+    ensures some { 1 ≤ lease_ms → 1 ≤ result }
+    ensures within { result ≤ lease_ms }
+{
+    match u64::try_from(asked) {
+        Ok(duration) if 0 < duration && duration <= lease_ms => duration,
+        _ => lease_ms,
     }
 }
 
@@ -60,6 +78,7 @@ impl Call {
             number: self.number,
             objects: self.objects.copy(alloc)?,
             kind: self.kind,
+            asked: self.asked,
         })
     }
 }
@@ -103,5 +122,6 @@ impl Same for Call {
             && self.number == other.number
             && self.objects.is_same(&other.objects)
             && self.kind == other.kind
+            && self.asked == other.asked
     }
 }

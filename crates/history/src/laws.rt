@@ -1,11 +1,11 @@
 //! What the definitions of a history, which go by its newest place, say of whole histories.
-ghost use Rattle.std.specs.Prelude.{List};
+ghost use Rattle.std.specs.Prelude.{◌≡◌, ◌++◌, List};
 ghost use Rattle.history.specs.declared.asks.Event.{Event};
 ghost use Rattle.history.specs.declared.asks.SpaceConfig.{SpaceConfig};
-ghost use Rattle.history.specs.Collector.{Collects};
-ghost use Rattle.history.specs.Laws.{TableIsKept, NextIsCounted, IdsAreInOrder, AwaitsSinceReturn, StandsForLast, NamesInOrder, NamedIsExported, RunningIsCounted, RunningIsSummed, AllRunningIsCounted, RunningIsSome, GoneSinceLast};
+ghost use Rattle.history.specs.Collector.{TableCollects, rows_after_each};
+ghost use Rattle.history.specs.Laws.{LeaseNeverFalls, LeaseLastsAsGranted, GrantIsWithin, ConfiguredIsGranted, TableIsKept, NextIsCounted, IdsAreInOrder, AwaitsSinceReturn, StandsForLast, NamesInOrder, NamedIsExported, RunningIsCounted, RunningIsSummed, AllRunningIsCounted, RunningIsSome, GoneSinceLast};
 ghost use Rattle.history.specs.Places.{History};
-ghost use Rattle.history.specs.Table.{with_event};
+ghost use Rattle.history.specs.Table.{places, table, with_event};
 
 /// The table has those objects that are kept at every prefix of the history from their export on.
 pub fn the_table_is_what_was_kept_since_its_export()
@@ -23,6 +23,15 @@ pub fn objects_are_numbered_as_exported()
 /// acknowledgement has come.
 pub fn a_reference_awaits_since_its_last_return()
     ensures { (config : SpaceConfig) (events : List Event) → AwaitsSinceReturn config events }
+{}
+
+/// No lease call shortens a lease. After a dirty it lasts at least as long as the dirty was granted, which is never more
+/// than the configured lease, and is the configured lease where the dirty asks for it.
+pub fn a_lease_never_falls()
+    ensures falls { LeaseNeverFalls }
+    ensures lasts { LeaseLastsAsGranted }
+    ensures within { GrantIsWithin }
+    ensures configured { ConfiguredIsGranted }
 {}
 
 /// A name stands for what the last effective Bind, Rebind or Unbind of it says, and the names stand in the order of
@@ -53,5 +62,11 @@ pub fn what_is_gone_was_withdrawn_since_the_last_turn()
 
 /// One event: the table keeps those of its objects, and of the exported ones, that there is a reason to keep, and the others are withdrawn.
 pub fn the_collector_keeps_what_is_needed()
-    ensures { (config : SpaceConfig) (h : List Event) (e : Event) → Collects config h e (with_event h e) }
+    ensures { (config : SpaceConfig) (h : List Event) (e : Event) → TableCollects config h e (with_event h e) }
+{}
+
+/// Lists of events: the rows that events leave of a history's table, one event after the other, are those of the table after them.
+pub fn the_table_is_what_each_event_leaves()
+    ensures { (config : SpaceConfig) (h events : List Event) →
+        rows_after_each config h (table config (places config h)) events ≡ table config (places config (h ++ events)) }
 {}

@@ -12,7 +12,7 @@ pub mod places;
 pub mod replies;
 
 pub use asks::{Ask, Event, EventList, SpaceConfig};
-pub use calls::{Call, CallKind, CallList, LeaseList, LeaseRow, Pair, PairList};
+pub use calls::{Call, CallKind, CallList, LeaseList, LeaseRow, Pair, PairList, grant};
 pub use limits::Limits;
 pub use names::{Name, NameTooLong};
 pub use places::{

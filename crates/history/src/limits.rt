@@ -15,7 +15,7 @@ pub const MAX_PAIRS: u64 = 262_144;
 pub const MAX_NAMES: u64 = 4_096;
 /// The most units of a history, those reserved for running calls included.
 pub const MAX_HISTORY_UNITS: u64 = 4_194_304;
-/// The longest lease and the longest time to acknowledge, in milliseconds. The shortest is 1.
+/// The longest configured lease and the longest time to acknowledge, in milliseconds. The shortest is 1.
 pub const MAX_DURATION_MS: u64 = 1 << 40;
 /// Each event's moment is below this one, in milliseconds.
 pub const END_OF_TIME: u64 = 1 << 62;

@@ -18,7 +18,7 @@ pub enum Reply {
     Finished(ObjIds),
     /// To a Finish or an Abandon: the connection runs no call of the object.
     NotRunning,
-    /// To a Dirty: the duration of the lease, in milliseconds.
+    /// To a Dirty: the duration that is granted, in milliseconds.
     Granted(u64),
     /// To an Abandon, a Clean, an Ack or a Tick.
     Done,

@@ -1,5 +1,5 @@
 //! Leases, computed from slices of lease calls with the newest first. `own` has the calls of one client alone.
-ghost use Rattle.std.specs.Prelude.{◌≡◌, ◌+◌, ◌∷◌, nat_lt, filter, flat_map, IfOk};
+ghost use Rattle.std.specs.Prelude.{◌≡◌, ◌∷◌, filter, flat_map, IfOk};
 ghost use Rattle.std.specs.List.{list_any};
 ghost use Rattle.object_ids.specs.Client.{client_cmp};
 ghost use Rattle.history.specs.Lists.{with_item};
@@ -7,7 +7,7 @@ ghost use Rattle.history.specs.Leases as words;
 
 use crate::same::equal_clients;
 use history::equality::equal_ids;
-use history::{Call, CallKind, Pair};
+use history::{Call, CallKind, Pair, grant};
 use object_ids::{ObjId, Vmid};
 use sequence::TryCopy;
 use std::alloc::{AllocError, Global};
@@ -33,11 +33,11 @@ fn is_naming(object: ObjId, x: &Call) -> bool
     x.objects.as_slice().iter().any(|y| equal_ids(*y, object))
 }
 
-/// Whether a lease that began with this call lasts at a moment.
-fn lasts(lease: u64, time: u64, x: &Call) -> bool
-    ensures { result ≡ nat_lt time (x.now.moment + lease) }
+/// Returns the moment at which what a dirty was granted ends.
+fn grant_end(lease: u64, x: &Call) -> u128
+    ensures { result ≡ words.grant_end lease x.now }
 {
-    u128::from(time) < u128::from(x.moment) + u128::from(lease)
+    u128::from(x.moment) + u128::from(grant(lease, x.asked))
 }
 
 fn is_higher(x: &Call, y: &Call) -> bool
@@ -48,21 +48,29 @@ fn is_higher(x: &Call, y: &Call) -> bool
 
 // ---- the calls of one client
 
-/// Whether the client has time left at a moment.
+/// Returns the moment at which the client's lease ends, 0 where it sent no dirty.
 #[tactic(auto, unfolding(history::specs::Leases::lease_end))]
-pub fn has_time_left(lease: u64, time: u64, own: &[Call]) -> bool
-    ensures { result ≡ words.has_time_left lease time own.now }
+pub fn lease_end(lease: u64, own: &[Call]) -> u128
+    ensures { result ≡ words.lease_end lease own.now }
 {
     match own {
-        [] => false,
+        [] => 0,
         [x, before @ ..] => {
+            let end = lease_end(lease, before);
             if is_dirty(x) {
-                lasts(lease, time, x)
+                grant_end(lease, x).max(end)
             } else {
-                has_time_left(lease, time, before)
+                end
             }
         }
     }
+}
+
+/// Whether the client has time left at a moment.
+pub fn has_time_left(lease: u64, time: u64, own: &[Call]) -> bool
+    ensures { result ≡ words.has_time_left lease time own.now }
+{
+    u128::from(time) < lease_end(lease, own)
 }
 
 /// The tenure of the client.

@@ -30,7 +30,7 @@ pub fn call_with(
         Ask::Dirty {
             client,
             number,
-            asked: _,
+            asked,
             objects,
         } => Ok(Some(Call {
             moment,
@@ -38,6 +38,7 @@ pub fn call_with(
             number: *number,
             objects: ObjIds::from_vec(known_objects(alloc, exported, objects.as_slice())?),
             kind: CallKind::Dirty,
+            asked: *asked,
         })),
         Ask::Clean {
             client,
@@ -54,6 +55,7 @@ pub fn call_with(
             } else {
                 CallKind::Weak
             },
+            asked: 0,
         })),
         _ => Ok(None),
     }

@@ -13,7 +13,9 @@ use crate::places::{exported_count, has, ids, kind_of};
 use crate::table::{place_of, places, stands, table, withdrawn_objects};
 use history::asks::is_abandon;
 use history::places::id_at;
-use history::{Ask, Event, Exported, Limits, Place, Refused, Reply, SpaceConfig, Turn, Withdrawal};
+use history::{
+    Ask, Event, Exported, Limits, Place, Refused, Reply, SpaceConfig, Turn, Withdrawal, grant,
+};
 use object_ids::{ObjId, ObjIds};
 use sequence::NameList;
 use std::alloc::{AllocError, Global};
@@ -74,9 +76,9 @@ fn reply_to(
         Ask::Dirty {
             client: _,
             number: _,
-            asked: _,
+            asked,
             objects: _,
-        } => Ok(Reply::Granted(config.lease_ms)),
+        } => Ok(Reply::Granted(grant(config.lease_ms, *asked))),
         Ask::Bind { name: _, object } => Ok(reply_to_bind(objects, p.effective, *object)),
         Ask::Rebind { name: _, object: _ } => Ok(reply_to_rebind(p.effective)),
         Ask::Unbind { name: _ } => Ok(reply_to_unbind(p.effective)),

@@ -1,5 +1,5 @@
 -- Calls, from what was read of their heads and their arguments.
-use Rattle.std.proofs.Common.{◌≡◌, ℕ, ◌-◌, eqb, List, [], ◌∷◌, length, Some, Result, Ok, Err, refl, sym, ap, subst, ◌∙◌, inl, inr}
+use Rattle.std.proofs.Common.{◌≡◌, ℕ, ◌-◌, eqb, List, [], ◌∷◌, ◌++◌, length, Some, Result, Ok, Err, refl, sym, ap, subst, ◌∙◌, inl, inr}
 use Rattle.wire_io.specs.Pulled.{PullState}
 use Rattle.class_desc.specs.declared.field.TypeCode.{TypeCode}
 use Rattle.class_desc.specs.declared.slot.Item.{Item}
@@ -25,7 +25,7 @@ use Rattle.ser_read.proofs.InOrder.{takes_asked}
 use Rattle.jrmp_frames.specs.declared.head.CallHead.{CallHead}
 use Rattle.jrmp_frames.specs.declared.arguments.Arguments.{Arguments}
 use Rattle.jrmp_frames.specs.Messages.{head_bytes, wants_of}
-use Rattle.jrmp_frames.specs.Calls.{head_at, ReadsHead, ReadsArguments, TakesCall}
+use Rattle.jrmp_frames.specs.Calls.{front_at, head_at, ReadsHead, ReadsArguments, TakesCall}
 use Rattle.jrmp_frames.proofs.Heads.{some_bytes}
 
 -- ---- what the arguments' wants gave
@@ -38,9 +38,10 @@ pub record Given (ws : List Want) (head : List ℕ) (answers whole : List Item) 
   pub left : without_front 34 whole ≡ Some (joined answers)
   pub all : whole ≡ joined (items.Bytes head ∷ answers)
 
-given_parts : (end : ℕ) (ws : List Want) (s : Stand) (bs head : List ℕ) (y : Whole) → serve_to_close end ws s bs ≡ Ok y → length head ≡ 34 → s.items ≡ items.Bytes head ∷ [] → Given ws head y.0 y.2
+-- Wants that were served up to the end gave what fits them, and their items are behind those that stood before.
+pub served_whole : (end : ℕ) (ws : List Want) (s : Stand) (bs : List ℕ) (raw : List Item) (y : Whole) → serve_to_close end ws s bs ≡ Ok y → s.items ≡ joined raw → Fits ws y.0 × (y.2 ≡ joined (raw ++ y.0))
 unfolding serve_to_close close_at
-given_parts end ws s bs head y e long stood =
+served_whole end ws s bs raw y e stood =
     let a = want_ok (serve end ws s bs) (λ x. close_at (end - length x.2) x.1 ▸ λ g. Ok (x.0, g.0, g.1, x.2)) y e in
     let c = want_ok (close_at (end - length a.0.2) a.0.1) (λ g. Ok (a.0.0, g.0, g.1, a.0.2)) y a.2 in
     elim (chosen (eqb a.0.1.block 0) _ _ _ c.1) [
@@ -48,13 +49,18 @@ given_parts end ws s bs head y e long stood =
       | inl p ↦ (
           let one : (a.0.1.progress.nodes, a.0.1.items) ≡ c.0 = given_is (a.0.1.progress.nodes, a.0.1.items) c.0 p.1 in
           let two : (a.0.0, c.0.0, c.0.1, a.0.2) ≡ y = given_is (a.0.0, c.0.0, c.0.1, a.0.2) y c.2 in
-          let is = serve_items end ws s bs a.0 a.1 (items.Bytes head ∷ []) (stood ∙ sym (some_bytes head long)) in
-          let all : c.0.1 ≡ joined (items.Bytes head ∷ a.0.0) = ap (λ (g : List Node × List Item). g.1) (sym one) ∙ is in
-          let left : without_front 34 c.0.1 ≡ Some (joined a.0.0) =
-          ap (without_front 34) all ∙ ap (λ n. without_front n (put_block head (joined a.0.0))) (sym long) ∙ front_undone head (joined a.0.0) (joined_joined a.0.0) in
-          let mine : Given ws head a.0.0 c.0.1 = record { fits = serve_fits end ws s bs a.0 a.1; left = left; all = all } in
-          subst (λ (y : Whole). Given ws head y.0 y.2) two mine)
+          let is : c.0.1 ≡ joined (raw ++ a.0.0) = ap (λ (g : List Node × List Item). g.1) (sym one) ∙ serve_items end ws s bs a.0 a.1 raw stood in
+          subst (λ (y : Whole). Fits ws y.0 × (y.2 ≡ joined (raw ++ y.0))) two (serve_fits end ws s bs a.0 a.1, is))
     ]
+
+given_parts : (end : ℕ) (ws : List Want) (s : Stand) (bs head : List ℕ) (y : Whole) → serve_to_close end ws s bs ≡ Ok y → length head ≡ 34 → s.items ≡ items.Bytes head ∷ [] → Given ws head y.0 y.2
+given_parts end ws s bs head y e long stood =
+    let (fits, all) = served_whole end ws s bs (items.Bytes head ∷ []) y e (stood ∙ sym (some_bytes head long)) in
+    record {
+      fits = fits;
+      left = ap (without_front 34) all ∙ ap (λ n. without_front n (put_block head (joined y.0))) (sym long) ∙ front_undone head (joined y.0) (joined_joined y.0);
+      all = all;
+    }
 
 pub parameters_given : {p q : PullState} (ws : List Want) (s : Stand) (head : List ℕ) (answers : List Item) (nodes : List Node) (whole : List Item) → length head ≡ 34 → s.items ≡ items.Bytes head ∷ []
     → Reads (inside short) p q (λ end. serve_to_close end ws s) (λ rest. (answers, nodes, whole, rest)) → Given ws head answers whole
@@ -65,16 +71,16 @@ parameters_given ws s head answers nodes whole long stood r = given_parts _ ws s
 abbrev pub headed : List ℕ → Result Whole WantFault → Result Whole WantFault
 headed b read = read ▸ λ y. Ok (items.Bytes b ∷ y.0, y.1, y.2, y.3)
 
-abbrev Serving : Type 0
+abbrev pub Serving : Type 0
 Serving = Result (List Item × Stand × List ℕ) WantFault
 
-abbrev closed : ℕ → Serving → Result Whole WantFault
+abbrev pub closed : ℕ → Serving → Result Whole WantFault
 closed end r = r ▸ λ x. close_at (end - length x.2) x.1 ▸ λ g. Ok (x.0, g.0, g.1, x.2)
 
-abbrev served : List ℕ → Serving → Serving
+abbrev pub served : List ℕ → Serving → Serving
 served b r = r ▸ λ xs. Ok (items.Bytes b ∷ xs.0, xs.1, xs.2)
 
-regroup : (end : ℕ) (b : List ℕ) (r : Serving) → closed end (served b r) ≡ headed b (closed end r)
+pub regroup : (end : ℕ) (b : List ℕ) (r : Serving) → closed end (served b r) ≡ headed b (closed end r)
 regroup end b (Err f) = refl
 regroup end b (Ok x) = go (close_at (end - length x.2) x.1)
   where
@@ -82,12 +88,17 @@ regroup end b (Ok x) = go (close_at (end - length x.2) x.1)
     go (Err f) = refl
     go (Ok g) = refl
 
+-- Bytes are read in front, and then what is wanted behind them.
+pub front_then : (n end : ℕ) (ws : List Want) (bs b rest : List ℕ) (s : Stand) → front_at n end bs ≡ Ok (b, s, rest) → wants_at end (wanted.Bytes n ∷ ws) bs ≡ headed b (serve_to_close end ws s rest)
+unfolding wants_at serve_to_close serve want_at
+front_then n end ws bs b rest s e =
+    let m = lifted_ok (magic_at end (0xAC ∷ 0xED ∷ 0x00 ∷ 0x05 ∷ []) bs) (bytes_at end n nothing_read) (b, s, rest) e in
+    rw m.1 (rw m.2 (regroup end b (serve end ws s rest)))
+
 -- A head is read, and then what is wanted behind it.
 pub head_then : (end : ℕ) (ws : List Want) (bs b rest : List ℕ) (s : Stand) → head_at end bs ≡ Ok (b, s, rest) → wants_at end (wanted.Bytes 34 ∷ ws) bs ≡ headed b (serve_to_close end ws s rest)
-unfolding head_at wants_at serve_to_close serve want_at
-head_then end ws bs b rest s e =
-    let m = lifted_ok (magic_at end (0xAC ∷ 0xED ∷ 0x00 ∷ 0x05 ∷ []) bs) (bytes_at end 34 nothing_read) (b, s, rest) e in
-    rw m.1 (rw m.2 (regroup end b (serve end ws s rest)))
+unfolding head_at
+head_then end ws bs b rest s e = front_then 34 end ws bs b rest s e
 
 head_fails : (end : ℕ) (ws : List Want) (bs : List ℕ) (f : WantFault) → head_at end bs ≡ Err f → wants_at end (wanted.Bytes 34 ∷ ws) bs ≡ Err f
 unfolding head_at wants_at serve_to_close serve want_at

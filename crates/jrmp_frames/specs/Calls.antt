@@ -1,4 +1,5 @@
 -- What reading a call does.
+use Rattle.wire_io.specs.Wire.{ReadHalf}
 use Rattle.std.specs.Prelude.{◌≡◌, ◌≤◌, ℕ, List, [], ◌∷◌, length, Option, None, Result, Ok, Err}
 use Rattle.wire_io.specs.Pulled.{PullState, Takes}
 use Rattle.wire_io.specs.declared.pull.Pull.{Pull}
@@ -16,9 +17,13 @@ use Rattle.jrmp_frames.specs.declared.fault.FrameFault.{FrameFault}
 use Rattle.jrmp_frames.specs.declared.fault.FrameFault.TheVariants.{Stream}
 use Rattle.jrmp_frames.specs.Messages.{head_bytes, want_of, wants_of, arg_of, args_of, CallBytes}
 
--- The head of a call behind its code, as it is read: the magic number and the version, and then 34 bytes of block data
+-- what a message's stream begins with, as it is read: the magic number and the version, and then so many bytes of block data
+abbrev pub front_at : ℕ → ℕ → List ℕ → Result (List ℕ × Stand × List ℕ) WantFault
+front_at n end bs = lift_fault (magic_at end (0xAC ∷ 0xED ∷ 0x00 ∷ 0x05 ∷ []) bs) ▸ bytes_at end n nothing_read
+
+-- The head of a call behind its code, as it is read: 34 bytes
 unfoldable pub head_at : ℕ → List ℕ → Result (List ℕ × Stand × List ℕ) WantFault
-head_at end bs = lift_fault (magic_at end (0xAC ∷ 0xED ∷ 0x00 ∷ 0x05 ∷ []) bs) ▸ bytes_at end 34 nothing_read
+head_at end bs = front_at 34 end bs
 
 -- ---- what is answered
 
@@ -67,7 +72,7 @@ CausedIn {A} before after (Err (Stream fault)) = Caused {A = A} before after (Er
 CausedIn before after _ = before ≤ after
 
 -- Where the bytes are told, a call answers what reading gives of those to come.
-abbrev pub GivesIn : {S X Y : Type 0} → (S → Option (List ℕ)) → Pull S → Pull S → Result X FrameFault → (ℕ → List ℕ → Result Y WantFault) → (X → List ℕ → Y) → Type 0
-GivesIn left old new (Ok x) read out = IsTold left old → read (env left old).end (coming left old) ≡ Ok (out x (coming left new))
-GivesIn left old new (Err (Stream fault)) read out = IsTold left old → WantFails (env left old).after fault (read (env left old).end (coming left old))
-GivesIn left old new (Err _) read out = ⊥
+abbrev pub GivesIn : {S X Y : Type 0} → (S → ReadHalf) → Pull S → Pull S → Result X FrameFault → (ℕ → List ℕ → Result Y WantFault) → (X → List ℕ → Y) → Type 0
+GivesIn half old new (Ok x) read out = IsTold half old → read (env half old).end (coming half old) ≡ Ok (out x (coming half new))
+GivesIn half old new (Err (Stream fault)) read out = IsTold half old → WantFails (env half old).after fault (read (env half old).end (coming half old))
+GivesIn half old new (Err _) read out = ⊥

@@ -37,7 +37,7 @@ GivesHeader old new (Ok protocol) = Takes old new (header protocol)
 GivesHeader old new (Err (BadHeader at)) = (k : ℕ) × (bytes : List ℕ) × (at ≡ old.at + k) × BreaksHeader k bytes × Takes old new bytes
 GivesHeader old new (Err (UnknownProtocol byte)) = IsNoProtocol byte × Takes old new (header_start ++ byte ∷ [])
 GivesHeader old new (Err (Stream fault)) = StopsIn IsInHeader old new fault
-GivesHeader old new (Err (BadMessage byte at)) = ⊥
+GivesHeader old new (Err _) = ⊥
 
 -- What skipping an endpoint does.
 abbrev pub GivesEndpoint : {A : Type 0} → PullState → PullState → Result A FrameFault → Type 0

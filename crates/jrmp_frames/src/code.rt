@@ -22,7 +22,7 @@ pub enum Code {
 ///
 /// None comes exactly at the end of input, `BadMessage` exactly at another byte than `50`, `52` and `54`.
 pub fn read_code<S: Source>(pull: &mut Pull<'_, S>) -> Result<Option<Code>, FrameFault>
-    ensures gives { GivesCode (pull_state S.left S.faults pull.old) (pull_state S.left S.faults pull.new) result }
+    ensures gives { GivesCode (pull_state S.half pull.old) (pull_state S.half pull.new) result }
     ensures lent { pull.new.source.ghost_name ≡ pull.old.source.ghost_name }
 {
     let at = pull.at;

@@ -13,6 +13,8 @@ pub enum FrameFault {
     UnknownProtocol { byte: u8 },
     /// The byte at this position begins no message.
     BadMessage { byte: u8, at: u64 },
+    /// The byte at this position stands in the place of a return's kind, and is neither `01` nor `02`.
+    BadKind { byte: u8, at: u64 },
     /// A stream could not be read, or no byte came where one was wanted.
     Stream(StreamFault),
 }

@@ -1,6 +1,7 @@
 //! The header of a connection.
 ghost use Rattle.std.specs.Prelude.{◌≡◌};
 ghost use Rattle.wire_io.specs.Pulled.{pull_state};
+ghost use Rattle.jrmp_frames.specs.Frames.{header};
 ghost use Rattle.jrmp_frames.specs.Gives.{GivesHeader};
 
 use crate::fault::FrameFault;
@@ -24,7 +25,7 @@ const START: [u8; 6] = [0x4A, 0x52, 0x4D, 0x49, 0, 2];
 /// `BadHeader` comes exactly at the first byte that differs from `JRMI` and version 2, `UnknownProtocol` exactly where
 /// the seventh byte is neither `4B` nor `4C`.
 pub fn read_header<S: Source>(pull: &mut Pull<'_, S>) -> Result<Protocol, FrameFault>
-    ensures gives { GivesHeader (pull_state S.left S.faults pull.old) (pull_state S.left S.faults pull.new) result }
+    ensures gives { GivesHeader (pull_state S.half pull.old) (pull_state S.half pull.new) result }
     ensures lent { pull.new.source.ghost_name ≡ pull.old.source.ghost_name }
 {
     for wanted in START {
@@ -37,5 +38,16 @@ pub fn read_header<S: Source>(pull: &mut Pull<'_, S>) -> Result<Protocol, FrameF
         0x4B => Ok(Protocol::Stream),
         0x4C => Ok(Protocol::SingleOp),
         byte => Err(FrameFault::UnknownProtocol { byte }),
+    }
+}
+
+/// The bytes with which a client begins a connection: `JRMI`, the version, which is 2, and the byte of the protocol that it wants.
+/// It takes no memory.
+pub fn header_bytes(protocol: Protocol) -> [u8; 7]
+    ensures { result ≡ header protocol }
+{
+    match protocol {
+        Protocol::Stream => [0x4A, 0x52, 0x4D, 0x49, 0, 2, 0x4B],
+        Protocol::SingleOp => [0x4A, 0x52, 0x4D, 0x49, 0, 2, 0x4C],
     }
 }

@@ -9,13 +9,15 @@ pub mod head;
 pub mod header;
 pub mod laws;
 pub mod message;
+pub mod returns;
 pub mod uid;
 
 pub use arguments::{Arg, ArgList, Arguments, read_arguments, read_parameters};
 pub use code::{Code, read_code};
-pub use endpoint::{ack_bytes, skip_endpoint};
+pub use endpoint::{ack_bytes, endpoint_bytes, skip_endpoint};
 pub use fault::FrameFault;
 pub use head::{CallHead, read_head};
-pub use header::{Protocol, read_header};
+pub use header::{Protocol, header_bytes, read_header};
 pub use message::{Body, call_bytes, return_bytes};
+pub use returns::read_return;
 pub use uid::{dgc_ack_bytes, read_uid};

@@ -11,7 +11,7 @@ use wire_io::source::Source;
 
 /// Reads an identifier, as it stands in an acknowledgement of the collector: 14 bytes, whatever they are. It takes no memory.
 pub fn read_uid<S: Source>(pull: &mut Pull<'_, S>) -> Result<Uid, FrameFault>
-    ensures gives { GivesUid (pull_state S.left S.faults pull.old) (pull_state S.left S.faults pull.new) result }
+    ensures gives { GivesUid (pull_state S.half pull.old) (pull_state S.half pull.new) result }
     ensures lent { pull.new.source.ghost_name ≡ pull.old.source.ghost_name }
 {
     let mut bytes = [0; 14];

@@ -5,14 +5,17 @@ ghost use Rattle.mod_utf.specs.Decoding.{front, two, three, decoded_units, IsUnr
 
 use sequence::Units;
 use std::alloc::Global;
+use thiserror::Error;
 
 /// Why bytes are not read as a text.
-#[derive(Clone, Copy, Debug, PartialEq, Eq)]
+#[derive(Clone, Copy, Debug, PartialEq, Eq, Error)]
 pub enum UtfFault {
     /// The bytes spell no text: from this place on, counted from 0, no unit is spelled, and those before it spell
     /// whole units.
+    #[error("no text from byte {at} on")]
     BadUtf { at: usize },
     /// There was no memory.
+    #[error("out of memory")]
     OutOfMemory,
 }
 

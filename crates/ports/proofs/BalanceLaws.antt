@@ -21,8 +21,9 @@ use Rattle.space.specs.declared.asked.AskedEnd.TheVariants.{Turned, Abandoned, R
 use Rattle.space.specs.Acts.{event_of}
 use Rattle.ports.specs.Balance.{AreOfOthers, WentAlone, CallsAddUp, BalancedLeavesNone}
 use Rattle.ports.specs.Ports.{begins_with, begins, ends_with, ends, GoesBy}
+use Rattle.space.proofs.AbandonLaws.{runs-effective}
 use Rattle.space.proofs.NotedLaws.{taken-turn, refused-turn}
-use Rattle.ports.proofs.TieSteps.{agree-begins, agree-ends, own-begins, own-ends, no-begins, no-ends, none-of, runs-effective}
+use Rattle.ports.proofs.TieSteps.{agree-begins, agree-ends, own-begins, own-ends, no-begins, no-ends, none-of}
 
 -- ---- one event
 
@@ -75,7 +76,7 @@ entry-runs config by h m a (Turned turn) next o g =
     subst P (sym two.0) (subst Q (sym two.1)
     (taken-runs config by h m a o (begins_with o a (Turned (turn_of config h (event_of by m a)))) (ends_with o a (Turned (turn_of config h (event_of by m a)))) (agree-begins config h by m a o) (agree-ends config h by m a o)))
 entry-runs config by h m a (Denied refused) next o g =
-    let same = ap (λ es. running_calls_by (places config es) by o) (refused-turn config h next (event_of by m a) refused g).1 in
+    let same = ap (λ es. running_calls_by (places config es) by o) (refused-turn config h next (event_of by m a) refused g.1).1 in
     let one = ap one_if (no-begins refused a o) in let other = ap one_if (no-ends refused a o) in
     omega (arith, same, one, other)
 entry-runs config by h m (Abandon x) (Abandoned place) next o g =

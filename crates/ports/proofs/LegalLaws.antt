@@ -14,7 +14,7 @@ use Rattle.ports.specs.Ports.{GoesBy}
 -- One entry.
 one-legal : (config : SpaceConfig) (by : ℕ) (h next : List Event) (moment : ℕ) (ask : Ask) (end : AskedEnd) → IsLegal config h → GoesBy config by h moment ask end next → IsLegal config next
 one-legal config by h next moment ask (Turned turn) legal step = IsLegal-step config h next (event_of by moment ask) (Ok turn) legal step
-one-legal config by h next moment ask (Denied refused) legal step = IsLegal-step config h next (event_of by moment ask) (Err refused) legal step
+one-legal config by h next moment ask (Denied refused) legal gave = IsLegal-step config h next (event_of by moment ask) (Err refused) legal gave.1
 one-legal config by h next moment ask (Abandoned place) legal gave = IsLegal-step config h next (event_of by moment ask) (Ok (turn_of config h (event_of by moment ask))) legal gave.2
 
 pub went-stays-legal : WentStaysLegal

@@ -1,7 +1,6 @@
 -- How one more turn leaves a port tied to its space.
-use Rattle.std.proofs.Common.{◌≡◌, ℕ, ◌+◌, ◌<◌, ◌≤◌, List, [], ◌∷◌, ◌++◌, length, refl, ap, sym, subst, ◌∙◌, arith, Ok, Err, length-append}
-use Rattle.std.specs.Prelude.{Result, Bool, true, false, ◌&&◌, filter, if◌then◌else◌}
-use Rattle.std.proofs.lemmas.Bool.{lt-ltb}
+use Rattle.std.proofs.Common.{◌≡◌, ◌≢◌, ℕ, ◌+◌, ◌<◌, ◌≤◌, List, [], ◌∷◌, ◌++◌, length, refl, ap, sym, subst, ◌∙◌, arith, inl, inr, Ok, Err, length-append, append-nil}
+use Rattle.std.specs.Prelude.{Result, Bool, true, false, ◌⊎◌, ◌&&◌, filter, if◌then◌else◌}
 use Rattle.std.proofs.lemmas.Bool.Decides.{Decides-eqb}
 use Rattle.std.specs.List.{list_any}
 use Rattle.object_ids.specs.declared.ids.ObjId.{ObjId}
@@ -12,6 +11,7 @@ use Rattle.history.specs.declared.asks.Event.{Event}
 use Rattle.history.specs.declared.asks.Ask.{Ask}
 use Rattle.history.specs.declared.asks.Ask.TheVariants.{Begin, Finish, Abandon}
 use Rattle.history.specs.declared.replies.Refused.{Refused}
+use Rattle.history.specs.declared.replies.Refused.TheVariants.{HistoryFull, Full, OutOfMemory}
 use Rattle.history.specs.declared.replies.Reply.TheVariants.{Started, NoObject, Finished, NotRunning, Done}
 use Rattle.history.specs.declared.replies.Turn.{Turn}
 use Rattle.history.specs.Replies.{reply}
@@ -26,10 +26,11 @@ use Rattle.space.specs.declared.asked.Asked.{Asked}
 use Rattle.space.specs.declared.asked.AskedEnd.TheVariants.{Turned, Refused as Denied}
 use Rattle.space.specs.Acts.{event_of}
 use Rattle.space.specs.Built.{SpaceHistory}
-use Rattle.space.specs.Entries.{entry_of}
-use Rattle.ports.specs.Ports.{is_started, is_finished, is_done, begins_with, begins, ends_with, ends, Shows, abandoned_at, GoesBy}
+use Rattle.space.specs.Entries.{end_of, entry_of}
+use Rattle.ports.specs.Ports.{is_started, is_finished, is_done, begins_with, begins, ends_with, ends, Shows, abandoned_at, entries_of, GoesBy}
 use Rattle.space.specs.Runs.{without_first}
-use Rattle.ports.specs.Ties.{is_call_of, IsTied, Leads}
+use Rattle.ports.specs.Ties.{is_call_of, IsTied, IsTiedTold, Leads}
+use Rattle.space.proofs.AbandonLaws.{runs-effective}
 use Rattle.space.proofs.NotedLaws.{taken-turn, refused-turn}
 use Rattle.space.proofs.RunSteps.{count-without, count-last, some-counted, none-counted, length-without, without-none, without-shorter}
 
@@ -126,11 +127,12 @@ own-ends config events by m a o = ap (λ v. (is_effective config (places config 
 -- ---- the tie
 
 -- After an event that was taken, where its entry shows what it did.
-tied-next : (config : SpaceConfig) (events : List Event) (by m : ℕ) (a : Ask) (entries : List Asked) (entry : Asked) (room room2 : ℕ) (t : IsTied by (record { configuration = config; events = events }) entries room) →
-    ((o : ObjId) → begins o entry ≡ (is_effective config (places config events) by a && is_begin_of o a)) → ((o : ObjId) → ends o entry ≡ (is_effective config (places config events) by a && is_end_of o a)) →
-    length entries + 1 + length (next_calls (is_effective config (places config events) by a) a t.calls) ≤ room2 →
-    IsTied by (record { configuration = config; events = events ++ event_of by m a ∷ [] }) (entries ++ entry ∷ []) room2
-tied-next config events by m a entries entry room room2 t bs es fits =
+tied-next : (s s2 : SpaceHistory) (by m : ℕ) (a : Ask) (entries : List Asked) (entry : Asked) (room room2 : ℕ) (t : IsTied by s entries room) →
+    ((o : ObjId) → begins o entry ≡ (is_effective s.configuration (places s.configuration s.events) by a && is_begin_of o a)) → ((o : ObjId) → ends o entry ≡ (is_effective s.configuration (places s.configuration s.events) by a && is_end_of o a)) →
+    length entries + 1 + length (next_calls (is_effective s.configuration (places s.configuration s.events) by a) a t.calls) ≤ room2 →
+    IsTied by (record s2 { configuration = s.configuration; events = s.events ++ event_of by m a ∷ [] }) (entries ++ entry ∷ []) room2
+tied-next s s2 by m a entries entry room room2 t bs es fits =
+    let config = s.configuration in let events = s.events in
     let v = is_effective config (places config events) by a in
     let e = event_of by m a in
     let longer = length-append entries (entry ∷ []) in
@@ -158,10 +160,10 @@ tied-turned by m a s s2 entries room room2 turn t step c big =
     let two = taken-turn s.configuration s.events s2.events (event_of by m a) turn step in
     let more = few-next (is_effective s.configuration (places s.configuration s.events) by a) a t.calls in let few = t.few in
     let P : Turn → Type 0 = λ x. IsTied by s2 (entries ++ record { moment = m; ask = a; end = Turned x } ∷ []) room2 in
-    let C : SpaceConfig → Type 0 = λ g. IsTied by (record { configuration = g; events = s2.events }) (entries ++ record { moment = m; ask = a; end = Turned (turn_of s.configuration s.events (event_of by m a)) } ∷ []) room2 in
-    let E : List Event → Type 0 = λ es. IsTied by (record { configuration = s.configuration; events = es }) (entries ++ record { moment = m; ask = a; end = Turned (turn_of s.configuration s.events (event_of by m a)) } ∷ []) room2 in
+    let C : SpaceConfig → Type 0 = λ g. IsTied by (record s2 { configuration = g }) (entries ++ record { moment = m; ask = a; end = Turned (turn_of s.configuration s.events (event_of by m a)) } ∷ []) room2 in
+    let E : List Event → Type 0 = λ es. IsTied by (record s2 { configuration = s.configuration; events = es }) (entries ++ record { moment = m; ask = a; end = Turned (turn_of s.configuration s.events (event_of by m a)) } ∷ []) room2 in
     subst P (sym two.0) (subst C (sym c) (subst E (sym two.1)
-    (tied-next s.configuration s.events by m a entries (record { moment = m; ask = a; end = Turned (turn_of s.configuration s.events (event_of by m a)) }) room room2 t
+    (tied-next s s2 by m a entries (record { moment = m; ask = a; end = Turned (turn_of s.configuration s.events (event_of by m a)) }) room room2 t
     (λ o. agree-begins s.configuration s.events by m a o) (λ o. agree-ends s.configuration s.events by m a o) (omega (arith, more, few, big)))))
 
 pub none-of : one_if false ≡ 0
@@ -210,19 +212,15 @@ end-fits by s entries room o t h =
     let less = length-without (is_call_of o) t.calls (there t.calls o some) in
     omega (arith, within, less)
 
-pub runs-effective : (config : SpaceConfig) (events : List Event) (by : ℕ) (o : ObjId) → 0 < running_calls_by (places config events) by o → is_effective config (places config events) by (Abandon o) ≡ true
-unfolding is_effective
-runs-effective config events by o r = lt-ltb 0 (running_calls_by (places config events) by o) r
-
 -- AFTER AN END without an answer.
 pub tied-abandoned : (by m : ℕ) (o : ObjId) (s s2 : SpaceHistory) (entries : List Asked) (room : ℕ) (place : ℕ) → IsTied by s entries room → Shows entries o → s2.events ≡ s.events ++ event_of by m (Abandon o) ∷ [] → s2.configuration ≡ s.configuration →
     IsTied by s2 (entries ++ abandoned_at m o place ∷ []) room
 tied-abandoned by m o s s2 entries room place t h e c =
     let eff : is_effective s.configuration (places s.configuration s.events) by (Abandon o) ≡ true = runs-effective s.configuration s.events by o (shown-runs by s entries room o t h) in
-    let C : SpaceConfig → Type 0 = λ g. IsTied by (record { configuration = g; events = s2.events }) (entries ++ abandoned_at m o place ∷ []) room in
-    let E : List Event → Type 0 = λ es. IsTied by (record { configuration = s.configuration; events = es }) (entries ++ abandoned_at m o place ∷ []) room in
+    let C : SpaceConfig → Type 0 = λ g. IsTied by (record s2 { configuration = g }) (entries ++ abandoned_at m o place ∷ []) room in
+    let E : List Event → Type 0 = λ es. IsTied by (record s2 { configuration = s.configuration; events = es }) (entries ++ abandoned_at m o place ∷ []) room in
     subst C (sym c) (subst E (sym e)
-    (tied-next s.configuration s.events by m (Abandon o) entries (abandoned_at m o place) room room t
+    (tied-next s s2 by m (Abandon o) entries (abandoned_at m o place) room room t
     (λ x. sym (and_false (is_effective s.configuration (places s.configuration s.events) by (Abandon o)))) (λ x. ap (λ v. v && same_id o x) (sym eff)) (fits (is_effective s.configuration (places s.configuration s.events) by (Abandon o)) eff)))
   where
     fits : (v : Bool) → v ≡ true → length entries + 1 + length (next_calls v (Abandon o) t.calls) ≤ room
@@ -234,6 +232,11 @@ tied-abandoned by m o s s2 entries room place t h e c =
     fits false w = absurd (cc)
 
 -- ---- how it led on
+
+-- What an event was answered for which there was memory.
+pub goes-answered : (config : SpaceConfig) (by m : ℕ) (a : Ask) (h h2 : List Event) (answer : Result Turn Refused) → answer ≢ Err OutOfMemory → Step config h (event_of by m a) answer h2 → GoesBy config by h m a (end_of answer) h2
+goes-answered config by m a h h2 (Ok turn) known step = step
+goes-answered config by m a h h2 (Err refused) known step = let err : Refused → Result Turn Refused = λ r. Err r in ((λ same. known (ap err same)), step)
 
 pub leads-one : (by : ℕ) (s s2 : SpaceHistory) (entries : List Asked) (entry : Asked) → s2.configuration ≡ s.configuration → GoesBy s.configuration by s.events entry.moment entry.ask entry.end s2.events → Leads by s entries s2 (entries ++ entry ∷ [])
 leads-one by s s2 entries entry c g = record { same = c; more = entry ∷ []; longer = refl; went = (s2.events, g, refl) }
@@ -253,3 +256,58 @@ pub tied-answered : (by m : ℕ) (a : Ask) (s s2 : SpaceHistory) (entries : List
     length entries + (length entries + 2) ≤ room2 → IsTied by s2 (entries ++ entry_of m a answer ∷ []) room2
 tied-answered by m a s s2 entries room room2 (Ok turn) t step c big = tied-turned by m a s s2 entries room room2 turn t step c big
 tied-answered by m a s s2 entries room room2 (Err refused) t step c big = tied-refused by m a s s2 entries room room2 refused t step c big
+
+-- ---- entries in proofs alone
+
+-- Twice the entries are always room.
+pub tied-told : (by : ℕ) (s : SpaceHistory) (entries : List Asked) (room : ℕ) → IsTied by s entries room → IsTiedTold by s entries
+tied-told by s entries room t = let few = t.few in record { calls = t.calls; run = t.run; shown = t.shown; few = few; within = omega (arith, few) }
+
+-- A turn has one entry, or none where there was no memory for it.
+pub entries-or : (m : ℕ) (a : Ask) (answer : Result Turn Refused) → ((answer ≡ Err OutOfMemory) × (entries_of m a answer ≡ [])) ⊎ ((answer ≢ Err OutOfMemory) × (entries_of m a answer ≡ entry_of m a answer ∷ []))
+entries-or m a (Ok turn) = inr ((λ same. cc), refl)
+entries-or m a (Err OutOfMemory) = inl (refl, refl)
+entries-or m a (Err HistoryFull) = inr ((λ same. cc), refl)
+entries-or m a (Err (Full kind)) = inr ((λ same. cc), refl)
+
+-- The space as it was.
+tied-same : (by : ℕ) (s s2 : SpaceHistory) (entries : List Asked) (room : ℕ) → s2.configuration ≡ s.configuration → s2.events ≡ s.events → IsTied by s entries room → IsTied by s2 entries room
+tied-same by s s2 entries room c e t = record {
+  calls = t.calls;
+  run = λ o. (
+      let before = t.run o in let config = ap (λ g. running_calls_by (places g s.events) by o) (sym c) in let events = ap (λ es. running_calls_by (places s2.configuration es) by o) (sym e) in
+      omega (arith, before, config, events));
+  shown = t.shown;
+  few = t.few;
+  within = t.within;
+}
+
+-- After a turn, with its entry if it has one.
+pub tied-told-turn : (by m : ℕ) (a : Ask) (s s2 : SpaceHistory) (entries : List Asked) (answer : Result Turn Refused) → IsTiedTold by s entries → Step s.configuration s.events (event_of by m a) answer s2.events → s2.configuration ≡ s.configuration →
+    IsTiedTold by s2 (entries ++ entries_of m a answer)
+tied-told-turn by m a s s2 entries answer t step c = go (entries-or m a answer)
+  where
+    go : ((answer ≡ Err OutOfMemory) × (entries_of m a answer ≡ [])) ⊎ ((answer ≢ Err OutOfMemory) × (entries_of m a answer ≡ entry_of m a answer ∷ [])) → IsTiedTold by s2 (entries ++ entries_of m a answer)
+    go (inl x) =
+        let same : s2.events ≡ s.events = (refused-turn s.configuration s.events s2.events (event_of by m a) OutOfMemory (subst (λ (x : Result Turn Refused). Step s.configuration s.events (event_of by m a) x s2.events) x.0 step)).1 in
+        subst (λ (l : List Asked). IsTiedTold by s2 l) (sym (ap (λ l. entries ++ l) x.1 ∙ append-nil entries)) (tied-same by s s2 entries (length entries + length entries) c same t)
+    go (inr x) =
+        subst (λ (l : List Asked). IsTiedTold by s2 l) (sym (ap (λ l. entries ++ l) x.1))
+        (tied-told by s2 (entries ++ entry_of m a answer ∷ []) (length entries + (length entries + 2)) (tied-answered by m a s s2 entries (length entries + length entries) (length entries + (length entries + 2)) answer t step c (omega arith)))
+
+pub leads-told : (by m : ℕ) (a : Ask) (s s2 : SpaceHistory) (entries : List Asked) (answer : Result Turn Refused) → Step s.configuration s.events (event_of by m a) answer s2.events → s2.configuration ≡ s.configuration →
+    Leads by s entries s2 (entries ++ entries_of m a answer)
+leads-told by m a s s2 entries answer step c = go (entries-or m a answer)
+  where
+    go : ((answer ≡ Err OutOfMemory) × (entries_of m a answer ≡ [])) ⊎ ((answer ≢ Err OutOfMemory) × (entries_of m a answer ≡ entry_of m a answer ∷ [])) → Leads by s entries s2 (entries ++ entries_of m a answer)
+    go (inl x) =
+        let same : s2.events ≡ s.events = (refused-turn s.configuration s.events s2.events (event_of by m a) OutOfMemory (subst (λ (x : Result Turn Refused). Step s.configuration s.events (event_of by m a) x s2.events) x.0 step)).1 in
+        record { same = c; more = []; longer = ap (λ l. entries ++ l) x.1; went = same }
+    go (inr x) =
+        subst (λ (l : List Asked). Leads by s entries s2 l) (sym (ap (λ l. entries ++ l) x.1))
+        (leads-one by s s2 entries (entry_of m a answer) c (goes-answered s.configuration by m a s.events s2.events answer x.0 step))
+
+-- After an end without an answer.
+pub tied-told-end : (by m : ℕ) (o : ObjId) (s s2 : SpaceHistory) (entries : List Asked) (place : ℕ) → IsTiedTold by s entries → Shows entries o → s2.events ≡ s.events ++ event_of by m (Abandon o) ∷ [] → s2.configuration ≡ s.configuration →
+    IsTiedTold by s2 (entries ++ abandoned_at m o place ∷ [])
+tied-told-end by m o s s2 entries place t h e c = tied-told by s2 (entries ++ abandoned_at m o place ∷ []) (length entries + length entries) (tied-abandoned by m o s s2 entries (length entries + length entries) place t h e c)

@@ -6,3 +6,4 @@ pub mod Legal
 pub mod Ports
 pub mod TieLaws
 pub mod Ties
+pub mod ToldEntries

@@ -1,5 +1,5 @@
 -- What a port's entries show, and how they follow one another.
-use Rattle.std.specs.Prelude.{◌≡◌, ◌<◌, ℕ, Bool, true, false, ◌&&◌, List, [], ◌∷◌, length, filter, Result, Ok, Err}
+use Rattle.std.specs.Prelude.{◌≡◌, ◌≢◌, ◌<◌, ℕ, Bool, true, false, ◌&&◌, List, [], ◌∷◌, length, filter, Result, Ok, Err}
 use Rattle.object_ids.specs.declared.ids.ObjId.{ObjId}
 use Rattle.object_ids.specs.Same.{same_id}
 use Rattle.history.specs.declared.asks.SpaceConfig.{SpaceConfig}
@@ -75,10 +75,10 @@ abbrev pub EndsUnanswered : SpaceConfig → List Event → ℕ → Ask → Type 
 EndsUnanswered config h by (Abandon object) = 0 < running_calls_by (places config h) by object
 EndsUnanswered config h by _ = ⊥
 
--- The entry is what a connection's event was answered after a history, and leaves a history.
+-- The entry is what a connection's event was answered after a history, and leaves a history. A turn for which there was no memory has no entry.
 abbrev pub GoesBy : SpaceConfig → ℕ → List Event → ℕ → Ask → AskedEnd → List Event → Type 0
 GoesBy config by h moment ask (Turned turn) next = Step config h (event_of by moment ask) (Ok turn) next
-GoesBy config by h moment ask (Denied refused) next = Step config h (event_of by moment ask) (Err refused) next
+GoesBy config by h moment ask (Denied refused) next = (refused ≢ OutOfMemory) × Step config h (event_of by moment ask) (Err refused) next
 GoesBy config by h moment ask (Abandoned place) next = EndsUnanswered config h by ask × (place ≡ length h) × Step config h (event_of by moment ask) (Ok (turn_of config h (event_of by moment ask))) next
 
 -- A connection's entries lead from a history to another, one after the other, and no other event comes between.

@@ -21,6 +21,10 @@ pub record IsTied (by : ℕ) (s : SpaceHistory) (entries : List Asked) (room : �
   pub few : length calls ≤ length entries
   pub within : length entries + length calls ≤ room
 
+-- The same of a port whose entries exist in proofs alone: it needs no room for them.
+abbrev pub IsTiedTold : ℕ → SpaceHistory → List Asked → Type 0
+IsTiedTold by s entries = IsTied by s entries (length entries + length entries)
+
 -- A connection's entries are those before and further ones, and these lead from a space's history to its history now.
 pub record Leads (by : ℕ) (s : SpaceHistory) (entries : List Asked) (s_after : SpaceHistory) (entries_after : List Asked) : Type 0 where
   pub same : s_after.configuration ≡ s.configuration

@@ -1,7 +1,7 @@
 -- How a run that served links ends.
 use Rattle.std.proofs.Common.{◌≡◌, ◌≢◌, ℕ, ◌≤◌, List, Option, Result, Ok, Err, refl, ap, sym, ◌∙◌, arith, inl, inr}
 use Rattle.std.specs.Prelude.{false, is_err}
-use Rattle.wire_io.specs.Links.{Listens, with_next}
+use Rattle.wire_io.specs.Links.{Listening, Listens, with_next}
 use Rattle.wire_io.specs.Wire.{Rose}
 use Rattle.conn_server.specs.declared.accept_loop.Stop.{Stop}
 use Rattle.conn_server.specs.declared.accept_loop.Stop.TheVariants as stops
@@ -41,12 +41,12 @@ accept_failed held held2 f f2 text stop end before heard after ends more rose is
     let failed = rose (stopped_so held held2 f f2 text stop end ends is) in (omega (arith, more, failed.0), omega (arith, more, failed.1))
 
 -- A call that listens leaves no fewer failures.
-pub listened : {T E : Type 0} (ports ports2 : Option (List ℕ)) (faults faults2 port : ℕ) (result : Result T E) → Listens ports ports2 faults faults2 port result → faults ≤ faults2
-listened ports ports2 faults faults2 port (Ok done) is = is.1
-listened ports ports2 faults faults2 port (Err failed) is = is.1.0
+pub listened : {T E : Type 0} (old new : Listening) (address : List ℕ) (port : ℕ) (result : Result T E) → Listens old new address port result → old.faults ≤ new.faults
+listened old new address port (Ok done) is = is.1
+listened old new address port (Err failed) is = is.1.0
 
--- One that didn't fail adds its port to what is told.
-pub added : {T E : Type 0} (ports ports2 : Option (List ℕ)) (faults faults2 port : ℕ) (result : Result T E) → is_err result ≡ false → Listens ports ports2 faults faults2 port result →
-    ports2 ≡ with_next ports port
-added ports ports2 faults faults2 port (Ok done) well is = is.0
-added ports ports2 faults faults2 port (Err failed) well is = absurd (cc)
+-- Where a listener listens, its port is the last one that it tells.
+pub added : {T E : Type 0} (old new : Listening) (address : List ℕ) (port : ℕ) (result : Result T E) → is_err result ≡ false → Listens old new address port result →
+    new.ports ≡ with_next old.ports (address, port)
+added old new address port (Ok done) well is = is.0
+added old new address port (Err failed) well is = absurd (cc)

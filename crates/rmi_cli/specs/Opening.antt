@@ -2,7 +2,7 @@
 use Rattle.std.specs.Prelude.{ℕ, ◌%◌, pos, List, slice_index}
 use Rattle.system_objects.specs.declared.setup.TheConstants.{DRAWS_BEGIN_BELOW}
 use Rattle.history.specs.declared.asks.SpaceConfig.{SpaceConfig}
-use Rattle.space.specs.Built.{SpaceHistory}
+use Rattle.space.specs.Built.{SpaceHistory, space_of}
 use Rattle.conn_server.specs.Plans.{low_signed}
 use Rattle.sample_app.specs.Opened.{sample_events}
 use Rattle.rmi_cli.specs.declared.options.LeaseOptions.{LeaseOptions}
@@ -17,4 +17,4 @@ served_space seed options = record {
 
 -- The space as it was opened: an object of each of the sample's kinds, and their names.
 abbrev pub served_opening : List ℕ → LeaseOptions → SpaceHistory
-served_opening seed options = record { configuration = served_space seed options; events = sample_events (served_space seed options) }
+served_opening seed options = space_of (served_space seed options) (sample_events (served_space seed options))

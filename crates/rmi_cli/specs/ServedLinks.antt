@@ -1,7 +1,7 @@
 -- What `rmi serve` does.
 use Rattle.std.specs.Prelude.{◌≡◌, ℕ, ◌<◌, pos, ◌⊎◌, List, length, take, Option, Some, None, IfSome}
-use Rattle.wire_io.specs.Links.{Accepted, with_next}
-use Rattle.wire_io.specs.Wire.{Wires, with_end, Rose}
+use Rattle.wire_io.specs.Links.{Accepted, Listening, with_next}
+use Rattle.wire_io.specs.Wire.{ReadHalf, WriteHalf, Wires, with_end, Rose}
 use Rattle.history.specs.Outline.{outline}
 use Rattle.space.specs.declared.asked.Asked.{Asked}
 use Rattle.sample_app.specs.Does.{May, Moves}
@@ -26,8 +26,8 @@ serve_plan seed serve = record { count = serve.count; host = loopback_host; port
 
 -- What is told of a link whose calls a hand of the sample does, by what its source, its sink and its clock show and by what the server is told. A
 -- hand tells neither its calls nor the numbers, which all hands share.
-abbrev pub IsSampleLink : {I O T R : Type 0} → (I → Option (List ℕ)) → (O → Option (List ℕ)) → (T → Option (List ℕ)) → ServePlan → ℕ → Accepted × Asked → LinkReport I O T (SampleHand R) → Type 0
-IsSampleLink left held given plan = IsLinkOf left held given (λ hand. hand.calls) (λ hand. None) (λ hand. None) May Moves sample_kinds plan
+abbrev pub IsSampleLink : {I O T R : Type 0} → (I → ReadHalf) → (O → WriteHalf) → (T → Option (List ℕ)) → ServePlan → ℕ → Accepted × Asked → LinkReport I O T (SampleHand R) → Type 0
+IsSampleLink read_half write_half given plan = IsLinkOf read_half write_half given (λ hand. hand.calls) (λ hand. None) (λ hand. None) May Moves sample_kinds plan
 
 -- A front of these bytes, and not all, was written.
 abbrev pub WroteLess : Option (List ℕ) → Option (List ℕ) → List ℕ → Type 0
@@ -56,24 +56,15 @@ abbrev pub ServeEnds : {I O T H : Type 0} → Option (List ℕ) → Option (List
 ServeEnds held held_after faults faults_after None end = ((end ≡ ListenFault) ⊎ (end ≡ OutOfMemory)) × (held_after ≡ held)
 ServeEnds held held_after faults faults_after (Some report) end = EndsServed held held_after faults faults_after (outline report.space.configuration report.space.events) report.stop end
 
--- What a listener tells: the ports that it was told to listen on, and the links that it gave.
-pub record ListenerLog : Type 0 where
-  pub ports : Option (List ℕ)
-  pub accepted : Option (List Accepted)
-
--- the same of a listener
-abbrev pub listener_log : {L : Type 0} → (L → Option (List ℕ)) → (L → Option (List Accepted)) → L → ListenerLog
-listener_log ports accepted listener = record { ports = ports listener; accepted = accepted listener }
-
 -- Where links were served this port was listened on, and no other; else none was but this one, and no link was accepted.
-abbrev pub ListensAlone : {R : Type 0} → ℕ → ListenerLog → ListenerLog → Option R → Type 0
-ListensAlone port old new None = ((new.ports ≡ old.ports) ⊎ (new.ports ≡ with_next old.ports port)) × (new.accepted ≡ old.accepted)
-ListensAlone port old new (Some served) = new.ports ≡ with_next old.ports port
+abbrev pub ListensAlone : {R : Type 0} → ℕ → Listening → Listening → Option R → Type 0
+ListensAlone port old new None = ((new.ports ≡ old.ports) ⊎ (new.ports ≡ with_next old.ports (loopback_host, port))) × (new.accepted ≡ old.accepted)
+ListensAlone port old new (Some served) = new.ports ≡ with_next old.ports (loopback_host, port)
 
 -- The run of `serve` by its seed and words, and by what it left as served, which tells of the links' sources and sinks as they are left; and the end
 -- that is told, where the output had failed so often before and after. Nothing was read.
 pub record Serving {I O T H : Type 0} (IsLink : ℕ → Accepted × Asked → LinkReport I O T H → Type 0) (seed : List ℕ) (serve : ServeWords) (served : Option (Report I O T H))
-    (log_before log_after : ListenerLog) (old new : Wires) (faults faults_after : ℕ) (told : Reported) : Type 0 where
+    (log_before log_after : Listening) (old new : Wires) (faults faults_after : ℕ) (told : Reported) : Type 0 where
   pub alone : ListensAlone serve.port log_before log_after served
   pub links : IfSome served (ServesLinks IsLink (served_opening seed serve.options) serve.count log_before.accepted log_after.accepted)
   pub end : RunEnd

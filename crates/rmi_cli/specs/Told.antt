@@ -1,6 +1,6 @@
 -- How the end of a run is told: by the status of the process, and by a line on the errors' sink.
 use Rattle.std.specs.Prelude.{◌≡◌, ◌≢◌, ℕ, ◌<◌, ◌⊎◌, List, [], ◌∷◌, ◌++◌, length, take, Option}
-use Rattle.wire_io.specs.Wire.{with_end, Rose}
+use Rattle.wire_io.specs.Wire.{WriteHalf, with_end, Rose}
 use Rattle.rmi_cli.specs.Line.{line_of, status_of_run}
 use Rattle.rmi_cli.specs.declared.end.RunEnd.{RunEnd}
 use Rattle.rmi_cli.specs.declared.end.RunEnd.TheVariants.{Usage, Answered, Done, BadLine, Refused, TooLarge, NotShown, ListenFault, AcceptFault, ReadFault, WriteFault, OutOfMemory}
@@ -14,9 +14,9 @@ pub record Reported : Type 0 where
   pub faults_after : ℕ
 
 -- the same of a sink
-abbrev pub told_by : {E : Type 0} → (E → Option (List ℕ)) → (E → ℕ) → E → E → ℕ → Reported
-told_by held faults before after status =
-    record { status = status; before = held before; after = held after; faults_before = faults before; faults_after = faults after }
+abbrev pub told_by : {E : Type 0} → (E → WriteHalf) → E → E → ℕ → Reported
+told_by half before after status =
+    record { status = status; before = (half before).held; after = (half after).held; faults_before = (half before).faults; faults_after = (half after).faults }
 
 -- The errors' sink failed after it took exactly a front of these bytes.
 pub record TookFront (told : Reported) (bytes : List ℕ) : Type 0 where

@@ -40,12 +40,12 @@ pub fn answer_input<S: Source, K: Sink, C: Clock>(
 ) -> ConnEnd
     requires { IsInRange options }
     ensures serves { ServesOne seed.now options
-        (wires S.left K.held source.old sink.old) (wires S.left K.held source.new sink.new)
+        (wires S.half K.half source.old sink.old) (wires S.half K.half source.new sink.new)
         (C.given clock.old) (C.given clock.new) result }
     ensures exact { ServesExactly seed.now options
-        (wires S.left K.held source.old sink.old) (wires S.left K.held source.new sink.new) result }
-    ensures read_fault { result ≡ ConnEnd.ReadFault → Rose (S.faults source.old) (S.faults source.new) }
-    ensures write_fault { IsWriteFault result → Rose (K.faults sink.old) (K.faults sink.new) }
+        (wires S.half K.half source.old sink.old) (wires S.half K.half source.new sink.new) result }
+    ensures read_fault { result ≡ ConnEnd.ReadFault → Rose (S.half source.old).faults (S.half source.new).faults }
+    ensures write_fault { IsWriteFault result → Rose (K.half sink.old).faults (K.half sink.new).faults }
 {
     let mut parts = match answer_parts(alloc, seed, options) {
         Ok(parts) => parts,

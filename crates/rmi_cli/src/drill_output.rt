@@ -1,6 +1,7 @@
 //! `drill` and `journal` over the program's output.
 ghost use Rattle.std.specs.Prelude.{◌≡◌, ◌≢◌, ◌≤◌, IfOk, IfErr};
 ghost use Rattle.wire_io.specs.Wire.{Rose};
+ghost use Rattle.space.specs.Built.{space_of};
 ghost use Rattle.drill.specs.Rounds.{drill_config, drill_events};
 ghost use Rattle.rmi_cli.specs.Drilled.{text_of, drill_text, TakesAll, DrillStops, end_of_refused, DrillEnds};
 ghost use Rattle.rmi_cli.specs.Line.{status_of_run};
@@ -25,10 +26,10 @@ pub fn write_drill<K: Sink>(
     rounds: u64,
 ) -> RunEnd
     requires { rounds ≤ MAX_ROUNDS }
-    ensures ends { DrillEnds seed rounds (drill_text text seed rounds) (K.held sink.old) (K.held sink.new) result }
+    ensures ends { DrillEnds seed rounds (drill_text text seed rounds) (K.half sink.old).held (K.half sink.new).held result }
     ensures known { status_of_run result ≢ 1 }
     ensures unread { status_of_run result ≢ 3 }
-    ensures write_fault { status_of_run result ≡ 4 → Rose (K.faults sink.old) (K.faults sink.new) }
+    ensures write_fault { status_of_run result ≡ 4 → Rose (K.half sink.old).faults (K.half sink.new).faults }
 {
     let space = match drilled_space(alloc, seed, rounds) {
         Ok(space) => space,
@@ -47,7 +48,7 @@ pub fn write_drill<K: Sink>(
 /// The space that takes the events of a drill.
 fn drilled_space(alloc: Global, seed: u64, rounds: u64) -> Result<Space, Refused>
     requires { rounds ≤ MAX_ROUNDS }
-    ensures space { IfOk result (λ space. space ≡ record { configuration = drill_config; events = drill_events seed rounds }) }
+    ensures space { IfOk result (λ space. space ≡ space_of drill_config (drill_events seed rounds)) }
     ensures all { IfOk result (λ _. TakesAll seed rounds) }
     ensures refused { IfErr result (DrillStops seed rounds) }
 {

@@ -10,7 +10,7 @@ use crate::numbers::read_duration;
 pub struct LeaseOptions {
     /// Whether clients may bind names.
     pub binding: bool,
-    /// How long a lease lasts, in milliseconds.
+    /// The longest lease that is granted, in milliseconds.
     pub lease_ms: u64,
     /// How long a returned reference is awaited, in milliseconds.
     pub ack_ms: u64,
@@ -30,7 +30,7 @@ pub struct ServeWords {
 /// How many words give options at most.
 const MAX_WORDS: usize = 3;
 
-/// How long a lease lasts where no word says it, in milliseconds.
+/// The longest lease that is granted where no word says it, in milliseconds.
 const LEASE_MS: u64 = 600_000;
 
 /// How long a returned reference is awaited where no word says it, in milliseconds.

@@ -7,7 +7,7 @@ ghost use Rattle.rmi_cli.specs.Drilled.{Drills, DrillsExactly};
 ghost use Rattle.rmi_cli.specs.Limits.{IsInLimits};
 ghost use Rattle.rmi_cli.specs.Line.{status_of_run};
 ghost use Rattle.rmi_cli.specs.Replayed.{ReplaysInput, ReplaysExactly};
-ghost use Rattle.rmi_cli.specs.ServedLinks.{IsSampleLink, Serving, serve_plan, listener_log};
+ghost use Rattle.rmi_cli.specs.ServedLinks.{IsSampleLink, Serving, serve_plan};
 ghost use Rattle.rmi_cli.specs.Shown.{ShowsInput, ShowsExactly};
 ghost use Rattle.rmi_cli.specs.Told.{told_by, TellsExactly, TellsEnd};
 ghost use Rattle.rmi_cli.specs.declared.end.RunEnd.{RunEnd as RunEnds};
@@ -56,21 +56,21 @@ pub fn run<'t, R: Threads + Wait + Sync, I: Source, O: Sink, E: Sink, T: Clock, 
 ) -> u8
     // Other words are no command line.
     ensures usage { (result ≡ 1) ↔ ((command : Commands) → AskFor words.now command → ⊥) }
-    ensures untouched { result ≡ 1 → (I.left host.new.input ≡ I.left host.old.input)
-        × (O.held host.new.output ≡ O.held host.old.output) }
-    ensures usage_line { result ≡ 1 → TellsExactly (told_by E.held E.faults host.old.errors host.new.errors result) RunEnds.Usage }
+    ensures untouched { result ≡ 1 → ((I.half host.new.input).left ≡ (I.half host.old.input).left)
+        × ((O.half host.new.output).held ≡ (O.half host.old.output).held) }
+    ensures usage_line { result ≡ 1 → TellsExactly (told_by E.half host.old.errors host.new.errors result) RunEnds.Usage }
 
     // `answer` serves one connection over a space of its own, on the options that the words give: what was taken, done and written is a dialogue, whose
     // end is told.
     ensures answer { (options : LeaseOptions) → AskFor words.now (Command.Answer options) → Answers host.old.seed options
-        (wires I.left O.held host.old.input host.old.output)
-        (wires I.left O.held host.new.input host.new.output)
+        (wires I.half O.half host.old.input host.old.output)
+        (wires I.half O.half host.new.input host.new.output)
         (T.given host.old.ticks) (T.given host.new.ticks)
-        (told_by E.held E.faults host.old.errors host.new.errors result) }
+        (told_by E.half host.old.errors host.new.errors result) }
     ensures exact { (options : LeaseOptions) → AskFor words.now (Command.Answer options) → AnswersExactly host.old.seed options
-        (wires I.left O.held host.old.input host.old.output)
-        (wires I.left O.held host.new.input host.new.output)
-        (told_by E.held E.faults host.old.errors host.new.errors result) }
+        (wires I.half O.half host.old.input host.old.output)
+        (wires I.half O.half host.new.input host.new.output)
+        (told_by E.half host.old.errors host.new.errors result) }
 
     // `serve` serves the links that are accepted at its port, and at no other, each in a thread, over one space of its own. However these take
     // turns, the one history that is left is legal and goes on from the opening; at each of its events the collector kept what there was a reason to
@@ -78,43 +78,43 @@ pub fn run<'t, R: Threads + Wait + Sync, I: Source, O: Sink, E: Sink, T: Clock, 
     // event is of anybody else. The host has these reports, with the links' sources and sinks as they are left. The outline of that history is written,
     // and the end is told. Nothing is read.
     ensures serves { (serve : ServeWords) → AskFor words.now (Command.Serve serve) → Serving
-        (IsSampleLink L.In.left L.Out.held L.Ticks.given (serve_plan host.old.seed serve))
-        host.old.seed serve host.new.served (listener_log L.ports L.accepted host.old.listener) (listener_log L.ports L.accepted host.new.listener)
-        (wires I.left O.held host.old.input host.old.output)
-        (wires I.left O.held host.new.input host.new.output)
-        (O.faults host.old.output) (O.faults host.new.output)
-        (told_by E.held E.faults host.old.errors host.new.errors result) }
+        (IsSampleLink L.In.half L.Out.half L.Ticks.given (serve_plan host.old.seed serve))
+        host.old.seed serve host.new.served (L.listening host.old.listener) (L.listening host.new.listener)
+        (wires I.half O.half host.old.input host.old.output)
+        (wires I.half O.half host.new.input host.new.output)
+        (O.half host.old.output).faults (O.half host.new.output).faults
+        (told_by E.half host.old.errors host.new.errors result) }
 
     // `replay` takes the whole input as a journal, and writes the outline of the history that it spells, or says why it has none.
     ensures replay { AskFor words.now Command.Replay → ReplaysInput
-        (wires I.left O.held host.old.input host.old.output)
-        (wires I.left O.held host.new.input host.new.output)
-        (told_by E.held E.faults host.old.errors host.new.errors result) }
+        (wires I.half O.half host.old.input host.old.output)
+        (wires I.half O.half host.new.input host.new.output)
+        (told_by E.half host.old.errors host.new.errors result) }
     ensures replay_exact { AskFor words.now Command.Replay → ReplaysExactly
-        (wires I.left O.held host.old.input host.old.output)
-        (wires I.left O.held host.new.input host.new.output)
-        (told_by E.held E.faults host.old.errors host.new.errors result) }
+        (wires I.half O.half host.old.input host.old.output)
+        (wires I.half O.half host.new.input host.new.output)
+        (told_by E.half host.old.errors host.new.errors result) }
 
     // `show` takes the whole input as a stream, and writes the text of its graph, or says at which fault reading it stops.
     ensures show { AskFor words.now Command.Show → ShowsInput
-        (wires I.left O.held host.old.input host.old.output)
-        (wires I.left O.held host.new.input host.new.output)
-        (told_by E.held E.faults host.old.errors host.new.errors result) }
+        (wires I.half O.half host.old.input host.old.output)
+        (wires I.half O.half host.new.input host.new.output)
+        (told_by E.half host.old.errors host.new.errors result) }
     ensures show_exact { AskFor words.now Command.Show → ShowsExactly
-        (wires I.left O.held host.old.input host.old.output)
-        (wires I.left O.held host.new.input host.new.output)
-        (told_by E.held E.faults host.old.errors host.new.errors result) }
+        (wires I.half O.half host.old.input host.old.output)
+        (wires I.half O.half host.new.input host.new.output)
+        (told_by E.half host.old.errors host.new.errors result) }
 
     // `drill` writes the summary of the space that takes the events of a drill, and `journal` its journal, or says that an event is refused.
     // They read nothing.
     ensures drill { (text : DrillTexts) (seed rounds : ℕ) → AskFor words.now (Command.Drill text seed rounds) → Drills text seed rounds
-        (wires I.left O.held host.old.input host.old.output)
-        (wires I.left O.held host.new.input host.new.output)
-        (told_by E.held E.faults host.old.errors host.new.errors result) }
+        (wires I.half O.half host.old.input host.old.output)
+        (wires I.half O.half host.new.input host.new.output)
+        (told_by E.half host.old.errors host.new.errors result) }
     ensures drill_exact { (text : DrillTexts) (seed rounds : ℕ) → AskFor words.now (Command.Drill text seed rounds) → DrillsExactly text seed rounds
-        (wires I.left O.held host.old.input host.old.output)
-        (wires I.left O.held host.new.input host.new.output)
-        (told_by E.held E.faults host.old.errors host.new.errors result) }
+        (wires I.half O.half host.old.input host.old.output)
+        (wires I.half O.half host.new.input host.new.output)
+        (told_by E.half host.old.errors host.new.errors result) }
 
     // No other command asks the clock, none but `serve` the listener or changes what was served, and none changes the seed.
     ensures clock { ((options : LeaseOptions) → AskFor words.now (Command.Answer options) → ⊥) → T.given host.new.ticks ≡ T.given host.old.ticks }
@@ -123,9 +123,9 @@ pub fn run<'t, R: Threads + Wait + Sync, I: Source, O: Sink, E: Sink, T: Clock, 
     ensures seed { host.new.seed ≡ host.old.seed }
 
     // The outside's failures.
-    ensures read_fault { ((serve : ServeWords) → AskFor words.now (Command.Serve serve) → ⊥) → result ≡ 3 → Rose (I.faults host.old.input) (I.faults host.new.input) }
-    ensures network_fault { (serve : ServeWords) → AskFor words.now (Command.Serve serve) → result ≡ 3 → Rose (L.faults host.old.listener) (L.faults host.new.listener) }
-    ensures write_fault { result ≡ 4 → Rose (O.faults host.old.output) (O.faults host.new.output) }
+    ensures read_fault { ((serve : ServeWords) → AskFor words.now (Command.Serve serve) → ⊥) → result ≡ 3 → Rose (I.half host.old.input).faults (I.half host.new.input).faults }
+    ensures network_fault { (serve : ServeWords) → AskFor words.now (Command.Serve serve) → result ≡ 3 → Rose (L.listening host.old.listener).faults (L.listening host.new.listener).faults }
+    ensures write_fault { result ≡ 4 → Rose (O.half host.old.output).faults (O.half host.new.output).faults }
 {
     match words.command() {
         Some(command) => obey(rt, alloc, command, host),
@@ -147,52 +147,52 @@ fn obey<'t, R: Threads + Wait + Sync, I: Source, O: Sink, E: Sink, T: Clock, L: 
     requires limits { IsInLimits command }
     ensures known { result ≢ 1 }
     ensures answer { (options : LeaseOptions) → command ≡ Command.Answer options → Answers host.old.seed options
-        (wires I.left O.held host.old.input host.old.output)
-        (wires I.left O.held host.new.input host.new.output)
+        (wires I.half O.half host.old.input host.old.output)
+        (wires I.half O.half host.new.input host.new.output)
         (T.given host.old.ticks) (T.given host.new.ticks)
-        (told_by E.held E.faults host.old.errors host.new.errors result) }
+        (told_by E.half host.old.errors host.new.errors result) }
     ensures exact { (options : LeaseOptions) → command ≡ Command.Answer options → AnswersExactly host.old.seed options
-        (wires I.left O.held host.old.input host.old.output)
-        (wires I.left O.held host.new.input host.new.output)
-        (told_by E.held E.faults host.old.errors host.new.errors result) }
+        (wires I.half O.half host.old.input host.old.output)
+        (wires I.half O.half host.new.input host.new.output)
+        (told_by E.half host.old.errors host.new.errors result) }
     ensures serves { (serve : ServeWords) → command ≡ Command.Serve serve → Serving
-        (IsSampleLink L.In.left L.Out.held L.Ticks.given (serve_plan host.old.seed serve))
-        host.old.seed serve host.new.served (listener_log L.ports L.accepted host.old.listener) (listener_log L.ports L.accepted host.new.listener)
-        (wires I.left O.held host.old.input host.old.output)
-        (wires I.left O.held host.new.input host.new.output)
-        (O.faults host.old.output) (O.faults host.new.output)
-        (told_by E.held E.faults host.old.errors host.new.errors result) }
+        (IsSampleLink L.In.half L.Out.half L.Ticks.given (serve_plan host.old.seed serve))
+        host.old.seed serve host.new.served (L.listening host.old.listener) (L.listening host.new.listener)
+        (wires I.half O.half host.old.input host.old.output)
+        (wires I.half O.half host.new.input host.new.output)
+        (O.half host.old.output).faults (O.half host.new.output).faults
+        (told_by E.half host.old.errors host.new.errors result) }
     ensures replay { command ≡ Command.Replay → ReplaysInput
-        (wires I.left O.held host.old.input host.old.output)
-        (wires I.left O.held host.new.input host.new.output)
-        (told_by E.held E.faults host.old.errors host.new.errors result) }
+        (wires I.half O.half host.old.input host.old.output)
+        (wires I.half O.half host.new.input host.new.output)
+        (told_by E.half host.old.errors host.new.errors result) }
     ensures replay_exact { command ≡ Command.Replay → ReplaysExactly
-        (wires I.left O.held host.old.input host.old.output)
-        (wires I.left O.held host.new.input host.new.output)
-        (told_by E.held E.faults host.old.errors host.new.errors result) }
+        (wires I.half O.half host.old.input host.old.output)
+        (wires I.half O.half host.new.input host.new.output)
+        (told_by E.half host.old.errors host.new.errors result) }
     ensures show { command ≡ Command.Show → ShowsInput
-        (wires I.left O.held host.old.input host.old.output)
-        (wires I.left O.held host.new.input host.new.output)
-        (told_by E.held E.faults host.old.errors host.new.errors result) }
+        (wires I.half O.half host.old.input host.old.output)
+        (wires I.half O.half host.new.input host.new.output)
+        (told_by E.half host.old.errors host.new.errors result) }
     ensures show_exact { command ≡ Command.Show → ShowsExactly
-        (wires I.left O.held host.old.input host.old.output)
-        (wires I.left O.held host.new.input host.new.output)
-        (told_by E.held E.faults host.old.errors host.new.errors result) }
+        (wires I.half O.half host.old.input host.old.output)
+        (wires I.half O.half host.new.input host.new.output)
+        (told_by E.half host.old.errors host.new.errors result) }
     ensures drill { (text : DrillTexts) (seed rounds : ℕ) → command ≡ Command.Drill text seed rounds → Drills text seed rounds
-        (wires I.left O.held host.old.input host.old.output)
-        (wires I.left O.held host.new.input host.new.output)
-        (told_by E.held E.faults host.old.errors host.new.errors result) }
+        (wires I.half O.half host.old.input host.old.output)
+        (wires I.half O.half host.new.input host.new.output)
+        (told_by E.half host.old.errors host.new.errors result) }
     ensures drill_exact { (text : DrillTexts) (seed rounds : ℕ) → command ≡ Command.Drill text seed rounds → DrillsExactly text seed rounds
-        (wires I.left O.held host.old.input host.old.output)
-        (wires I.left O.held host.new.input host.new.output)
-        (told_by E.held E.faults host.old.errors host.new.errors result) }
+        (wires I.half O.half host.old.input host.old.output)
+        (wires I.half O.half host.new.input host.new.output)
+        (told_by E.half host.old.errors host.new.errors result) }
     ensures clock { ((options : LeaseOptions) → command ≡ Command.Answer options → ⊥) → T.given host.new.ticks ≡ T.given host.old.ticks }
     ensures network { ((serve : ServeWords) → command ≡ Command.Serve serve → ⊥) → host.new.listener ≡ host.old.listener }
     ensures served { ((serve : ServeWords) → command ≡ Command.Serve serve → ⊥) → host.new.served ≡ host.old.served }
     ensures seed { host.new.seed ≡ host.old.seed }
-    ensures read_fault { ((serve : ServeWords) → command ≡ Command.Serve serve → ⊥) → result ≡ 3 → Rose (I.faults host.old.input) (I.faults host.new.input) }
-    ensures network_fault { (serve : ServeWords) → command ≡ Command.Serve serve → result ≡ 3 → Rose (L.faults host.old.listener) (L.faults host.new.listener) }
-    ensures write_fault { result ≡ 4 → Rose (O.faults host.old.output) (O.faults host.new.output) }
+    ensures read_fault { ((serve : ServeWords) → command ≡ Command.Serve serve → ⊥) → result ≡ 3 → Rose (I.half host.old.input).faults (I.half host.new.input).faults }
+    ensures network_fault { (serve : ServeWords) → command ≡ Command.Serve serve → result ≡ 3 → Rose (L.listening host.old.listener).faults (L.listening host.new.listener).faults }
+    ensures write_fault { result ≡ 4 → Rose (O.half host.old.output).faults (O.half host.new.output).faults }
 {
     match command {
         Command::Answer(options) => {
@@ -237,7 +237,7 @@ fn obey<'t, R: Threads + Wait + Sync, I: Source, O: Sink, E: Sink, T: Clock, L: 
 /// memory is told.
 #[tactic(auto, using(crate::proofs::Telling::took))]
 fn report_end<E: Sink>(alloc: Global, errors: &mut E, end: RunEnd) -> u8
-    ensures told { TellsEnd (told_by E.held E.faults errors.old errors.new result) end }
+    ensures told { TellsEnd (told_by E.half errors.old errors.new result) end }
     ensures status { (result ≡ status_of_run end) ⊎ (result ≡ 5) }
 {
     if end.is_silent() {

@@ -11,7 +11,7 @@ ghost use Rattle.sample_app.specs.Kinds.{sample_kinds};
 ghost use Rattle.rmi_cli.specs.Line.{status_of_run};
 ghost use Rattle.rmi_cli.specs.Opening.{served_opening};
 ghost use Rattle.rmi_cli.specs.Options.{IsServeInRange};
-ghost use Rattle.rmi_cli.specs.ServedLinks.{serve_plan, listener_log, IsSampleLink, ListensAlone, Printed, ServeEnds, end_after};
+ghost use Rattle.rmi_cli.specs.ServedLinks.{serve_plan, IsSampleLink, ListensAlone, Printed, ServeEnds, end_after};
 
 use crate::end::RunEnd;
 use crate::loopback::loopback_host;
@@ -56,13 +56,13 @@ pub fn serve_input<'t, R: Threads + Wait + Sync, L: Listener, K: Sink>(
     words: &ServeWords,
 ) -> ServeOutcome<L::In, L::Out, L::Ticks, SampleHand<'t, R>>
     requires { IsServeInRange words.now }
-    ensures served { IfSome result.report (ServesLinks (IsSampleLink L.In.left L.Out.held L.Ticks.given (serve_plan seed.now words.now))
-        (served_opening seed.now words.now.options) words.now.count (L.accepted listener.old) (L.accepted listener.new)) }
-    ensures alone { ListensAlone words.now.port (listener_log L.ports L.accepted listener.old) (listener_log L.ports L.accepted listener.new) result.report }
-    ensures ends { ServeEnds (K.held sink.old) (K.held sink.new) (K.faults sink.old) (K.faults sink.new) result.report result.end }
+    ensures served { IfSome result.report (ServesLinks (IsSampleLink L.In.half L.Out.half L.Ticks.given (serve_plan seed.now words.now))
+        (served_opening seed.now words.now.options) words.now.count (L.listening listener.old).accepted (L.listening listener.new).accepted) }
+    ensures alone { ListensAlone words.now.port (L.listening listener.old) (L.listening listener.new) result.report }
+    ensures ends { ServeEnds (K.half sink.old).held (K.half sink.new).held (K.half sink.old).faults (K.half sink.new).faults result.report result.end }
     ensures known { status_of_run result.end ≢ 1 }
-    ensures fault { status_of_run result.end ≡ 3 → Rose (L.faults listener.old) (L.faults listener.new) }
-    ensures write_fault { status_of_run result.end ≡ 4 → Rose (K.faults sink.old) (K.faults sink.new) }
+    ensures fault { status_of_run result.end ≡ 3 → Rose (L.listening listener.old).faults (L.listening listener.new).faults }
+    ensures write_fault { status_of_run result.end ≡ 4 → Rose (K.half sink.old).faults (K.half sink.new).faults }
 {
     match serve_parts(rt, alloc, seed, words) {
         Ok(parts) => serve_on(rt, alloc, listener, sink, parts, words.port),
@@ -83,15 +83,15 @@ fn serve_on<'t, R: Threads + Wait + Sync, L: Listener, K: Sink>(
     requires few { parts.plan.count ≤ MAX_LINKS }
     requires host { length (utf parts.plan.host) ≤ MAX_HOST_BYTES }
     requires book { parts.book ≡ sample_kinds }
-    ensures served { IfSome result.report (ServesLinks (IsSampleLink L.In.left L.Out.held L.Ticks.given parts.entry.plan)
-        (opening_of parts.entry.lock) parts.entry.plan.count (L.accepted listener.old) (L.accepted listener.new)) }
-    ensures alone { ListensAlone port (listener_log L.ports L.accepted listener.old) (listener_log L.ports L.accepted listener.new) result.report }
-    ensures ends { ServeEnds (K.held sink.old) (K.held sink.new) (K.faults sink.old) (K.faults sink.new) result.report result.end }
+    ensures served { IfSome result.report (ServesLinks (IsSampleLink L.In.half L.Out.half L.Ticks.given parts.entry.plan)
+        (opening_of parts.entry.lock) parts.entry.plan.count (L.listening listener.old).accepted (L.listening listener.new).accepted) }
+    ensures alone { ListensAlone port (L.listening listener.old) (L.listening listener.new) result.report }
+    ensures ends { ServeEnds (K.half sink.old).held (K.half sink.new).held (K.half sink.old).faults (K.half sink.new).faults result.report result.end }
     ensures known { status_of_run result.end ≢ 1 }
-    ensures fault { status_of_run result.end ≡ 3 → Rose (L.faults listener.old) (L.faults listener.new) }
-    ensures write_fault { status_of_run result.end ≡ 4 → Rose (K.faults sink.old) (K.faults sink.new) }
+    ensures fault { status_of_run result.end ≡ 3 → Rose (L.listening listener.old).faults (L.listening listener.new).faults }
+    ensures write_fault { status_of_run result.end ≡ 4 → Rose (K.half sink.old).faults (K.half sink.new).faults }
 {
-    if listener.listen(port).is_err() {
+    if listener.listen("127.0.0.1", port).is_err() {
         return nothing_served(RunEnd::ListenFault);
     }
     let report = serve_links(rt, alloc, listener, parts);
@@ -113,11 +113,11 @@ fn serve_links<'t, R: Threads + Wait + Sync, L: Listener>(
     requires few { parts.plan.count ≤ MAX_LINKS }
     requires host { length (utf parts.plan.host) ≤ MAX_HOST_BYTES }
     requires book { parts.book ≡ sample_kinds }
-    ensures served { ServesLinks (IsSampleLink L.In.left L.Out.held L.Ticks.given parts.entry.plan)
-        (opening_of parts.entry.lock) parts.entry.plan.count (L.accepted listener.old) (L.accepted listener.new) result }
-    ensures ports { L.ports listener.new ≡ L.ports listener.old }
-    ensures fault { result.stop ≡ Stop.AcceptFault → Rose (L.faults listener.old) (L.faults listener.new) }
-    ensures faults { L.faults listener.old ≤ L.faults listener.new }
+    ensures served { ServesLinks (IsSampleLink L.In.half L.Out.half L.Ticks.given parts.entry.plan)
+        (opening_of parts.entry.lock) parts.entry.plan.count (L.listening listener.old).accepted (L.listening listener.new).accepted result }
+    ensures ports { (L.listening listener.new).ports ≡ (L.listening listener.old).ports }
+    ensures fault { result.stop ≡ Stop.AcceptFault → Rose (L.listening listener.old).faults (L.listening listener.new).faults }
+    ensures faults { (L.listening listener.old).faults ≤ (L.listening listener.new).faults }
 {
     let ServeParts {
         crew,
@@ -138,7 +138,7 @@ fn nothing_served<I, O, T, H>(end: RunEnd) -> ServeOutcome<I, O, T, H>
 
 /// Writes the outline of the space that is left, and answers how that ended.
 fn print_outline<K: Sink>(alloc: Global, sink: &mut K, space: &Space) -> RunEnd
-    ensures { Printed (K.held sink.old) (K.held sink.new) (K.faults sink.old) (K.faults sink.new)
+    ensures { Printed (K.half sink.old).held (K.half sink.new).held (K.half sink.old).faults (K.half sink.new).faults
         (outline space.now.configuration space.now.events) result }
 {
     match outline(alloc, space) {

@@ -21,11 +21,11 @@ pub const STREAM_BYTES: u64 = MESSAGE_BYTES;
 
 /// Takes the whole input as a stream, and writes the text of its graph.
 pub fn show_input<S: Source, K: Sink>(alloc: Global, source: &mut S, sink: &mut K) -> RunEnd
-    ensures ends { ShowEnds (wires S.left K.held source.old sink.old) (wires S.left K.held source.new sink.new) result }
-    ensures exact { EndsExactly (wires S.left K.held source.old sink.old) (wires S.left K.held source.new sink.new) result }
+    ensures ends { ShowEnds (wires S.half K.half source.old sink.old) (wires S.half K.half source.new sink.new) result }
+    ensures exact { EndsExactly (wires S.half K.half source.old sink.old) (wires S.half K.half source.new sink.new) result }
     ensures known { status_of_run result ≢ 1 }
-    ensures read_fault { status_of_run result ≡ 3 → Rose (S.faults source.old) (S.faults source.new) }
-    ensures write_fault { status_of_run result ≡ 4 → Rose (K.faults sink.old) (K.faults sink.new) }
+    ensures read_fault { status_of_run result ≡ 3 → Rose (S.half source.old).faults (S.half source.new).faults }
+    ensures write_fault { status_of_run result ≡ 4 → Rose (K.half sink.old).faults (K.half sink.new).faults }
 {
     let graph = match read_input(alloc, source) {
         Ok(graph) => graph,
@@ -43,10 +43,10 @@ pub fn show_input<S: Source, K: Sink>(alloc: Global, source: &mut S, sink: &mut 
 
 /// Reads the whole input as a stream of at most so many bytes.
 fn read_input<S: Source>(alloc: Global, source: &mut S) -> Result<Graph, StreamFault>
-    ensures cause { Caused (S.faults source.old) (S.faults source.new) result }
-    ensures taken { IfOk result (λ graph. TakesGraph (S.left source.old) (S.left source.new) graph.nodes graph.items) }
-    ensures fault { IfErr result (IsFaultOf (S.left source.old)) }
-    ensures stops { IfErr result (StopsAt (S.left source.old) (S.left source.new)) }
+    ensures cause { Caused (S.half source.old).faults (S.half source.new).faults result }
+    ensures taken { IfOk result (λ graph. TakesGraph (S.half source.old).left (S.half source.new).left graph.nodes graph.items) }
+    ensures fault { IfErr result (IsFaultOf (S.half source.old).left) }
+    ensures stops { IfErr result (StopsAt (S.half source.old).left (S.half source.new).left) }
 {
     let mut pull = Pull::new(source);
     read_marked(alloc, &mut pull)
@@ -56,10 +56,10 @@ fn read_input<S: Source>(alloc: Global, source: &mut S) -> Result<Graph, StreamF
 fn read_marked<S: Source>(alloc: Global, pull: &mut Pull<'_, S>) -> Result<Graph, StreamFault>
     requires { pull.old.at ≡ 0 }
     ensures lent { pull.new.source.ghost_name ≡ pull.old.source.ghost_name }
-    ensures cause { Caused (S.faults pull.old.source.now) (S.faults pull.new.source.now) result }
-    ensures taken { IfOk result (λ graph. TakesGraph (S.left pull.old.source.now) (S.left pull.new.source.now) graph.nodes graph.items) }
-    ensures fault { IfErr result (IsFaultOf (S.left pull.old.source.now)) }
-    ensures stops { IfErr result (StopsAt (S.left pull.old.source.now) (S.left pull.new.source.now)) }
+    ensures cause { Caused (S.half pull.old.source.now).faults (S.half pull.new.source.now).faults result }
+    ensures taken { IfOk result (λ graph. TakesGraph (S.half pull.old.source.now).left (S.half pull.new.source.now).left graph.nodes graph.items) }
+    ensures fault { IfErr result (IsFaultOf (S.half pull.old.source.now).left) }
+    ensures stops { IfErr result (StopsAt (S.half pull.old.source.now).left (S.half pull.new.source.now).left) }
 {
     pull.mark(STREAM_BYTES);
     read_to_end(alloc, pull)

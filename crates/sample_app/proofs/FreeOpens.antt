@@ -16,7 +16,7 @@ use Rattle.history.specs.Places.{now, ever_exported, exported_count}
 use Rattle.history.specs.Running.{running_calls_by, running_calls, is_running}
 use Rattle.history.specs.Steps.{Step, answer_with, history_with}
 use Rattle.history.specs.Table.{is_kept_locally, is_kept, table, is_effective, exports, returned_objects, place_of, places_back, places, withdrawn_objects, withdrawals}
-use Rattle.space.specs.Built.{SpaceHistory}
+use Rattle.space.specs.Built.{SpaceHistory, space_of}
 use Rattle.sample_app.specs.Opened.{open_event, bind_event}
 
 -- No limit refuses the event.
@@ -24,7 +24,7 @@ abbrev pub IsFree : Event → SpaceHistory → Type 0
 IsFree e s = refusal limits s.configuration (places s.configuration s.events) e ≡ None
 
 abbrev pub one_more : Event → SpaceHistory → SpaceHistory
-one_more e s = record { configuration = s.configuration; events = s.events ++ e ∷ [] }
+one_more e s = space_of s.configuration (s.events ++ e ∷ [])
 
 pub first_is_free : (config : SpaceConfig) → refusal limits config (places config []) (open_event 0) ≡ None
 unfolding lease_end tenure counting_calls highest_is_dirty holds is_remembered calls_of clients clients_with_time_left is_held pairs_with new_pairs now ever_exported exported_count running_calls_by running_calls is_running until_of awaits references awaiting_references is_awaited stands_for names is_named lease_calls is_kept_locally is_kept table is_effective exports returned_objects place_of places_back places withdrawn_objects withdrawals units reserved_units exports_with_event awaiting_with_event clients_with_event pairs_with_event names_with_event is_full refusal

@@ -4,6 +4,7 @@ ghost use Rattle.history.specs.declared.replies.Refused.TheVariants.{OutOfMemory
 ghost use Rattle.history.specs.Limits.{limits, refusal};
 ghost use Rattle.history.specs.Table.{places};
 ghost use Rattle.history.specs.declared.limits.TheConstants.{MAX_DURATION_MS, MAX_NAME_UNITS};
+ghost use Rattle.space.specs.Built.{space_of};
 ghost use Rattle.sample_app.specs.Opened.{open_event, bind_event, sample_events};
 
 use history::{Ask, Name, Refused, SpaceConfig};
@@ -26,7 +27,7 @@ pub fn sample_space(alloc: Global, config: &SpaceConfig) -> Result<Space, Refuse
     requires short_lease { config.now.lease_ms ≤ MAX_DURATION_MS }
     requires some_ack { 1 ≤ config.now.ack_ms }
     requires short_ack { config.now.ack_ms ≤ MAX_DURATION_MS }
-    ensures ok { IfOk result (λ space. space ≡ record { configuration = config.now; events = sample_events config.now }) }
+    ensures ok { IfOk result (λ space. space ≡ space_of config.now (sample_events config.now)) }
     ensures err { IfErr result (λ refused. refused ≡ OutOfMemory) }
 {
     let mut space = Space::fresh(alloc, config);
@@ -38,8 +39,8 @@ pub fn sample_space(alloc: Global, config: &SpaceConfig) -> Result<Space, Refuse
 
 /// Opens the sample's objects in a space without events, and binds their names. It is refused only for want of memory.
 fn furnish(alloc: Global, space: &mut Space, config: &SpaceConfig) -> Result<(), Refused>
-    requires fresh { space.old ≡ record { configuration = config.now; events = [] } }
-    ensures ok { OnOk result (space.new ≡ record { configuration = config.now; events = sample_events config.now }) }
+    requires fresh { space.old ≡ record { configuration = config.now; events = []; rows = [] } }
+    ensures ok { OnOk result (space.new ≡ space_of config.now (sample_events config.now)) }
     ensures err { IfErr result (λ refused. refused ≡ OutOfMemory) }
 {
     open(space, 0)?;
@@ -53,13 +54,16 @@ fn furnish(alloc: Global, space: &mut Space, config: &SpaceConfig) -> Result<(),
 /// Opens an object of a kind, which is kept for good. It is refused only for want of memory, where no limit is met.
 fn open(space: &mut Space, kind: u32) -> Result<(), Refused>
     requires free { refusal limits space.old.configuration (places space.old.configuration space.old.events) (open_event kind) ≡ None }
-    ensures ok { OnOk result (space.new ≡ record space.old { events = space.old.events ++ open_event kind ∷ [] }) }
+    ensures ok { OnOk result (space.new ≡ space_of space.old.configuration (space.old.events ++ open_event kind ∷ [])) }
     ensures err { IfErr result (λ refused. refused ≡ OutOfMemory) }
 {
     let ask = Ask::Open { kind, pinned: true };
     let answer = space.turn(0, 0, ask);
     match answer {
-        Ok(_turn) => Ok(()),
+        Ok(_turn) => {
+            let _len = space.len();
+            Ok(())
+        }
         Err(refused) => Err(refused),
     }
 }
@@ -99,13 +103,16 @@ fn bind(
 ) -> Result<(), Refused>
     requires short { length name.now ≤ MAX_NAME_UNITS }
     requires free { refusal limits space.old.configuration (places space.old.configuration space.old.events) (bind_event config.now name.now number) ≡ None }
-    ensures ok { OnOk result (space.new ≡ record space.old { events = space.old.events ++ bind_event config.now name.now number ∷ [] }) }
+    ensures ok { OnOk result (space.new ≡ space_of space.old.configuration (space.old.events ++ bind_event config.now name.now number ∷ [])) }
     ensures err { IfErr result (λ refused. refused ≡ OutOfMemory) }
 {
     let ask = binding(alloc, config, name, number)?;
     let answer = space.turn(0, 0, ask);
     match answer {
-        Ok(_turn) => Ok(()),
+        Ok(_turn) => {
+            let _len = space.len();
+            Ok(())
+        }
         Err(refused) => Err(refused),
     }
 }

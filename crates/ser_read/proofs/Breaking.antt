@@ -1,7 +1,7 @@
 -- Where reading ends at a fault, and what was taken then.
 use Rattle.std.proofs.Common.{◌≡◌, ℕ, ◌+◌, ◌-◌, ◌≤◌, ◌<◌, List, [], ◌∷◌, ◌++◌, length, Result, Ok, Err, IfOk, refl, sym, ap, subst, ◌∙◌, append_assoc, append-nil, length-append, arith, true, Option}
 use Rattle.std.specs.Prelude.{IfErr, IsErrAnd}
-use Rattle.wire_io.specs.Wire.{Rose}
+use Rattle.wire_io.specs.Wire.{ReadHalf, Rose}
 use Rattle.wire_io.specs.Pulled.{PullState, Takes, GivesByte, GivesBytes, pull_state}
 use Rattle.wire_io.specs.declared.pull.Pull.{Pull}
 use Rattle.wire_io.specs.declared.pull.PullEnd.{PullEnd}
@@ -291,15 +291,15 @@ pub want_breaks_told : {Y : Type 0} {p q : PullState} {e : StreamFault} {read : 
 want_breaks_told {Y} {p} {q} {e} {read} h le told = told_by inside WantIsBad p q e read h.is le told
 
 -- the same of two Pulls
-pub breaks_fails : {S Y : Type 0} (left : S → Option (List ℕ)) (faults : S → ℕ) (p q : Pull S) (e : StreamFault) {read : ℕ → List ℕ → Result Y Fault}
-    → Breaks (pull_state left faults p) (pull_state left faults q) e read → q.at ≤ q.stop → IsTold left p → Fails (env left p).after e (read (env left p).end (coming left p))
+pub breaks_fails : {S Y : Type 0} (half : S → ReadHalf) (p q : Pull S) (e : StreamFault) {read : ℕ → List ℕ → Result Y Fault}
+    → Breaks (pull_state half p) (pull_state half q) e read → q.at ≤ q.stop → IsTold half p → Fails (env half p).after e (read (env half p).end (coming half p))
 unfolding env coming
-breaks_fails left faults p q e h le told = breaks_told h le told
+breaks_fails half p q e h le told = breaks_told h le told
 
-pub want_breaks_fails : {S Y : Type 0} (left : S → Option (List ℕ)) (faults : S → ℕ) (p q : Pull S) (e : StreamFault) {read : ℕ → List ℕ → Result Y WantFault}
-    → WantBreaks (pull_state left faults p) (pull_state left faults q) e read → q.at ≤ q.stop → IsTold left p → WantFails (env left p).after e (read (env left p).end (coming left p))
+pub want_breaks_fails : {S Y : Type 0} (half : S → ReadHalf) (p q : Pull S) (e : StreamFault) {read : ℕ → List ℕ → Result Y WantFault}
+    → WantBreaks (pull_state half p) (pull_state half q) e read → q.at ≤ q.stop → IsTold half p → WantFails (env half p).after e (read (env half p).end (coming half p))
 unfolding env coming
-want_breaks_fails left faults p q e h le told = want_breaks_told h le told
+want_breaks_fails half p q e h le told = want_breaks_told h le told
 
 -- ---- the count of faults
 
@@ -324,14 +324,14 @@ pub want_caused_of : {X Y : Type 0} (p q : PullState) (read : ℕ → List ℕ �
 want_caused_of p q read (Ok x) out a b = a.takes.faults
 want_caused_of {X} p q read (Err e) out a b = want_breaks_caused X b
 
-pub want_gives_of : {S X Y : Type 0} (left : S → Option (List ℕ)) (faults : S → ℕ) (p q : Pull S) (result : Result X StreamFault) (read : ℕ → List ℕ → Result Y WantFault) (out : X → List ℕ → Y) → q.at ≤ q.stop
-    → IfOk result (λ x. Reads (inside short) (pull_state left faults p) (pull_state left faults q) read (out x)) → IfErr result (λ e. WantBreaks (pull_state left faults p) (pull_state left faults q) e read) → WantGivesTold left p q result read out
-want_gives_of left faults p q (Ok x) read out le a b = λ told. reads_gives left faults p q a le told
-want_gives_of left faults p q (Err e) read out le a b = λ told. want_breaks_fails left faults p q e b le told
+pub want_gives_of : {S X Y : Type 0} (half : S → ReadHalf) (p q : Pull S) (result : Result X StreamFault) (read : ℕ → List ℕ → Result Y WantFault) (out : X → List ℕ → Y) → q.at ≤ q.stop
+    → IfOk result (λ x. Reads (inside short) (pull_state half p) (pull_state half q) read (out x)) → IfErr result (λ e. WantBreaks (pull_state half p) (pull_state half q) e read) → WantGivesTold half p q result read out
+want_gives_of half p q (Ok x) read out le a b = λ told. reads_gives half p q a le told
+want_gives_of half p q (Err e) read out le a b = λ told. want_breaks_fails half p q e b le told
 
-pub reads_env : {S Y F : Type 0} {m : F} (left : S → Option (List ℕ)) (faults : S → ℕ) (p q : Pull S) {read : ℕ → List ℕ → Result Y F} {out : List ℕ → Y} → Reads m (pull_state left faults p) (pull_state left faults q) read out → q.at ≤ q.stop → env left q ≡ env left p
+pub reads_env : {S Y F : Type 0} {m : F} (half : S → ReadHalf) (p q : Pull S) {read : ℕ → List ℕ → Result Y F} {out : List ℕ → Y} → Reads m (pull_state half p) (pull_state half q) read out → q.at ≤ q.stop → env half q ≡ env half p
 unfolding env
-reads_env left faults p q h le = takes_env (pull_state left faults p) (pull_state left faults q) h.taken h.takes le
+reads_env half p q h le = takes_env (pull_state half p) (pull_state half q) h.taken h.takes le
 
 -- ---- how near the limit is
 

@@ -2,6 +2,7 @@ pub mod Pulling
 pub mod Steps
 pub mod Loop
 pub mod NumberRuns
+pub mod Texts
 pub mod Values
 pub mod Links
 pub mod Slots

@@ -1,11 +1,13 @@
 -- Runs of numbers, each of so many bytes.
-use Rattle.std.proofs.Common.{◌≡◌, ℕ, zero, suc, inl, inr, ◌+◌, ◌-◌, ◌*◌, ◌<◌, ◌≤◌, List, [], ◌∷◌, ◌++◌, length, take, drop, Result, Ok, Err, refl, sym, ap, ◌∙◌, append_assoc, arith, length-drop, length-append}
+use Rattle.std.proofs.Common.{◌≡◌, ℕ, ℤ, zero, suc, inl, inr, ◌+◌, ◌-◌, ◌*◌, ◌<◌, ◌≤◌, List, [], ◌∷◌, ◌++◌, length, take, drop, Result, Ok, Err, refl, sym, ap, ◌∙◌, append_assoc, arith, length-drop, length-append}
 use Rattle.std.proofs.lemmas.Bool.{cases_lt}
 use Rattle.std.proofs.lemmas.List.{append-nil, nil_from_length, take-append-le, drop-append-le, drop-drop}
 use Rattle.stream_grammar.specs.Reading.{Fault, Progress, Step, many_at, take_at, short}
 use Rattle.wire_io.specs.Pulled.{PullState}
 use Rattle.ser_read.specs.Here.{Reads}
-use Rattle.ser_read.specs.NumberRuns.{of_front, run_of}
+use Rattle.lane_kernels.specs.Kernels.{signed_words}
+use Rattle.std.specs.Int.{Width, byte_len}
+use Rattle.ser_read.specs.NumberRuns.{of_front, run_of, signed_of}
 use Rattle.ser_read.proofs.Loop.{front_of, regroup}
 use Rattle.ser_read.proofs.Bytes.{takes_all, takes_short, taken_is}
 
@@ -102,3 +104,15 @@ run_start step n now bs = same (many_at step n now bs)
 pub run_end : {A : Type 0} (step : Step A) (front : List A) (left : ℕ) (now : Progress) (bs : List ℕ) → left ≡ 0 → front_of front (many_at step left now bs) ≡ Ok (front, now, bs)
 unfolding many_at
 run_end {A} step front left now bs no_more = rw no_more (ap (λ (xs : List A). Ok (xs, now, bs)) (append-nil front))
+
+-- ---- signed numbers by vectors
+
+pub words_are : (w : Width) (n : ℕ) (bs : List ℕ) → signed_words w n bs ≡ run_of (byte_len w) (signed_of w) n bs
+unfolding signed_words run_of
+words_are w zero bs = refl
+words_are w (suc n) bs = ap (λ xs. signed_of w (take (byte_len w) bs) ∷ xs) (words_are w n (drop (byte_len w) bs))
+
+-- Signed numbers that were read into the whole of a list, and appended.
+pub words_put : (w : Width) (n : ℕ) (bs : List ℕ) (old xs new out : List ℤ) → xs ≡ signed_words w (length out) bs → new ≡ old ++ xs → length out ≡ n
+    → new ≡ old ++ run_of (byte_len w) (signed_of w) n bs
+words_put w n bs old xs new out is so long = so ∙ ap (λ (l : List ℤ). old ++ l) (is ∙ ap (λ k. signed_words w k bs) long ∙ words_are w n bs)

@@ -1,4 +1,5 @@
 -- Reading one thing after the other.
+use Rattle.wire_io.specs.Wire.{ReadHalf}
 use Rattle.std.specs.Prelude.{◌⊎◌}
 use Rattle.std.proofs.Common.{◌≡◌, ℕ, ◌+◌, List, [], ◌∷◌, ◌++◌, length, Result, Ok, Err, IfOk, refl, sym, ap, ◌∙◌, ◌≤◌, true, Option, append_assoc, length-append, arith, inl, inr}
 use Rattle.wire_io.specs.Pulled.{PullState, Takes, pull_state}
@@ -144,12 +145,12 @@ pub end_is : (o : Option (List ℕ)) (at stop : ℕ) → (env_at o at stop).told
 end_is Option.None at stop known = absurd cc
 end_is (Option.Some bs) at stop known = refl
 
-pub reads_gives : {S Y F : Type 0} {m : F} (left : S → Option (List ℕ)) (faults : S → ℕ) (p q : Pull S) {read : ℕ → List ℕ → Result Y F} {out : List ℕ → Y}
-    → Reads m (pull_state left faults p) (pull_state left faults q) read out → q.at ≤ q.stop → IsTold left p → read (env left p).end (coming left p) ≡ Ok (out (coming left q))
+pub reads_gives : {S Y F : Type 0} {m : F} (half : S → ReadHalf) (p q : Pull S) {read : ℕ → List ℕ → Result Y F} {out : List ℕ → Y}
+    → Reads m (pull_state half p) (pull_state half q) read out → q.at ≤ q.stop → IsTold half p → read (env half p).end (coming half p) ≡ Ok (out (coming half q))
 unfolding env coming
-reads_gives left faults p q {read} {out} h le told =
-    let old = pull_state left faults p in
-    let new = pull_state left faults q in
+reads_gives half p q {read} {out} h le told =
+    let old = pull_state half p in
+    let new = pull_state half q in
     let all = takes_told old new h.taken h.takes le told in
     let end : (env_at old.left old.at old.stop).end ≡ new.at + length (coming_at new.left new.at new.stop) =
     omega (arith, end_is old.left old.at old.stop told, ap (λ (bs : List ℕ). length bs) all, length-append h.taken (coming_at new.left new.at new.stop), h.takes.at) in

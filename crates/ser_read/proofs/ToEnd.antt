@@ -4,7 +4,7 @@ use Rattle.std.specs.Prelude.{IsErrAnd, IfErr}
 use Rattle.std.proofs.lemmas.List.{take_all, drop_all, length-take-le, length-drop}
 use Rattle.class_desc.specs.declared.slot.Slot.{Slot}
 use Rattle.class_desc.specs.declared.slot.Item.{Item}
-use Rattle.wire_io.specs.Wire.{NothingLeft}
+use Rattle.wire_io.specs.Wire.{ReadHalf, NothingLeft}
 use Rattle.wire_io.specs.Pulled.{PullState, pull_state, Takes}
 use Rattle.wire_io.proofs.Pulling.{takes_nothing, takes_more, takes_stop}
 use Rattle.ser_values.specs.declared.graph.Graph.{Graph}
@@ -152,18 +152,18 @@ abbrev pub Whole : {X : Type 0} → Option (List ℕ) → ℕ → ℕ → (X →
 Whole o at stop view result = (env_at o at stop).told ≡ true → Gives (env_at o at stop).after view result (to_end (env_at o at stop).after (stream_at (env_at o at stop).end (coming_at o at stop)))
 
 -- from what a call took
-pub whole_of : {S X : Type 0} (left : S → Option (List ℕ)) (faults : S → ℕ) (p q : Pull S) (view : X → Answer) (result : Result X StreamFault) → q.at ≤ q.stop
-    → IfOk result (λ x. ReadsAll (pull_state left faults p) (pull_state left faults q) stream_at (view x)) → IfErr result (λ e. BreaksWhole (pull_state left faults p) (pull_state left faults q) e stream_at)
-    → IsTold left p → Gives (env left p).after view result (to_end (env left p).after (stream_at (env left p).end (coming left p)))
+pub whole_of : {S X : Type 0} (half : S → ReadHalf) (p q : Pull S) (view : X → Answer) (result : Result X StreamFault) → q.at ≤ q.stop
+    → IfOk result (λ x. ReadsAll (pull_state half p) (pull_state half q) stream_at (view x)) → IfErr result (λ e. BreaksWhole (pull_state half p) (pull_state half q) e stream_at)
+    → IsTold half p → Gives (env half p).after view result (to_end (env half p).after (stream_at (env half p).end (coming half p)))
 unfolding env coming
-whole_of left faults p q view (Ok x) le a b told =
-    let old = pull_state left faults p in
-    let new = pull_state left faults q in
+whole_of half p q view (Ok x) le a b told =
+    let old = pull_state half p in
+    let new = pull_state half q in
     let t = all_told old new a.taken (Truncated q.at) a.takes le told (λ known. byte_ends new new (takes_nothing new) a.nothing known) in
     ap (λ e. to_end e (stream_at (env_at old.left old.at old.stop).end (coming_at old.left old.at old.stop))) t.after
     ∙ ap (λ n. stream_at n (coming_at old.left old.at old.stop)) t.end ∙ ap (λ bs. stream_at q.at bs) t.all ∙ a.is
-whole_of left faults p q view (Err e) le a b told =
-    let old = pull_state left faults p in
+whole_of half p q view (Err e) le a b told =
+    let old = pull_state half p in
     fails_to_end (env_at old.left old.at old.stop).after e (stream_at (env_at old.left old.at old.stop).end (coming_at old.left old.at old.stop)) (breaks_told b.is le told)
 
 pub whole_caused : {X : Type 0} (p q : PullState) (view : X → Answer) (result : Result X StreamFault) → IfOk result (λ x. ReadsAll p q stream_at (view x)) → IfErr result (λ e. BreaksWhole p q e stream_at) → Caused p.faults q.faults result
@@ -195,15 +195,15 @@ past o at stop bytes view result h le more g =
     let on : fault_after (drop (stop - at) bytes) stop ≡ TooLarge Bytes stop = goes_on (drop (stop - at) bytes) stop (omega (arith, length-drop (stop - at) bytes)) in
     refused (TooLarge Bytes stop) view result (stream_at stop (take (stop - at) bytes)) (rw (ends, on) at all)
 
-pub gives_within : {S X : Type 0} (left : S → Option (List ℕ)) (p : Pull S) (bytes : List ℕ) (view : X → Answer) (result : Result X StreamFault) → left p.source.now ≡ Some bytes → length bytes ≤ p.stop - p.at
-    → (IsTold left p → Gives (env left p).after view result (to_end (env left p).after (stream_at (env left p).end (coming left p)))) → Gives (Truncated (p.at + length bytes)) view result (stream_at (p.at + length bytes) bytes)
+pub gives_within : {S X : Type 0} (half : S → ReadHalf) (p : Pull S) (bytes : List ℕ) (view : X → Answer) (result : Result X StreamFault) → (half p.source.now).left ≡ Some bytes → length bytes ≤ p.stop - p.at
+    → (IsTold half p → Gives (env half p).after view result (to_end (env half p).after (stream_at (env half p).end (coming half p)))) → Gives (Truncated (p.at + length bytes)) view result (stream_at (p.at + length bytes) bytes)
 unfolding env coming
-gives_within left p bytes view result h le g = within (left p.source.now) p.at p.stop bytes view result h le g
+gives_within half p bytes view result h le g = within (half p.source.now).left p.at p.stop bytes view result h le g
 
-pub gives_past : {S X : Type 0} (left : S → Option (List ℕ)) (p : Pull S) (bytes : List ℕ) (view : X → Answer) (result : Result X StreamFault) → left p.source.now ≡ Some bytes → p.at ≤ p.stop → p.stop - p.at < length bytes
-    → (IsTold left p → Gives (env left p).after view result (to_end (env left p).after (stream_at (env left p).end (coming left p)))) → IsErrAnd result (λ e. Fails (TooLarge Bytes p.stop) e (going_on (stream_at p.stop (take (p.stop - p.at) bytes))))
+pub gives_past : {S X : Type 0} (half : S → ReadHalf) (p : Pull S) (bytes : List ℕ) (view : X → Answer) (result : Result X StreamFault) → (half p.source.now).left ≡ Some bytes → p.at ≤ p.stop → p.stop - p.at < length bytes
+    → (IsTold half p → Gives (env half p).after view result (to_end (env half p).after (stream_at (env half p).end (coming half p)))) → IsErrAnd result (λ e. Fails (TooLarge Bytes p.stop) e (going_on (stream_at p.stop (take (p.stop - p.at) bytes))))
 unfolding env coming
-gives_past left p bytes view result h le more g = past (left p.source.now) p.at p.stop bytes view result h le more g
+gives_past half p bytes view result h le more g = past (half p.source.now).left p.at p.stop bytes view result h le more g
 
 pub takes_stream : {p q : PullState} {nodes : List Node} {items : List Item} → ReadsAll p q stream_at (nodes, items) → TakesStream p q nodes items
 takes_stream {p} {q} {nodes} {items} a =

@@ -1,7 +1,7 @@
 -- What a call that reads from a Pull answers, beside reading as a function on lists.
 use Rattle.std.specs.Prelude.{◌≡◌, ℕ, ◌+◌, ◌-◌, ◌≤◌, ◌<◌, Bool, true, false, List, [], ◌∷◌, ◌++◌, length, take, drop, Option, None, Some, Result, Ok, Err, IfOk, IfErr}
 use Rattle.std.specs.List.{AllByRecursion}
-use Rattle.wire_io.specs.Wire.{Rose, NothingLeft}
+use Rattle.wire_io.specs.Wire.{ReadHalf, Rose, NothingLeft}
 use Rattle.wire_io.specs.Pulled.{PullState, pull_state, Takes, Passes}
 use Rattle.wire_io.specs.declared.pull.Pull.{Pull}
 use Rattle.wire_io.specs.declared.pull.PullEnd.{PullEnd}
@@ -35,14 +35,14 @@ abbrev pub env_at : Option (List ℕ) → ℕ → ℕ → Env
 env_at None at stop = record { told = false; end = 0; after = Truncated 0 }
 env_at (Some bs) at stop = record { told = true; end = at + length (take (stop - at) bs); after = fault_after (drop (stop - at) bs) (at + length (take (stop - at) bs)) }
 
-unfoldable pub coming : {S : Type 0} → (S → Option (List ℕ)) → Pull S → List ℕ
-coming left p = coming_at (left p.source.now) p.at p.stop
+unfoldable pub coming : {S : Type 0} → (S → ReadHalf) → Pull S → List ℕ
+coming half p = coming_at (half p.source.now).left p.at p.stop
 
-unfoldable pub env : {S : Type 0} → (S → Option (List ℕ)) → Pull S → Env
-env left p = env_at (left p.source.now) p.at p.stop
+unfoldable pub env : {S : Type 0} → (S → ReadHalf) → Pull S → Env
+env half p = env_at (half p.source.now).left p.at p.stop
 
-abbrev pub IsTold : {S : Type 0} → (S → Option (List ℕ)) → Pull S → Type 0
-IsTold left p = (env left p).told ≡ true
+abbrev pub IsTold : {S : Type 0} → (S → ReadHalf) → Pull S → Type 0
+IsTold half p = (env half p).told ≡ true
 
 -- the fault of a Pull that gave no byte
 abbrev pub fault_of : PullEnd → StreamFault
@@ -114,11 +114,11 @@ Gives after view result read = GivesBy (Fails after) view result read
 
 -- Where the bytes are told, a call answers what reading gives of those to come: `out` of what is answered and of those that come then.
 -- `read` is told the position at which the bytes end.
-abbrev pub GivesToldBy : {S X Y F : Type 0} → (StreamFault → StreamFault → Result Y F → Type 0) → (S → Option (List ℕ)) → Pull S → Pull S → Result X StreamFault → (ℕ → List ℕ → Result Y F) → (X → List ℕ → Y) → Type 0
-GivesToldBy fails left old new result read out = IsTold left old → GivesBy (fails (env left old).after) (λ x. out x (coming left new)) result (read (env left old).end (coming left old))
+abbrev pub GivesToldBy : {S X Y F : Type 0} → (StreamFault → StreamFault → Result Y F → Type 0) → (S → ReadHalf) → Pull S → Pull S → Result X StreamFault → (ℕ → List ℕ → Result Y F) → (X → List ℕ → Y) → Type 0
+GivesToldBy fails half old new result read out = IsTold half old → GivesBy (fails (env half old).after) (λ x. out x (coming half new)) result (read (env half old).end (coming half old))
 
-abbrev pub GivesTold : {S X Y : Type 0} → (S → Option (List ℕ)) → Pull S → Pull S → Result X StreamFault → (ℕ → List ℕ → Result Y Fault) → (X → List ℕ → Y) → Type 0
-GivesTold left old new result read out = GivesToldBy Fails left old new result read out
+abbrev pub GivesTold : {S X Y : Type 0} → (S → ReadHalf) → Pull S → Pull S → Result X StreamFault → (ℕ → List ℕ → Result Y Fault) → (X → List ℕ → Y) → Type 0
+GivesTold half old new result read out = GivesToldBy Fails half old new result read out
 
 -- Each is a number of 8 bits.
 abbrev pub AreBytes : List ℕ → Type 0
@@ -137,8 +137,8 @@ pub record Reads {Y F : Type 0} (more : F) (old new : PullState) (read : ℕ →
   pub least : NeedsAll more old.at taken read
 
 -- Whether the bytes are told or not, what a call answers is read from those that it took.
-abbrev pub ReadsTaken : {S X Y : Type 0} → (S → Option (List ℕ)) → (S → ℕ) → Pull S → Pull S → Result X StreamFault → (ℕ → List ℕ → Result Y Fault) → (X → List ℕ → Y) → Type 0
-ReadsTaken left faults old new result read out = IfOk result (λ x. Reads short (pull_state left faults old) (pull_state left faults new) read (out x))
+abbrev pub ReadsTaken : {S X Y : Type 0} → (S → ReadHalf) → Pull S → Pull S → Result X StreamFault → (ℕ → List ℕ → Result Y Fault) → (X → List ℕ → Y) → Type 0
+ReadsTaken half old new result read out = IfOk result (λ x. Reads short (pull_state half old) (pull_state half new) read (out x))
 
 -- ---- what was taken on a fault, and why reading ends there
 
@@ -181,5 +181,5 @@ pub record Breaks {Y : Type 0} (old new : PullState) (fault : StreamFault) (read
   pub is : BreaksBy (λ f. f) IsBad old new fault read
 
 -- Whether the bytes are told or not, a fault that a call answers is what the bytes that it took come to.
-abbrev pub StopsTaken : {S X Y : Type 0} → (S → Option (List ℕ)) → (S → ℕ) → Pull S → Pull S → Result X StreamFault → (ℕ → List ℕ → Result Y Fault) → Type 0
-StopsTaken left faults old new result read = IfErr result (λ e. Breaks (pull_state left faults old) (pull_state left faults new) e read)
+abbrev pub StopsTaken : {S X Y : Type 0} → (S → ReadHalf) → Pull S → Pull S → Result X StreamFault → (ℕ → List ℕ → Result Y Fault) → Type 0
+StopsTaken half old new result read = IfErr result (λ e. Breaks (pull_state half old) (pull_state half new) e read)

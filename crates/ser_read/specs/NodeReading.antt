@@ -1,4 +1,5 @@
 -- What each function that reads nodes does.
+use Rattle.wire_io.specs.Wire.{ReadHalf}
 use Rattle.std.specs.Prelude.{◌≡◌, ◌≢◌, ℕ, ◌≤◌, ◌<◌, List, length, Option, Result, IfOk, OnOk}
 use Rattle.class_desc.specs.declared.slot.Slot.{Slot}
 use Rattle.class_desc.specs.declared.slot.Slot.TheVariants.{Null}
@@ -33,7 +34,7 @@ LeavesRoom new result = OnOk result (length new.nodes.items < NODES)
 -- ---- a call
 
 -- A call answers what `read` says of the bytes that it takes; what it reads joins the nodes of the table.
-pub record ReadsNodes {S X : Type 0} (left : S → Option (List ℕ)) (faults : S → ℕ) (p q : Pull S) (old new : Table) (result : Result X StreamFault) (Fits : Result X StreamFault → Type 0) (read : ℕ → Step X) : Type 0 where
+pub record ReadsNodes {S X : Type 0} (half : S → ReadHalf) (p q : Pull S) (old new : Table) (result : Result X StreamFault) (Fits : Result X StreamFault → Type 0) (read : ℕ → Step X) : Type 0 where
   -- The source is the one that was lent.
   pub lent : q.source.ghost_name ≡ p.source.ghost_name
   -- No node is lost, also where it fails.
@@ -43,6 +44,6 @@ pub record ReadsNodes {S X : Type 0} (left : S → Option (List ℕ)) (faults : 
   -- what is known of the answer besides
   pub some : Fits result
   -- Whatever comes after the bytes taken, they are read as this answer and these nodes, and none of them could be left out.
-  pub reads : ReadsTaken left faults p q result (λ end. read end (now_of old)) (λ x rest. (x, now_of new, rest))
+  pub reads : ReadsTaken half p q result (λ end. read end (now_of old)) (λ x rest. (x, now_of new, rest))
   -- A fault is what the bytes taken come to.
-  pub stops : StopsTaken left faults p q result (λ end. read end (now_of old))
+  pub stops : StopsTaken half p q result (λ end. read end (now_of old))

@@ -1,4 +1,5 @@
 -- Reading a stream want by want: bytes of block data and references, as its reader asks for them.
+use Rattle.wire_io.specs.Wire.{ReadHalf}
 use Rattle.std.specs.Prelude.{◌≡◌, ℕ, zero, suc, ◌-◌, ◌&&◌, nat_eq, nat_le, List, [], ◌∷◌, ◌++◌, length, Option, Result, Ok, Err, IfOk, IfErr, if◌then◌else◌}
 use Rattle.class_desc.specs.declared.slot.Slot.{Slot}
 use Rattle.class_desc.specs.declared.slot.Item.{Item}
@@ -136,20 +137,20 @@ abbrev pub WantGives : {X Y : Type 0} → StreamFault → (X → Y) → Result X
 WantGives after view result read = GivesBy (WantFails after) view result read
 
 -- Where the bytes are told, a call answers what reading gives of those to come.
-abbrev pub WantGivesTold : {S X Y : Type 0} → (S → Option (List ℕ)) → Pull S → Pull S → Result X StreamFault → (ℕ → List ℕ → Result Y WantFault) → (X → List ℕ → Y) → Type 0
-WantGivesTold left old new result read out = GivesToldBy WantFails left old new result read out
+abbrev pub WantGivesTold : {S X Y : Type 0} → (S → ReadHalf) → Pull S → Pull S → Result X StreamFault → (ℕ → List ℕ → Result Y WantFault) → (X → List ℕ → Y) → Type 0
+WantGivesTold half old new result read out = GivesToldBy WantFails half old new result read out
 
 -- What was taken where a call answers this fault, and why reading ends there.
 pub record WantBreaks {Y : Type 0} (old new : PullState) (fault : StreamFault) (read : ℕ → List ℕ → Result Y WantFault) : Type 0 where
   pub is : BreaksBy inside WantIsBad old new fault read
 
 -- Whether the bytes are told or not, what a call answers is read from those that it took.
-abbrev pub WantReadsTaken : {S X Y : Type 0} → (S → Option (List ℕ)) → (S → ℕ) → Pull S → Pull S → Result X StreamFault → (ℕ → List ℕ → Result Y WantFault) → (X → List ℕ → Y) → Type 0
-WantReadsTaken left faults old new result read out = IfOk result (λ x. Reads (inside short) (pull_state left faults old) (pull_state left faults new) read (out x))
+abbrev pub WantReadsTaken : {S X Y : Type 0} → (S → ReadHalf) → Pull S → Pull S → Result X StreamFault → (ℕ → List ℕ → Result Y WantFault) → (X → List ℕ → Y) → Type 0
+WantReadsTaken half old new result read out = IfOk result (λ x. Reads (inside short) (pull_state half old) (pull_state half new) read (out x))
 
 -- Whether the bytes are told or not, a fault that a call answers is what the bytes that it took come to.
-abbrev pub WantStopsTaken : {S X Y : Type 0} → (S → Option (List ℕ)) → (S → ℕ) → Pull S → Pull S → Result X StreamFault → (ℕ → List ℕ → Result Y WantFault) → Type 0
-WantStopsTaken left faults old new result read = IfErr result (λ e. WantBreaks (pull_state left faults old) (pull_state left faults new) e read)
+abbrev pub WantStopsTaken : {S X Y : Type 0} → (S → ReadHalf) → Pull S → Pull S → Result X StreamFault → (ℕ → List ℕ → Result Y WantFault) → Type 0
+WantStopsTaken half old new result read = IfErr result (λ e. WantBreaks (pull_state half old) (pull_state half new) e read)
 
 -- ---- lists of wants
 

@@ -5,6 +5,7 @@ ghost use Rattle.class_desc.specs.declared.slot.Slot.{Slot};
 ghost use Rattle.class_desc.specs.TypeCode.{is_primitive};
 ghost use Rattle.stream_grammar.specs.Reading.{Progress, Step, plain, byte_at, number_at, many_at, value_at, elements_at};
 ghost use Rattle.ser_read.specs.Signed.{signed_at, truth_at};
+ghost use Rattle.ser_read.specs.declared.numbers.TheConstants.{BLOCK};
 ghost use Rattle.ser_read.specs.Here.{ReadsTaken, StopsTaken};
 ghost use Rattle.std.proofs.Common.{rules};
 ghost use Rattle.ser_read.specs.NumberRuns.{byte_of, truth_of, number_of, signed_of, of_front, run_of, byte_is, truth_is, number_is, signed_is};
@@ -12,13 +13,14 @@ ghost use Rattle.ser_read.specs.NumberRuns.{byte_of, truth_of, number_of, signed
 use crate::fault::StreamFault;
 use crate::pulled::{byte, eight, four, piece, take, two};
 use class_desc::TypeCode;
+use lane_kernels::{be_words32, be_words64};
 use sequence::{ByteList, Sequence};
 use ser_values::{Value, Values};
 use std::alloc::{AllocError, Global};
 use wire_io::pull::Pull;
 use wire_io::source::Source;
 
-/// How many numbers are taken at once at most.
+/// How many numbers are taken at once at most, of at most eight bytes each.
 const BLOCK: u32 = 512;
 
 /// What is read from a fixed number of bytes.
@@ -36,13 +38,31 @@ pub(crate) trait Number: Drop {
     /// The next one.
     fn pull<S: Source>(pull: &mut Pull<'_, S>) -> Result<Self, StreamFault>
         ensures lent { pull.new.source.ghost_name ≡ pull.old.source.ghost_name }
-        ensures reads { (now : Progress) → ReadsTaken S.left S.faults pull.old pull.new result (λ end. read now) (λ x rest. (x, now, rest)) }
-        ensures stops { (now : Progress) → StopsTaken S.left S.faults pull.old pull.new result (λ end. read now) };
+        ensures reads { (now : Progress) → ReadsTaken S.half pull.old pull.new result (λ end. read now) (λ x rest. (x, now, rest)) }
+        ensures stops { (now : Progress) → StopsTaken S.half pull.old pull.new result (λ end. read now) };
 
     /// The one that these bytes spell.
     fn of(bytes: &[u8]) -> Self
         requires { length bytes.now ≡ WIDTH }
         ensures { result ≡ value bytes.now };
+
+    /// Appends the `count` numbers that the bytes spell.
+    fn append_block(
+        numbers: &mut Sequence<Self>,
+        bytes: &[u8],
+        count: u32,
+    ) -> Result<(), AllocError>
+        requires long { length bytes.now ≡ count * WIDTH }
+        requires short { count ≤ BLOCK }
+        ensures { OnOk result (numbers.new ≡ numbers.old ++ run_of WIDTH value count bytes.now) }
+    {
+        let mut at = 0;
+        for _ in 0..count {
+            numbers.push(Self::of(&bytes[at..at + Self::WIDTH]))?;
+            at += Self::WIDTH;
+        }
+        Ok(())
+    }
 
     /// It has few bytes.
     ghost few: { WIDTH ≤ 8 };
@@ -182,6 +202,18 @@ impl Number for i32 {
     fn of(bytes: &[u8]) -> i32 {
         i32::from_be_bytes([bytes[0], bytes[1], bytes[2], bytes[3]])
     }
+
+    fn append_block(
+        numbers: &mut Sequence<i32>,
+        bytes: &[u8],
+        count: u32,
+    ) -> Result<(), AllocError> {
+        let mut words = [0; BLOCK as usize];
+        let words = &mut words[..count as usize];
+        be_words32(bytes, words);
+        numbers.append(words)?;
+        Ok(())
+    }
 }
 
 impl Number for i64 {
@@ -205,6 +237,18 @@ impl Number for i64 {
         i64::from_be_bytes([
             bytes[0], bytes[1], bytes[2], bytes[3], bytes[4], bytes[5], bytes[6], bytes[7],
         ])
+    }
+
+    fn append_block(
+        numbers: &mut Sequence<i64>,
+        bytes: &[u8],
+        count: u32,
+    ) -> Result<(), AllocError> {
+        let mut words = [0; BLOCK as usize];
+        let words = &mut words[..count as usize];
+        be_words64(bytes, words);
+        numbers.append(words)?;
+        Ok(())
     }
 }
 
@@ -237,42 +281,25 @@ fn numbers<T: Number, S: Source>(
     n: u32,
 ) -> Result<Sequence<T>, StreamFault>
     ensures lent { pull.new.source.ghost_name ≡ pull.old.source.ghost_name }
-    ensures reads { (now : Progress) → ReadsTaken S.left S.faults pull.old pull.new result (λ end. many_at T.read n now) (λ x rest. (x, now, rest)) }
-    ensures stops { (now : Progress) → StopsTaken S.left S.faults pull.old pull.new result (λ end. many_at T.read n now) }
+    ensures reads { (now : Progress) → ReadsTaken S.half pull.old pull.new result (λ end. many_at T.read n now) (λ x rest. (x, now, rest)) }
+    ensures stops { (now : Progress) → StopsTaken S.half pull.old pull.new result (λ end. many_at T.read n now) }
 {
     let mut numbers = Sequence::new(alloc);
     let mut left = n;
     while left > 0 {
         let more = left.min(BLOCK);
         let block = piece(alloc, pull, more * T::WIDTH as u32)?;
-        append_run(&mut numbers, block.as_slice(), more)?;
+        T::append_block(&mut numbers, block.as_slice(), more)?;
         left -= more;
     }
     Ok(numbers)
 }
 
-/// Appends the `count` numbers that the bytes spell.
-fn append_run<T: Number>(
-    numbers: &mut Sequence<T>,
-    bytes: &[u8],
-    count: u32,
-) -> Result<(), AllocError>
-    requires { length bytes.now ≡ count * T.WIDTH }
-    ensures { OnOk result (numbers.new ≡ numbers.old ++ run_of T.WIDTH T.value count bytes.now) }
-{
-    let mut at = 0;
-    for _ in 0..count {
-        numbers.push(T::of(&bytes[at..at + T::WIDTH]))?;
-        at += T::WIDTH;
-    }
-    Ok(())
-}
-
 /// The next `n` bytes, as elements.
 fn bytes<S: Source>(alloc: Global, pull: &mut Pull<'_, S>, n: u32) -> Result<ByteList, StreamFault>
     ensures lent { pull.new.source.ghost_name ≡ pull.old.source.ghost_name }
-    ensures reads { (now : Progress) → ReadsTaken S.left S.faults pull.old pull.new result (λ end. many_at (plain byte_at) n now) (λ x rest. (x, now, rest)) }
-    ensures stops { (now : Progress) → StopsTaken S.left S.faults pull.old pull.new result (λ end. many_at (plain byte_at) n now) }
+    ensures reads { (now : Progress) → ReadsTaken S.half pull.old pull.new result (λ end. many_at (plain byte_at) n now) (λ x rest. (x, now, rest)) }
+    ensures stops { (now : Progress) → StopsTaken S.half pull.old pull.new result (λ end. many_at (plain byte_at) n now) }
 {
     let bytes = take(alloc, pull, u64::from(n))?;
     Ok(bytes)
@@ -286,8 +313,8 @@ pub(crate) fn primitive<S: Source>(
 ) -> Result<Value, StreamFault>
     requires { is_primitive code ≡ true }
     ensures lent { pull.new.source.ghost_name ≡ pull.old.source.ghost_name }
-    ensures reads { (inner : Step Slot) (now : Progress) → ReadsTaken S.left S.faults pull.old pull.new result (λ end. value_at inner code now) (λ x rest. (x, now, rest)) }
-    ensures stops { (inner : Step Slot) (now : Progress) → StopsTaken S.left S.faults pull.old pull.new result (λ end. value_at inner code now) }
+    ensures reads { (inner : Step Slot) (now : Progress) → ReadsTaken S.half pull.old pull.new result (λ end. value_at inner code now) (λ x rest. (x, now, rest)) }
+    ensures stops { (inner : Step Slot) (now : Progress) → StopsTaken S.half pull.old pull.new result (λ end. value_at inner code now) }
 {
     match code {
         TypeCode::Byte => Ok(Value::Byte(u8::pull(pull)?)),
@@ -313,8 +340,8 @@ pub(crate) fn primitives<S: Source>(
 ) -> Result<Values, StreamFault>
     requires { is_primitive code ≡ true }
     ensures lent { pull.new.source.ghost_name ≡ pull.old.source.ghost_name }
-    ensures reads { (inner : Step Slot) (now : Progress) → ReadsTaken S.left S.faults pull.old pull.new result (λ end. elements_at inner code n now) (λ x rest. (x, now, rest)) }
-    ensures stops { (inner : Step Slot) (now : Progress) → StopsTaken S.left S.faults pull.old pull.new result (λ end. elements_at inner code n now) }
+    ensures reads { (inner : Step Slot) (now : Progress) → ReadsTaken S.half pull.old pull.new result (λ end. elements_at inner code n now) (λ x rest. (x, now, rest)) }
+    ensures stops { (inner : Step Slot) (now : Progress) → StopsTaken S.half pull.old pull.new result (λ end. elements_at inner code n now) }
 {
     match code {
         TypeCode::Byte => Ok(Values::Bytes(bytes(alloc, pull, n)?)),

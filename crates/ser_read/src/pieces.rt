@@ -93,8 +93,8 @@ pub(crate) fn handle<S: Source>(
 ) -> Result<Slot, StreamFault>
     ensures some { IfOk result (λ slot. slot ≢ Null) }
     ensures lent { pull.new.source.ghost_name ≡ pull.old.source.ghost_name }
-    ensures reads { ReadsTaken S.left S.faults pull.old pull.new result (λ end. handle_at place table.now.unread.items at (now_of table.now)) (λ x rest. (x, now_of table.now, rest)) }
-    ensures stops { StopsTaken S.left S.faults pull.old pull.new result (λ end. handle_at place table.now.unread.items at (now_of table.now)) }
+    ensures reads { ReadsTaken S.half pull.old pull.new result (λ end. handle_at place table.now.unread.items at (now_of table.now)) (λ x rest. (x, now_of table.now, rest)) }
+    ensures stops { StopsTaken S.half pull.old pull.new result (λ end. handle_at place table.now.unread.items at (now_of table.now)) }
 {
     let handle = four(pull)?;
     if handle < FIRST_HANDLE {
@@ -114,8 +114,8 @@ pub(crate) fn names<S: Source>(
     n: u32,
 ) -> Result<NameList, StreamFault>
     ensures lent { pull.new.source.ghost_name ≡ pull.old.source.ghost_name }
-    ensures reads { (now : Progress) → ReadsTaken S.left S.faults pull.old pull.new result (λ end. many_at (plain (short_at end)) n now) (λ x rest. (x, now, rest)) }
-    ensures stops { (now : Progress) → StopsTaken S.left S.faults pull.old pull.new result (λ end. many_at (plain (short_at end)) n now) }
+    ensures reads { (now : Progress) → ReadsTaken S.half pull.old pull.new result (λ end. many_at (plain (short_at end)) n now) (λ x rest. (x, now, rest)) }
+    ensures stops { (now : Progress) → StopsTaken S.half pull.old pull.new result (λ end. many_at (plain (short_at end)) n now) }
 {
     let mut names = NameList::new(alloc);
     for _ in 0..n {

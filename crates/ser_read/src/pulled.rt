@@ -24,8 +24,8 @@ const FEW: u16 = 64;
 /// The next byte.
 pub(crate) fn byte<S: Source>(pull: &mut Pull<'_, S>) -> Result<u8, StreamFault>
     ensures lent { pull.new.source.ghost_name ≡ pull.old.source.ghost_name }
-    ensures reads { ReadsTaken S.left S.faults pull.old pull.new result (λ end. byte_at) (λ x rest. (x, rest)) }
-    ensures stops { StopsTaken S.left S.faults pull.old pull.new result (λ end. byte_at) }
+    ensures reads { ReadsTaken S.half pull.old pull.new result (λ end. byte_at) (λ x rest. (x, rest)) }
+    ensures stops { StopsTaken S.half pull.old pull.new result (λ end. byte_at) }
 {
     Ok(pull.byte()?)
 }
@@ -43,8 +43,8 @@ fn see(bytes: &[u8])
 #[inline(always)]
 pub(crate) fn fill<S: Source>(pull: &mut Pull<'_, S>, buf: &mut [u8]) -> Result<(), StreamFault>
     ensures lent { pull.new.source.ghost_name ≡ pull.old.source.ghost_name }
-    ensures reads { ReadsTaken S.left S.faults pull.old pull.new result (λ end. take_at (length buf.old)) (λ x rest. (buf.new, rest)) }
-    ensures stops { StopsTaken S.left S.faults pull.old pull.new result (λ end. take_at (length buf.old)) }
+    ensures reads { ReadsTaken S.half pull.old pull.new result (λ end. take_at (length buf.old)) (λ x rest. (buf.new, rest)) }
+    ensures stops { StopsTaken S.half pull.old pull.new result (λ end. take_at (length buf.old)) }
 {
     pull.take_into(buf)?;
     see(buf);
@@ -55,8 +55,8 @@ pub(crate) fn fill<S: Source>(pull: &mut Pull<'_, S>, buf: &mut [u8]) -> Result<
 #[inline(always)]
 pub(crate) fn two<S: Source>(pull: &mut Pull<'_, S>) -> Result<u16, StreamFault>
     ensures lent { pull.new.source.ghost_name ≡ pull.old.source.ghost_name }
-    ensures reads { ReadsTaken S.left S.faults pull.old pull.new result (λ end. number_at w16) (λ x rest. (x, rest)) }
-    ensures stops { StopsTaken S.left S.faults pull.old pull.new result (λ end. number_at w16) }
+    ensures reads { ReadsTaken S.half pull.old pull.new result (λ end. number_at w16) (λ x rest. (x, rest)) }
+    ensures stops { StopsTaken S.half pull.old pull.new result (λ end. number_at w16) }
 {
     let mut bytes = [0; 2];
     fill(pull, &mut bytes)?;
@@ -67,8 +67,8 @@ pub(crate) fn two<S: Source>(pull: &mut Pull<'_, S>) -> Result<u16, StreamFault>
 #[inline(always)]
 pub(crate) fn four<S: Source>(pull: &mut Pull<'_, S>) -> Result<u32, StreamFault>
     ensures lent { pull.new.source.ghost_name ≡ pull.old.source.ghost_name }
-    ensures reads { ReadsTaken S.left S.faults pull.old pull.new result (λ end. number_at w32) (λ x rest. (x, rest)) }
-    ensures stops { StopsTaken S.left S.faults pull.old pull.new result (λ end. number_at w32) }
+    ensures reads { ReadsTaken S.half pull.old pull.new result (λ end. number_at w32) (λ x rest. (x, rest)) }
+    ensures stops { StopsTaken S.half pull.old pull.new result (λ end. number_at w32) }
 {
     let mut bytes = [0; 4];
     fill(pull, &mut bytes)?;
@@ -79,8 +79,8 @@ pub(crate) fn four<S: Source>(pull: &mut Pull<'_, S>) -> Result<u32, StreamFault
 #[inline(always)]
 pub(crate) fn eight<S: Source>(pull: &mut Pull<'_, S>) -> Result<u64, StreamFault>
     ensures lent { pull.new.source.ghost_name ≡ pull.old.source.ghost_name }
-    ensures reads { ReadsTaken S.left S.faults pull.old pull.new result (λ end. number_at w64) (λ x rest. (x, rest)) }
-    ensures stops { StopsTaken S.left S.faults pull.old pull.new result (λ end. number_at w64) }
+    ensures reads { ReadsTaken S.half pull.old pull.new result (λ end. number_at w64) (λ x rest. (x, rest)) }
+    ensures stops { StopsTaken S.half pull.old pull.new result (λ end. number_at w64) }
 {
     let mut bytes = [0; 8];
     fill(pull, &mut bytes)?;
@@ -91,8 +91,8 @@ pub(crate) fn eight<S: Source>(pull: &mut Pull<'_, S>) -> Result<u64, StreamFaul
 #[tactic(auto, unfolding(stream_grammar::specs::Reading::size_at))]
 pub(crate) fn count<S: Source>(pull: &mut Pull<'_, S>) -> Result<u32, StreamFault>
     ensures lent { pull.new.source.ghost_name ≡ pull.old.source.ghost_name }
-    ensures reads { ReadsTaken S.left S.faults pull.old pull.new result (λ end. size_at end w32 (2 ^ 31)) (λ x rest. (x, rest)) }
-    ensures stops { StopsTaken S.left S.faults pull.old pull.new result (λ end. size_at end w32 (2 ^ 31)) }
+    ensures reads { ReadsTaken S.half pull.old pull.new result (λ end. size_at end w32 (2 ^ 31)) (λ x rest. (x, rest)) }
+    ensures stops { StopsTaken S.half pull.old pull.new result (λ end. size_at end w32 (2 ^ 31)) }
 {
     let at = pull.at;
     let count = four(pull)?;
@@ -107,8 +107,8 @@ pub(crate) fn count<S: Source>(pull: &mut Pull<'_, S>) -> Result<u32, StreamFaul
 #[tactic(auto, unfolding(stream_grammar::specs::Reading::size_at))]
 fn long_length<S: Source>(pull: &mut Pull<'_, S>) -> Result<u64, StreamFault>
     ensures lent { pull.new.source.ghost_name ≡ pull.old.source.ghost_name }
-    ensures reads { ReadsTaken S.left S.faults pull.old pull.new result (λ end. size_at end w64 (2 ^ 63)) (λ x rest. (x, rest)) }
-    ensures stops { StopsTaken S.left S.faults pull.old pull.new result (λ end. size_at end w64 (2 ^ 63)) }
+    ensures reads { ReadsTaken S.half pull.old pull.new result (λ end. size_at end w64 (2 ^ 63)) (λ x rest. (x, rest)) }
+    ensures stops { StopsTaken S.half pull.old pull.new result (λ end. size_at end w64 (2 ^ 63)) }
 {
     let at = pull.at;
     let length = eight(pull)?;
@@ -136,8 +136,8 @@ pub(crate) fn piece<S: Source>(
     n: u32,
 ) -> Result<ByteList, StreamFault>
     ensures lent { pull.new.source.ghost_name ≡ pull.old.source.ghost_name }
-    ensures reads { ReadsTaken S.left S.faults pull.old pull.new result (λ end. take_at n) (λ x rest. (x, rest)) }
-    ensures stops { StopsTaken S.left S.faults pull.old pull.new result (λ end. take_at n) }
+    ensures reads { ReadsTaken S.half pull.old pull.new result (λ end. take_at n) (λ x rest. (x, rest)) }
+    ensures stops { StopsTaken S.half pull.old pull.new result (λ end. take_at n) }
 {
     let bytes = pull.take(alloc, n)?;
     see(bytes.as_slice());
@@ -163,8 +163,8 @@ pub(crate) fn take<S: Source>(
     n: u64,
 ) -> Result<ByteList, StreamFault>
     ensures lent { pull.new.source.ghost_name ≡ pull.old.source.ghost_name }
-    ensures reads { ReadsTaken S.left S.faults pull.old pull.new result (λ end. take_at n) (λ x rest. (x, rest)) }
-    ensures stops { StopsTaken S.left S.faults pull.old pull.new result (λ end. take_at n) }
+    ensures reads { ReadsTaken S.half pull.old pull.new result (λ end. take_at n) (λ x rest. (x, rest)) }
+    ensures stops { StopsTaken S.half pull.old pull.new result (λ end. take_at n) }
 {
     let mut bytes = ByteList::new(alloc);
     let mut left = n;
@@ -182,8 +182,8 @@ pub(crate) fn take<S: Source>(
 #[tactic(auto, unfolding(stream_grammar::specs::Reading::units_at))]
 fn units<S: Source>(alloc: Global, pull: &mut Pull<'_, S>, n: u64) -> Result<Units, StreamFault>
     ensures lent { pull.new.source.ghost_name ≡ pull.old.source.ghost_name }
-    ensures reads { ReadsTaken S.left S.faults pull.old pull.new result (λ end. units_at end n) (λ x rest. (x, rest)) }
-    ensures stops { StopsTaken S.left S.faults pull.old pull.new result (λ end. units_at end n) }
+    ensures reads { ReadsTaken S.half pull.old pull.new result (λ end. units_at end n) (λ x rest. (x, rest)) }
+    ensures stops { StopsTaken S.half pull.old pull.new result (λ end. units_at end n) }
 {
     let start = pull.at;
     let bytes = take(alloc, pull, n)?;
@@ -209,8 +209,8 @@ fn is_few(n: u16) -> bool
 fn few_units<S: Source>(alloc: Global, pull: &mut Pull<'_, S>, n: u16) -> Result<Units, StreamFault>
     requires { n ≤ FEW }
     ensures lent { pull.new.source.ghost_name ≡ pull.old.source.ghost_name }
-    ensures reads { ReadsTaken S.left S.faults pull.old pull.new result (λ end. units_at end n) (λ x rest. (x, rest)) }
-    ensures stops { StopsTaken S.left S.faults pull.old pull.new result (λ end. units_at end n) }
+    ensures reads { ReadsTaken S.half pull.old pull.new result (λ end. units_at end n) (λ x rest. (x, rest)) }
+    ensures stops { StopsTaken S.half pull.old pull.new result (λ end. units_at end n) }
 {
     let start = pull.at;
     let mut buf = [0; FEW as usize];
@@ -238,8 +238,8 @@ pub(crate) fn short_text<S: Source>(
     pull: &mut Pull<'_, S>,
 ) -> Result<Units, StreamFault>
     ensures lent { pull.new.source.ghost_name ≡ pull.old.source.ghost_name }
-    ensures reads { ReadsTaken S.left S.faults pull.old pull.new result (λ end. short_at end) (λ x rest. (x, rest)) }
-    ensures stops { StopsTaken S.left S.faults pull.old pull.new result (λ end. short_at end) }
+    ensures reads { ReadsTaken S.half pull.old pull.new result (λ end. short_at end) (λ x rest. (x, rest)) }
+    ensures stops { StopsTaken S.half pull.old pull.new result (λ end. short_at end) }
 {
     let n = two(pull)?;
     if is_few(n) {
@@ -256,8 +256,8 @@ pub(crate) fn long_text<S: Source>(
     pull: &mut Pull<'_, S>,
 ) -> Result<Units, StreamFault>
     ensures lent { pull.new.source.ghost_name ≡ pull.old.source.ghost_name }
-    ensures reads { ReadsTaken S.left S.faults pull.old pull.new result (λ end. long_at end) (λ x rest. (x, rest)) }
-    ensures stops { StopsTaken S.left S.faults pull.old pull.new result (λ end. long_at end) }
+    ensures reads { ReadsTaken S.half pull.old pull.new result (λ end. long_at end) (λ x rest. (x, rest)) }
+    ensures stops { StopsTaken S.half pull.old pull.new result (λ end. long_at end) }
 {
     let n = long_length(pull)?;
     units(alloc, pull, n)

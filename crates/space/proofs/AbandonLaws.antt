@@ -4,6 +4,7 @@ use Rattle.std.specs.Prelude.{Bool, true, false, ◌||◌, if◌then◌else◌}
 use Rattle.std.specs.List.{list_any}
 use Rattle.std.proofs.lemmas.Bool.{lt-ltb, le-ltb}
 use Rattle.object_ids.specs.declared.ids.ObjId.{ObjId}
+use Rattle.history.specs.declared.places.Exported.{Exported}
 use Rattle.history.specs.declared.asks.SpaceConfig.{SpaceConfig}
 use Rattle.history.specs.declared.asks.Event.{Event}
 use Rattle.history.specs.declared.asks.Ask.TheVariants.{Abandon}
@@ -34,7 +35,7 @@ use Rattle.export_table.specs.StandsForHistory.{rows_of}
 -- ---- before it acts
 
 -- What is said of the space is said of its fields.
-pub is-running : (config : SpaceConfig) (events : List Event) (by : ℕ) (o : ObjId) (s : SpaceHistory) → record { configuration = config; events = events } ≡ s → 0 < running_calls_by (places s.configuration s.events) by o → 0 < running_calls_by (places config events) by o
+pub is-running : {shown : List Exported} (config : SpaceConfig) (events : List Event) (by : ℕ) (o : ObjId) (s : SpaceHistory) → record { configuration = config; events = events; rows = shown } ≡ s → 0 < running_calls_by (places s.configuration s.events) by o → 0 < running_calls_by (places config events) by o
 is-running config events by o s v r = let P : SpaceHistory → Type 0 = λ h. 0 < running_calls_by (places h.configuration h.events) by o in subst P (sym v) r
 
 pub runs-effective : (config : SpaceConfig) (events : List Event) (by : ℕ) (o : ObjId) → 0 < running_calls_by (places config events) by o → is_effective config (places config events) by (Abandon o) ≡ true
@@ -125,8 +126,8 @@ end-room config events events' by m o leases leases' x y runs runs' withdrawn wi
     (omega arith) (omega (arith, longer, calls, fewer, ends, er)) (omega (arith, goes, wr))
 
 -- WHAT IT IS ANSWERED, of the space that contracts see.
-pub end-step : (config : SpaceConfig) (events events' : List Event) (by m : ℕ) (o : ObjId) (leases leases1 : LeaseTable) (exports t : ExportTable) (runs : List Run) (withdrawn : List Withdrawal) (reported opened used moment : ℕ) (s : SpaceHistory) →
-    HasActed config events (event_of by m (Abandon o)) leases leases1 exports t runs withdrawn reported opened used moment true → record { configuration = config; events = events } ≡ s → events' ≡ events ++ event_of by m (Abandon o) ∷ [] →
+pub end-step : {shown : List Exported} (config : SpaceConfig) (events events' : List Event) (by m : ℕ) (o : ObjId) (leases leases1 : LeaseTable) (exports t : ExportTable) (runs : List Run) (withdrawn : List Withdrawal) (reported opened used moment : ℕ) (s : SpaceHistory) →
+    HasActed config events (event_of by m (Abandon o)) leases leases1 exports t runs withdrawn reported opened used moment true → record { configuration = config; events = events; rows = shown } ≡ s → events' ≡ events ++ event_of by m (Abandon o) ∷ [] →
     Step s.configuration s.events (event_of by m (Abandon o)) (Ok (turn_of s.configuration s.events (event_of by m (Abandon o)))) events'
 end-step config events events' by m o leases leases1 exports t runs withdrawn reported opened used moment s a v ev =
     let P : SpaceHistory → Type 0 = λ h. Step h.configuration h.events (event_of by m (Abandon o)) (Ok (turn_of h.configuration h.events (event_of by m (Abandon o)))) events' in

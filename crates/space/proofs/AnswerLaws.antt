@@ -20,6 +20,7 @@ use Rattle.history.specs.declared.replies.Refused.{Refused}
 use Rattle.history.specs.declared.replies.Refused.TheVariants.{HistoryFull, Full, OutOfMemory}
 use Rattle.history.specs.declared.replies.Turn.{Turn}
 use Rattle.history.specs.LeaseCalls.{call_with, lease_calls}
+use Rattle.history.proofs.GrantLaws.{grant-within}
 use Rattle.history.specs.Leases.{is_dirty_kind}
 use Rattle.history.specs.Limits.{limits, refusal}
 use Rattle.history.specs.Steps.{Step}
@@ -87,7 +88,7 @@ reply-row config h e d few short = go e.ask
     go (Open kind pinned) = tt
     go (Begin o) = begun o (is_effective config h e.by (Begin o)) (kind_of (table config h) o)
     go (Abandon o) = ended o (nat_lt 0 (running_calls_by h e.by o)) refl
-    go (Dirty x y z w) = d.short_lease
+    go (Dirty x y z w) = let within = grant-within config.lease_ms z in let short = d.short_lease in omega (arith, within, short)
     go (Clean x y z w) = tt
     go (Ack u) = tt
     go Tick = tt
@@ -170,8 +171,8 @@ refused-row (Rebind x y) used running exported v lease n m count before names_it
     fills (Rebind x y) _ _ (first_of_two (await_refusal n rows waits stood v (Rebind x y)) (told_refusal lease n before (call_with names_it m (Rebind x y)) count stood v (Rebind x y))) refused (λ t. absurd (exports-stay exported few t)) (λ t. name-fills (Rebind x y) _ refused tt t) s
 
 -- WHAT AN EVENT IS ANSWERED is one of its ask's row.
-pub answer-row : (config : SpaceConfig) (events h2 : List Event) (e : Event) (leases : LeaseTable) (exports : ExportTable) (runs : List Run) (withdrawn : List Withdrawal) (reported opened used moment : ℕ) (s : SpaceHistory) (answer : Result Turn Refused) →
-    Keeps config events leases exports runs withdrawn reported opened used moment → AllByRecursion (λ n. length n ≤ MAX_NAME_UNITS) (names (places config events)) → record { configuration = config; events = events } ≡ s → Step s.configuration s.events e answer h2 →
+pub answer-row : {shown : List Exported} (config : SpaceConfig) (events h2 : List Event) (e : Event) (leases : LeaseTable) (exports : ExportTable) (runs : List Run) (withdrawn : List Withdrawal) (reported opened used moment : ℕ) (s : SpaceHistory) (answer : Result Turn Refused) →
+    Keeps config events leases exports runs withdrawn reported opened used moment → AllByRecursion (λ n. length n ≤ MAX_NAME_UNITS) (names (places config events)) → record { configuration = config; events = events; rows = shown } ≡ s → Step s.configuration s.events e answer h2 →
     IsAnswerTo (λ o. 0 < running_calls_by (places s.configuration s.events) e.by o) e.ask answer
 answer-row config events h2 e leases exports runs withdrawn reported opened used moment s answer k short v t =
     let P : SpaceHistory → Type 0 = λ h. Step h.configuration h.events e answer h2 in

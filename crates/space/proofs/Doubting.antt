@@ -1,6 +1,6 @@
 -- What can go at an event: only an object from which the event, or the time that passed, took what kept it, and one that the event exports.
 use Rattle.std.proofs.Common.{◌≡◌, ℕ, ◌+◌, ◌≤◌, inl, inr, List, [], ◌∷◌, ◌++◌, refl, ap, sym, ◌∙◌, cond, max, arith, Option, Some, None}
-use Rattle.std.specs.Prelude.{Bool, true, false, not, ◌&&◌, ◌||◌, filter, nat_lt, option_to_list, if◌then◌else◌}
+use Rattle.std.specs.Prelude.{pos, Bool, true, false, not, ◌&&◌, ◌||◌, filter, nat_lt, option_to_list, if◌then◌else◌}
 use Rattle.std.specs.List.{list_any, list_all}
 use Rattle.std.proofs.lemmas.Bool.{and_parts, and_from, or_left, or_right, lt-ltb, true≢false}
 use Rattle.std.proofs.lemmas.List.Folds.{list_any-append, list_all-append}
@@ -158,11 +158,11 @@ waits-stay stood effective t ListNames x fresh returned o some h = h
 pub holds-stay : (names : ObjId → Bool) (lease t : ℕ) (a : Ask) (calls : List Call) (waits : List Wait) (fresh : ObjId) (stood : Option ObjId) (returned : List ObjId) (o : ObjId) → 1 ≤ lease → is_held lease t calls o ≡ true →
     (among (taken_by waits fresh stood returned a) o || is_held lease t (call_with names t a ++ calls) o) ≡ true
 holds-stay names lease t (Dirty c n g named) calls waits fresh stood returned o some h =
-    held-call lease calls (record { moment = t; client = c; number = n; objects = filter names named; kind = DirtyCall }) o some (inl refl) h
+    held-call lease calls (record { moment = t; client = c; number = n; objects = filter names named; kind = DirtyCall; asked = g }) o some (inl refl) h
 holds-stay names lease t (Clean c n named strong) calls waits fresh stood returned o some h = go (is_naming o call) refl
   where
     call : Call
-    call = record { moment = t; client = c; number = n; objects = filter names named; kind = if strong then Strong else Weak }
+    call = record { moment = t; client = c; number = n; objects = filter names named; kind = if strong then Strong else Weak; asked = pos 0 }
 
     go : (b : Bool) → is_naming o call ≡ b → (among named o || is_held lease t (call ∷ calls) o) ≡ true
     go false e = or_right (among named o) (is_held lease t (call ∷ calls) o) (held-call lease calls call o some (inr e) h)

@@ -1,8 +1,8 @@
 -- What a client holds, it holds on until its lease ends or a clean call names the object.
-use Rattle.std.proofs.Common.{◌≡◌, ℕ, ◌+◌, ◌≤◌, ◌⊎◌, inl, inr, List, ◌∷◌, ◌++◌, refl, ap, sym, ◌∙◌, cond, arith, Some}
-use Rattle.std.specs.Prelude.{Bool, true, false, ◌&&◌, ◌||◌, filter, find, nat_lt, int_lt, option_map, unwrap_or}
+use Rattle.std.proofs.Common.{◌≡◌, ℕ, ◌≤◌, ◌⊎◌, inl, inr, List, ◌∷◌, ◌++◌, refl, ap, sym, ◌∙◌, cond, arith}
+use Rattle.std.specs.Prelude.{Bool, true, false, ◌&&◌, ◌||◌, filter, max, nat_lt, int_lt, if◌then◌else◌}
 use Rattle.std.specs.List.{list_any, list_all}
-use Rattle.std.proofs.lemmas.Bool.{and_parts, and_from, or_left, or_right, lt-ltb}
+use Rattle.std.proofs.lemmas.Bool.{and_parts, and_from, or_left, or_right, lt-ltb, ltb-true}
 use Rattle.std.proofs.lemmas.List.Elements.{filter-append}
 use Rattle.object_ids.specs.declared.ids.ObjId.{ObjId}
 use Rattle.object_ids.specs.Client.{Client}
@@ -11,7 +11,7 @@ use Rattle.object_ids.proofs.Exact.{same_client-equal}
 use Rattle.history.specs.declared.calls.Call.{Call}
 use Rattle.history.specs.declared.calls.CallKind.{CallKind}
 use Rattle.history.specs.declared.calls.CallKind.TheVariants.{Dirty as DirtyCall, Weak, Strong}
-use Rattle.history.specs.Leases.{is_dirty, is_dirty_kind, is_strong, is_strong_kind, is_naming, lease_end, has_time_left, tenure, strong_cleans, counting_calls, highest_is_dirty, holds, calls_of, is_held}
+use Rattle.history.specs.Leases.{is_dirty, is_dirty_kind, is_strong, is_strong_kind, is_naming, grant_end, lease_end, has_time_left, tenure, strong_cleans, counting_calls, highest_is_dirty, holds, calls_of, is_held}
 use Rattle.history.proofs.LeaseLaws.{highest_is_dirty-scan, is_held-calls}
 use Rattle.history.proofs.ListLemmas.{Somewhere-test, test-Somewhere, witness}
 use Rattle.dgc_server.specs.StandsForCalls.{LeaseTable, StandsFor}
@@ -84,8 +84,8 @@ left-call : (lease : ℕ) (own : List Call) (x : Call) → 1 ≤ lease → has_t
 unfolding lease_end
 left-call lease own x some left = go (is_dirty x)
   where
-    go : (b : Bool) → nat_lt x.moment (unwrap_or (option_map (λ d. d.moment + lease) (cond b (Some x) (find is_dirty own))) 0) ≡ true
-    go true = lt-ltb x.moment (x.moment + lease) (omega arith)
+    go : (b : Bool) → nat_lt x.moment (if b then max (grant_end lease x) (lease_end lease own) else lease_end lease own) ≡ true
+    go true = lt-ltb x.moment (max (grant_end lease x) (lease_end lease own)) (let l = ltb-true x.moment (lease_end lease own) left in omega arith)
     go false = left
 
 holds-call : (lease : ℕ) (own : List Call) (x : Call) (o : ObjId) → 1 ≤ lease → (is_dirty x ≡ true) ⊎ (is_naming o x ≡ false) → holds lease x.moment own o ≡ true → holds lease x.moment (x ∷ own) o ≡ true

@@ -1,7 +1,7 @@
 -- The lease calls of a history, and the live ones: those that name only objects of a table. For each object of the table they say the
 -- same, and as objects leave the table the live calls forget them.
-use Rattle.std.proofs.Common.{◌≡◌, ℕ, ◌+◌, List, [], ◌∷◌, ◌++◌, refl, ap, sym, ◌∙◌, cond, map, Some}
-use Rattle.std.specs.Prelude.{Bool, true, false, ◌&&◌, ◌||◌, not, filter, find, nat_lt, if◌then◌else◌, option_map, unwrap_or}
+use Rattle.std.proofs.Common.{◌≡◌, ℕ, List, [], ◌∷◌, ◌++◌, refl, ap, sym, ◌∙◌, cond, map}
+use Rattle.std.specs.Prelude.{pos, Bool, true, false, ◌&&◌, ◌||◌, not, filter, max, nat_lt, if◌then◌else◌}
 use Rattle.std.specs.List.{list_any, AllByRecursion}
 use Rattle.std.proofs.lemmas.Bool.{or_parts}
 use Rattle.std.proofs.lemmas.List.Folds.{list_any-append}
@@ -18,7 +18,7 @@ use Rattle.history.specs.declared.calls.Pair.{Pair}
 use Rattle.history.specs.declared.places.Exported.{Exported}
 use Rattle.history.specs.Lists.{in_order}
 use Rattle.history.specs.LeaseCalls.{call_with}
-use Rattle.history.specs.Leases.{is_dirty, is_strong, is_naming, lease_end, has_time_left, calls_of, clients, clients_with_time_left, lease_rows, holders, is_held, is_remembered, same_pair, pairs_of, pairs_with, pairs, new_pairs}
+use Rattle.history.specs.Leases.{is_dirty, is_strong, is_naming, grant_end, lease_end, has_time_left, calls_of, clients, clients_with_time_left, lease_rows, holders, is_held, is_remembered, same_pair, pairs_of, pairs_with, pairs, new_pairs}
 use Rattle.history.specs.Places.{has}
 use Rattle.history.specs.Replies.{ids}
 use Rattle.history.proofs.AlikeCalls.{AllAlike, AllAlike-append, AllAlike-map, holders-alike, is_held-alike, is_remembered-alike, calls_of-alike}
@@ -43,7 +43,7 @@ live-naming objects o h x =
 
 pub live-alike : (objects : List Exported) (o : ObjId) (calls : List Call) → has objects o ≡ true → AllAlike o calls (live_calls objects calls)
 live-alike objects o calls h =
-    AllAlike-map o (live_call objects) (λ x. record { moment = refl; client = refl; number = refl; kind = refl; naming = live-naming objects o h x }) calls
+    AllAlike-map o (live_call objects) (λ x. record { moment = refl; client = refl; number = refl; kind = refl; asked = refl; naming = live-naming objects o h x }) calls
 
 -- The same clients hold it.
 pub holders-live : (objects : List Exported) (o : ObjId) (lease t : ℕ) (calls : List Call) → has objects o ≡ true → holders lease t calls o ≡ holders lease t (live_calls objects calls) o
@@ -71,10 +71,10 @@ unfolding lease_end
 live-end objects lease [] = refl
 live-end objects lease (x ∷ own) = go (is_dirty x) (live-end objects lease own)
   where
-    go : (b : Bool) → unwrap_or (option_map (λ d. d.moment + lease) (find is_dirty (live_calls objects own))) 0 ≡ unwrap_or (option_map (λ d. d.moment + lease) (find is_dirty own)) 0 →
-        unwrap_or (option_map (λ d. d.moment + lease) (cond b (Some (live_call objects x)) (find is_dirty (live_calls objects own)))) 0
-        ≡ unwrap_or (option_map (λ d. d.moment + lease) (cond b (Some x) (find is_dirty own))) 0
-    go true e = refl
+    go : (b : Bool) → lease_end lease (live_calls objects own) ≡ lease_end lease own →
+        (if b then max (grant_end lease x) (lease_end lease (live_calls objects own)) else lease_end lease (live_calls objects own))
+        ≡ (if b then max (grant_end lease x) (lease_end lease own) else lease_end lease own)
+    go true e = ap (max (grant_end lease x)) e
     go false e = e
 
 pub live-lease_end : (objects : List Exported) (lease : ℕ) (c : Client) (calls : List Call) → lease_end lease (calls_of c (live_calls objects calls)) ≡ lease_end lease (calls_of c calls)
@@ -259,9 +259,9 @@ live-kept objects more exported objects' stays n (x ∷ calls) e =
 live-call : (objects more exported objects' : List Exported) (stays : Exported → Bool) → IsNext objects more exported objects' stays → (moment : ℕ) (a : Ask) →
     live_calls objects' (call_with (has exported) moment a) ≡ map (without_all (gone_of (objects ++ more) stays)) (call_with (has objects) moment a)
 live-call objects more exported objects' stays n moment (Dirty client number asked named) =
-    ap (λ (os : List ObjId). record { moment = moment; client = client; number = number; objects = os; kind = DirtyCall } ∷ []) (live-reported objects more exported objects' stays n named)
+    ap (λ (os : List ObjId). record { moment = moment; client = client; number = number; objects = os; kind = DirtyCall; asked = asked } ∷ []) (live-reported objects more exported objects' stays n named)
 live-call objects more exported objects' stays n moment (Clean client number named strong) =
-    ap (λ (os : List ObjId). record { moment = moment; client = client; number = number; objects = os; kind = if strong then Strong else Weak } ∷ []) (live-reported objects more exported objects' stays n named)
+    ap (λ (os : List ObjId). record { moment = moment; client = client; number = number; objects = os; kind = if strong then Strong else Weak; asked = pos 0 } ∷ []) (live-reported objects more exported objects' stays n named)
 live-call objects more exported objects' stays n moment _ = refl
 
 -- THE LIVE CALLS AFTER AN EVENT are those before it with the event's own, without the objects that go.
@@ -285,7 +285,7 @@ reported-alike objects exported o moment a calls same none =
     silent [] e h = tt
     silent (x ∷ xs) e h =
         let two = or_parts (is_naming o x) (list_any (is_naming o) xs) e in
-        (record { moment = refl; client = refl; number = refl; kind = refl; naming = two.0 ∙ sym (nameless x.objects two.0) }, silent xs two.1 h)
+        (record { moment = refl; client = refl; number = refl; kind = refl; asked = refl; naming = two.0 ∙ sym (nameless x.objects two.0) }, silent xs two.1 h)
       where
         nameless : (ys : List ObjId) → list_any (λ y. same_id y o) ys ≡ false → list_any (λ y. same_id y o) (filter (has objects) ys) ≡ false
         nameless [] f = refl

@@ -154,7 +154,7 @@ pub record IsSmall (asked : Ask) (bound : List (List ℕ)) (turn : Turn) (ids_ro
   pub ids : (os : List ObjId) → turn.reply ≡ Finished os → length os ≤ ids_room
   pub names : (ns : List (List ℕ)) → turn.reply ≡ Names ns → (asked ≡ ListNames) × (bound ≡ ns)
 
-pub turn-small : (config : SpaceConfig) (events h2 : List Event) (e : Event) (s : SpaceHistory) (turn : Turn) → record { configuration = config; events = events } ≡ s → Step s.configuration s.events e (Ok turn) h2 →
+pub turn-small : {shown : List Exported} (config : SpaceConfig) (events h2 : List Event) (e : Event) (s : SpaceHistory) (turn : Turn) → record { configuration = config; events = events; rows = shown } ≡ s → Step s.configuration s.events e (Ok turn) h2 →
     IsSmall e.ask (names (places config events)) turn (made_by e.ask)
 turn-small config events h2 e s turn v t =
     let P : SpaceHistory → Type 0 = λ h. Step h.configuration h.events e (Ok turn) h2 in
@@ -163,8 +163,8 @@ turn-small config events h2 e s turn v t =
     subst R (sym is) (record { ids = λ os p. reply-ids config (places config events) e os p; names = λ ns p. reply-names config (places config events) e ns p })
 
 -- The same as there is room for a copy.
-pub fits-turn : (config : SpaceConfig) (events h2 : List Event) (e : Event) (s : SpaceHistory) (answer : Result (Turn × List ObjId) Refused) (ids_room : ℕ) (listed : List (List ℕ)) →
-    record { configuration = config; events = events } ≡ s → Step s.configuration s.events e (turn_answer answer) h2 →
+pub fits-turn : {shown : List Exported} (config : SpaceConfig) (events h2 : List Event) (e : Event) (s : SpaceHistory) (answer : Result (Turn × List ObjId) Refused) (ids_room : ℕ) (listed : List (List ℕ)) →
+    record { configuration = config; events = events; rows = shown } ≡ s → Step s.configuration s.events e (turn_answer answer) h2 →
     (e.ask ≡ ListNames → listed ≡ names (places config events)) → made_by e.ask ≤ ids_room → IfOk answer (λ x. x.1 ≡ x.0.gone) → NoteFitsIn answer ids_room listed
 fits-turn config events h2 e s (Ok x) ids_room listed v t l i g =
     let small = turn-small config events h2 e s x.0 v t in
@@ -189,3 +189,8 @@ stays (Err refused) P e p = p
 pub turned-ok : (answer : Result (Turn × List ObjId) Refused) (P : Type 0) → OnOk answer P → OnOk (turn_answer answer) P
 turned-ok (Ok x) P p = p
 turned-ok (Err refused) P p = p
+
+-- So does what holds where it is refused.
+pub turned-err : (answer : Result (Turn × List ObjId) Refused) (P : Type 0) → OnErr answer P → OnErr (turn_answer answer) P
+turned-err (Ok x) P p = p
+turned-err (Err refused) P p = p

@@ -178,8 +178,8 @@ call-is config h e w = go e.ask
         (if nat_lt MAX_CLIENTS (clients_with_event config h (record e { ask = a })) then Some (Full Clients) else if nat_lt MAX_PAIRS (pairs_with_event config h (record e { ask = a })) then Some (Full Pairs) else None)
         ≡ lease_refusal config.lease_ms (max e.moment (now h)) (live_calls (table config h) (lease_calls h)) (lease_call config h (record e { ask = a }))
     go (Dirty client number asked objects) =
-        two _ _ _ _ (clients-reported (table config h) config.lease_ms (max e.moment (now h)) (lease_calls h) (dirty_call (max e.moment (now h)) client number (filter (has (table config h)) objects)))
-        (pairs-reported (table config h) config.lease_ms (lease_calls h) (dirty_call (max e.moment (now h)) client number (filter (has (table config h)) objects)))
+        two _ _ _ _ (clients-reported (table config h) config.lease_ms (max e.moment (now h)) (lease_calls h) (dirty_call (max e.moment (now h)) client number asked (filter (has (table config h)) objects)))
+        (pairs-reported (table config h) config.lease_ms (lease_calls h) (dirty_call (max e.moment (now h)) client number asked (filter (has (table config h)) objects)))
     go (Clean client number objects true) =
         only-pairs _ _ (le-ltb MAX_CLIENTS _ (clients-few config h e w)) ∙ ap (λ n. if nat_lt MAX_PAIRS n then Some (Full Pairs) else None) (pairs-reported (table config h) config.lease_ms (lease_calls h) (clean_call (max e.moment (now h)) client number (filter (has (table config h)) objects) true))
     go (Clean client number objects false) =

@@ -3,6 +3,7 @@ use Rattle.std.proofs.Common.{◌≡◌, ℕ, ◌<◌, List, [], ◌∷◌, ◌+
 use Rattle.std.specs.Prelude.{pos}
 use Rattle.std.specs.List.{AllByRecursion}
 use Rattle.std.proofs.lemmas.List.{length-map}
+use Rattle.history.specs.declared.places.Exported.{Exported}
 use Rattle.history.specs.declared.asks.SpaceConfig.{SpaceConfig}
 use Rattle.history.specs.declared.asks.Event.{Event}
 use Rattle.history.specs.declared.calls.Call.{Call}
@@ -92,8 +93,8 @@ max_same m = omega arith
 
 -- ---- what was written
 
-pub summarized : (config : SpaceConfig) (events : List Event) (leases : LeaseTable) (exports : ExportTable) (runs : List Run) (withdrawn : List Withdrawal) (reported opened used moment : ℕ) (rows : List LeaseRow) (counts : Counts) (start first second : List ℕ) (s : SpaceHistory) →
-    record { configuration = config; events = events } ≡ s → Keeps config events leases exports runs withdrawn reported opened used moment →
+pub summarized : {shown : List Exported} (config : SpaceConfig) (events : List Event) (leases : LeaseTable) (exports : ExportTable) (runs : List Run) (withdrawn : List Withdrawal) (reported opened used moment : ℕ) (rows : List LeaseRow) (counts : Counts) (start first second : List ℕ) (s : SpaceHistory) →
+    record { configuration = config; events = events; rows = shown } ≡ s → Keeps config events leases exports runs withdrawn reported opened used moment →
     ((lease m : ℕ) (calls : List Call) → StandsFor lease leases m calls → rows ≡ lease_rows lease (max moment m) calls) →
     ((lease m : ℕ) (calls : List Call) → StandsFor lease leases m calls → counts.pairs ≡ length (pairs lease (max moment m) calls)) →
     counts.objects ≡ length exports.rows → counts.clients ≡ length rows → counts.awaiting ≡ length (still_waiting moment exports.waits) → counts.names ≡ length (names (places config events)) → counts.withdrawn ≡ length withdrawn →
@@ -113,7 +114,7 @@ summarized config events leases exports runs withdrawn reported opened used mome
     (one ∙ ap (λ (t : List ℕ). t ++ events_text (length events) used moment) empty ∙ events-are config events used moment k.stands.used_is k.stands.moment_is)
     ∙ sym (summary-is config events))
 
-pub journalled : (config : SpaceConfig) (events : List Event) (start first second : List ℕ) (s : SpaceHistory) → record { configuration = config; events = events } ≡ s →
+pub journalled : {shown : List Exported} (config : SpaceConfig) (events : List Event) (start first second : List ℕ) (s : SpaceHistory) → record { configuration = config; events = events; rows = shown } ≡ s →
     start ≡ [] → first ≡ start ++ with_line_end (config_text config) → second ≡ first ++ flat_map (event_line config.uid) events → second ≡ journal_text s.configuration s.events
 unfolding journal_text
 journalled config events start first second s v empty one two =
@@ -144,7 +145,7 @@ events-fit config events moment is early fit = both events (moments-early config
     both (e ∷ es) moments all = (all.0 moments.0, both es moments.1 all.1)
 
 -- It is the journal of the configuration and the events.
-pub journal_spelled : (config : SpaceConfig) (events : List Event) (text : List ℕ) (s : SpaceHistory) → record { configuration = config; events = events } ≡ s → HasDurations config
+pub journal_spelled : {shown : List Exported} (config : SpaceConfig) (events : List Event) (text : List ℕ) (s : SpaceHistory) → record { configuration = config; events = events; rows = shown } ≡ s → HasDurations config
     → (ConfigFits config → SpellsConfig config (config_text config)) → AllByRecursion EventFits events → text ≡ journal_text s.configuration s.events
     → s.configuration.uid.count ≡ pos 0 → JournalText text s.configuration s.events
 journal_spelled config events text s v durations spells fit is =

@@ -156,8 +156,8 @@ max_same : (m : ℕ) → max m m ≡ m
 max_same m = omega arith
 
 -- What was written, part after part.
-pub written : (config : SpaceConfig) (events : List Event) (leases : LeaseTable) (exports : ExportTable) (runs : List Run) (withdrawn : List Withdrawal) (reported opened used moment count : ℕ) (bindings : List Binding) (start first second third fourth fifth : List ℕ) (s : SpaceHistory) →
-    record { configuration = config; events = events } ≡ s → Keeps config events leases exports runs withdrawn reported opened used moment → AreBindings (places config events) bindings →
+pub written : {shown : List Exported} (config : SpaceConfig) (events : List Event) (leases : LeaseTable) (exports : ExportTable) (runs : List Run) (withdrawn : List Withdrawal) (reported opened used moment count : ℕ) (bindings : List Binding) (start first second third fourth fifth : List ℕ) (s : SpaceHistory) →
+    record { configuration = config; events = events; rows = shown } ≡ s → Keeps config events leases exports runs withdrawn reported opened used moment → AreBindings (places config events) bindings →
     count ≡ length events → first ≡ start ++ events_text count used moment →
     ((lease m : ℕ) (calls : List Call) → StandsFor lease leases m calls → second ≡ first ++ flat_map (λ r. object_line config (held_row lease (max moment m) calls r)) (map (row_at moment exports.waits) exports.rows)) →
     ((lease m : ℕ) (calls : List Call) → StandsFor lease leases m calls → third ≡ second ++ flat_map lease_line (lease_rows lease (max moment m) calls)) →

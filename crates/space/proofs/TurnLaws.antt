@@ -1,6 +1,7 @@
 -- A turn, by what its parts answered.
 use Rattle.std.proofs.Common.{◌≡◌, ℕ, ◌+◌, ◌<◌, List, [], ◌∷◌, ◌++◌, length, inl, inr, refl, ap, sym, subst, ◌∙◌, arith, map, max, Option, Some, None, Ok, Err}
 use Rattle.std.specs.Prelude.{Bool, true, Result, OnErr, drop}
+use Rattle.history.specs.declared.places.Exported.{Exported}
 use Rattle.history.specs.declared.asks.SpaceConfig.{SpaceConfig}
 use Rattle.history.specs.declared.asks.Event.{Event}
 use Rattle.history.specs.declared.places.Withdrawal.{Withdrawal}
@@ -326,7 +327,7 @@ turn-step config events e leases leases1 leases2 exports t x3 runs withdrawn rep
     three p q x y g h a b c = cc
 
 -- What is said of the fields is said of the space.
-pub step-viewed : (config : SpaceConfig) (events events' : List Event) (e : Event) (answer : Result Turn Refused) (s : SpaceHistory) → record { configuration = config; events = events } ≡ s →
+pub step-viewed : {shown : List Exported} (config : SpaceConfig) (events events' : List Event) (e : Event) (answer : Result Turn Refused) (s : SpaceHistory) → record { configuration = config; events = events; rows = shown } ≡ s →
     Step config events e answer events' → Step s.configuration s.events e answer events'
 step-viewed config events events' e answer s v t = let P : SpaceHistory → Type 0 = λ x. Step x.configuration x.events e answer events' in subst P v t
 

@@ -17,7 +17,7 @@ use Rattle.history.specs.declared.replies.Refused.{Refused}
 use Rattle.history.specs.declared.replies.Refused.TheVariants.{HistoryFull, Full, OutOfMemory}
 use Rattle.history.specs.declared.replies.Reply.{Reply}
 use Rattle.history.specs.declared.replies.Reply.TheVariants.{Opened, Started, NoObject, Finished, NotRunning, Granted, Done, Bound, AlreadyBound, Unbound, NotBound, Found, Names}
-use Rattle.history.specs.Leases.{is_dirty}
+use Rattle.history.specs.Leases.{is_dirty, grant}
 use Rattle.history.specs.Limits.{units_of, is_begin, is_end}
 use Rattle.history.specs.Lists.{distinct}
 use Rattle.history.specs.Places.{id_at}
@@ -133,7 +133,7 @@ reply_at config k rows names stood effective (Open kind pinned) = Opened (id_at 
 reply_at config k rows names stood effective (Begin object) = started_reply (kind_of rows object)
 reply_at config k rows names stood effective (Finish object made listed uid) = if effective then Finished (new_ids config.uid k made) else NotRunning
 reply_at config k rows names stood effective (Abandon object) = if effective then Done else NotRunning
-reply_at config k rows names stood effective (Dirty client number asked objects) = Granted config.lease_ms
+reply_at config k rows names stood effective (Dirty client number asked objects) = Granted (grant config.lease_ms asked)
 reply_at config k rows names stood effective (Bind name object) = if effective then Bound else unbound_reply (is_exported rows object)
 reply_at config k rows names stood effective (Rebind name object) = if effective then Bound else NoObject
 reply_at config k rows names stood effective (Unbind name) = if effective then Unbound else NotBound

@@ -31,11 +31,12 @@ pub record TakesFront (config : SpaceConfig) (h events : List Event) (turns : Li
   pub taken : Takes config h front turns last
   pub stops : ListStops config last rest refused
 
--- After the history h these events are taken, the one after the other, and leave the history last. At each of them the history's table keeps what
--- there is a reason to keep, and the rest is withdrawn.
-abbrev pub CollectsEach : SpaceConfig → List Event → List Event → List Event → Type 0
-CollectsEach config h [] last = last ≡ h
-CollectsEach config h (e ∷ events) last = (next : List Event) × Collects config h e next × CollectsEach config next events last
+-- After the history h, with a table of these rows, these events are taken, the one after the other, and leave the history last and the rows
+-- last_rows. At each of them the table keeps what there is a reason to keep, and the rest is withdrawn.
+abbrev pub CollectsEach : SpaceConfig → List Event → List Exported → List Event → List Event → List Exported → Type 0
+CollectsEach config h rows [] last last_rows = (last ≡ h) × (last_rows ≡ rows)
+CollectsEach config h rows (e ∷ events) last last_rows =
+    (next : List Event) × (next_rows : List Exported) × Collects config h rows e next next_rows × CollectsEach config next next_rows events last last_rows
 
 -- The kind of an object, where it is among these.
 abbrev pub kind_among : List Exported → ObjId → Option ℕ

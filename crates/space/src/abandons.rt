@@ -23,8 +23,8 @@ impl Space {
         ensures events { self.new.events ≡ with_event self.old.events (event_of by moment (Abandon object)) }
         ensures config { self.new.configuration ≡ self.old.configuration }
 
-        // The history's table keeps what there is a reason to keep, and the rest is withdrawn. This follows from `step`.
-        ensures collector { Collects self.old.configuration self.old.events (event_of by moment (Abandon object)) self.new.events }
+        // Of the objects that were exported the space keeps what there is a reason to keep, and the rest is withdrawn.
+        ensures collector { Collects self.old.configuration self.old.events self.old.rows (event_of by moment (Abandon object)) self.new.events self.new.rows }
 
         // It is taken: no limit refuses it.
         ensures step { let e = event_of by moment (Abandon object) in

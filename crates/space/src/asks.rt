@@ -12,7 +12,7 @@ use export_table::Exports;
 use history::asks::{is_abandon, is_begin, is_end, units_of};
 use history::limits::{MAX_EXPORTS, MAX_HISTORY_UNITS, is_past};
 use history::places::id_at;
-use history::{Ask, Refused, Reply, SpaceConfig};
+use history::{Ask, Refused, Reply, SpaceConfig, grant};
 use object_ids::{FullKind, ObjId, ObjIds};
 use rmi_registry::Names;
 use std::alloc::{AllocError, Global};
@@ -152,9 +152,9 @@ pub(crate) fn reply_at(
         Ask::Dirty {
             client: _,
             number: _,
-            asked: _,
+            asked,
             objects: _,
-        } => Reply::Granted(config.lease_ms),
+        } => Reply::Granted(grant(config.lease_ms, *asked)),
         Ask::Bind { name: _, object } => {
             if effective {
                 Reply::Bound

@@ -35,9 +35,9 @@ pub(crate) fn tell(
         Ask::Dirty {
             client,
             number,
-            asked: _,
+            asked,
             objects: named,
-        } => tell_dirty(alloc, leases, exports, now, client, number, named),
+        } => tell_dirty(alloc, leases, exports, now, client, number, asked, named),
         Ask::Clean {
             client,
             number,
@@ -58,20 +58,21 @@ fn tell_dirty(
     now: u64,
     client: &Vmid,
     number: &i64,
+    asked: &i64,
     named: &ObjIds,
 ) -> Result<(), Refused>
     requires { now < END_OF_TIME }
     ensures ok { OnOk result (ForEachLogBy now leases.old (λ lease calls.
-        StandsFor lease leases.new now (dirty_call now client.now number.now (filter (is_exported exports.now.rows) named.now) ∷ calls))) }
+        StandsFor lease leases.new now (dirty_call now client.now number.now asked.now (filter (is_exported exports.now.rows) named.now) ∷ calls))) }
     ensures refusal { ForEachLogBy now leases.old (λ lease calls.
-        Agrees (call_refusal lease now calls (dirty_call now client.now number.now (filter (is_exported exports.now.rows) named.now))) result) }
+        Agrees (call_refusal lease now calls (dirty_call now client.now number.now asked.now (filter (is_exported exports.now.rows) named.now))) result) }
     ensures err { OnErr result (leases.new ≡ leases.old) }
 {
     if are_exported(exports, named) {
-        return take_dirty(leases, now, client, number, named);
+        return take_dirty(leases, now, client, number, asked, named);
     }
     let live = live_among(alloc, exports, named)?;
-    take_dirty(leases, now, client, number, &live)
+    take_dirty(leases, now, client, number, asked, &live)
 }
 
 /// Tells the lease table of a dirty of these objects.
@@ -80,16 +81,17 @@ fn take_dirty(
     now: u64,
     client: &Vmid,
     number: &i64,
+    asked: &i64,
     live: &ObjIds,
 ) -> Result<(), Refused>
     requires { now < END_OF_TIME }
     ensures ok { OnOk result (ForEachLogBy now leases.old (λ lease calls.
-        StandsFor lease leases.new now (dirty_call now client.now number.now live.now ∷ calls))) }
+        StandsFor lease leases.new now (dirty_call now client.now number.now asked.now live.now ∷ calls))) }
     ensures refusal { ForEachLogBy now leases.old (λ lease calls.
-        Agrees (call_refusal lease now calls (dirty_call now client.now number.now live.now)) result) }
+        Agrees (call_refusal lease now calls (dirty_call now client.now number.now asked.now live.now)) result) }
     ensures err { OnErr result (leases.new ≡ leases.old) }
 {
-    match leases.dirty(client, *number, live, now) {
+    match leases.dirty(client, *number, *asked, live, now) {
         Ok(_granted) => Ok(()),
         Err(fault) => Err(refused_for(fault)),
     }

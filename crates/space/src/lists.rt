@@ -1,6 +1,7 @@
 //! Whole lists of events, and what they leave exported.
 ghost use Rattle.std.specs.Prelude.{◌≡◌, ◌≢◌, ◌≤◌, ◌<◌, [], length, map, take, Err, IfOk, OnErr};
 ghost use Rattle.std.specs.List.{AllByRecursion};
+ghost use Rattle.history.specs.Collector.{rows_after_each};
 ghost use Rattle.history.specs.Steps.{Steps, IsLegal, answers as answers_to};
 ghost use Rattle.history.specs.Limits.{limits};
 ghost use Rattle.history.specs.Table.{places, table};
@@ -44,7 +45,8 @@ impl Space {
         requires some_ack { 1 ≤ config.now.ack_ms }
         requires short_ack { config.now.ack_ms ≤ MAX_DURATION_MS }
         requires moments { AllByRecursion (λ e. e.moment < END_OF_TIME) events.items }
-        ensures collector { IfOk result (λ p. CollectsEach config.now [] (take (length p.1.turns.items) events.items) p.0.events) }
+        ensures collector { IfOk result (λ p. CollectsEach config.now [] [] (take (length p.1.turns.items) events.items) p.0.events p.0.rows) }
+        ensures rows { IfOk result (λ p. p.0.rows ≡ rows_after_each config.now [] [] (take (length p.1.turns.items) events.items)) }
         ensures taken { IfOk result (λ p. TakesFront config.now [] events.items p.1.turns.items p.1.refused p.0.events) }
         ensures config { IfOk result (λ p. p.0.configuration ≡ config.now) }
         ensures legal { IfOk result (λ p. IsLegal config.now p.0.events) }
@@ -60,7 +62,8 @@ impl Space {
     /// memory for the list of the turns; then no event was taken.
     pub fn turns(&mut self, events: Vec<Event>) -> Result<Turns, AllocError>
         requires moments { AllByRecursion (λ e. e.moment < END_OF_TIME) events.items }
-        ensures collector { IfOk result (λ t. CollectsEach self.old.configuration self.old.events (take (length t.turns.items) events.items) self.new.events) }
+        ensures collector { IfOk result (λ t. CollectsEach self.old.configuration self.old.events self.old.rows (take (length t.turns.items) events.items) self.new.events self.new.rows) }
+        ensures rows { IfOk result (λ t. self.new.rows ≡ rows_after_each self.old.configuration self.old.events self.old.rows (take (length t.turns.items) events.items)) }
         ensures taken { IfOk result (λ t. TakesFront self.old.configuration self.old.events events.items t.turns.items t.refused self.new.events) }
         ensures config { self.new.configuration ≡ self.old.configuration }
         ensures err { OnErr result (self.new ≡ self.old) }
@@ -104,16 +107,20 @@ impl Space {
         Ok(answers)
     }
 
-    /// The kind of an exported object; None where it isn't exported.
+    /// Returns the kind of an exported object; None where it isn't exported. It is told by the rows of the export table, which are those of the
+    /// history's table.
     pub fn kind_of(&self, object: ObjId) -> Option<u32>
-        ensures { result ≡ kind_among (table self.now.configuration (places self.now.configuration self.now.events)) object }
+        ensures rows { result ≡ kind_among self.now.rows object }
+        ensures table { result ≡ kind_among (table self.now.configuration (places self.now.configuration self.now.events)) object }
     {
         self.tables.exports.find(object)
     }
 
-    /// The exported objects, by rising number. It is refused only for want of memory.
+    /// Returns the exported objects, by rising number. They are the rows of the export table, which are those of the history's table. It is
+    /// refused only for want of memory.
     pub fn exported_objects(&self) -> Result<Vec<ObjectKind>, AllocError>
-        ensures { IfOk result (λ objects. objects.items ≡ map with_kind (table self.now.configuration (places self.now.configuration self.now.events))) }
+        ensures rows { IfOk result (λ objects. objects.items ≡ map with_kind self.now.rows) }
+        ensures table { IfOk result (λ objects. objects.items ≡ map with_kind (table self.now.configuration (places self.now.configuration self.now.events))) }
     {
         let rows = self
             .tables

@@ -4,10 +4,11 @@ ghost use Rattle.history.specs.Collector.{Collects};
 ghost use Rattle.history.specs.Places as place_words;
 ghost use Rattle.history.specs.Running.{running_calls_by};
 ghost use Rattle.history.specs.Steps.{Step, IsLegal};
-ghost use Rattle.history.specs.Table.{places};
+ghost use Rattle.history.specs.Table.{places, table};
 ghost use Rattle.history.specs.declared.limits.TheConstants.{END_OF_TIME, MAX_DURATION_MS};
 ghost use Rattle.space.specs.Acts.{event_of};
 ghost use Rattle.space.specs.Noted.{turn_answer};
+ghost use Rattle.space.specs.TurnAnswers.{IsAnswerTo};
 
 use crate::acts::put_event;
 use crate::runs::Runs;
@@ -23,8 +24,8 @@ use std::alloc::Global;
 use std::fmt;
 use std::marker::Model;
 
-/// A space of exported objects. Contracts see it as its configuration and the list of the events that it
-/// took, the oldest first; all else that it answers follows from these.
+/// A space of exported objects. Contracts see it as a `SpaceHistory`: its configuration, the list of the events that it took, the oldest
+/// first, and the rows of its export table, one for each object that is exported. All else that it answers follows from these.
 pub struct Space {
     pub(crate) tables: Tables,
 }
@@ -47,12 +48,16 @@ impl fmt::Debug for Space {
 }
 
 impl Model for Space {
-    ghost use Rattle.space.specs.Built.{SpaceHistory};
+    ghost use Rattle.space.specs.Built.{SpaceHistory, exported_rows};
     ghost use Rattle.space.specs.Whole.{IsWhole};
 
     ghost Value = { SpaceHistory };
 
-    ghost view = { λ a. record { configuration = a.tables.config; events = a.tables.events.items } };
+    ghost view = { λ a. record {
+      configuration = a.tables.config;
+      events = a.tables.events.items;
+      rows = exported_rows a.tables.exports.rows;
+    } };
 
     ghost invariant = { λ a. IsWhole a.tables };
 }
@@ -64,7 +69,7 @@ impl Space {
         requires short_lease { config.now.lease_ms ≤ MAX_DURATION_MS }
         requires some_ack { 1 ≤ config.now.ack_ms }
         requires short_ack { config.now.ack_ms ≤ MAX_DURATION_MS }
-        ensures { result ≡ record { configuration = config.now; events = [] } }
+        ensures { result ≡ record { configuration = config.now; events = []; rows = [] } }
     {
         Space {
             tables: Tables {
@@ -92,14 +97,20 @@ impl Space {
         requires moment { moment < END_OF_TIME }
         ensures step { Step self.old.configuration self.old.events (record { by = by; moment = moment; ask = ask }) result self.new.events }
 
-        // The history's table keeps what there is a reason to keep, and the rest is withdrawn. This follows from `step`; that the
-        // objects which the space has exported are those of that table is said by `kind_of`, `exported_objects` and `outline`.
-        ensures collector { OnOk result (Collects self.old.configuration self.old.events (event_of by moment ask) self.new.events) }
+        // Of the objects that were exported, and of those that the event exports, the space keeps what there is a reason to keep, and the
+        // rest is withdrawn.
+        ensures collector { OnOk result (Collects self.old.configuration self.old.events self.old.rows (event_of by moment ask) self.new.events self.new.rows) }
         ensures config { self.new.configuration ≡ self.old.configuration }
         ensures err { OnErr result (self.new ≡ self.old) }
+
+        // The answer is one that its ask may have.
+        ensures row { IsAnswerTo (λ o. 0 < running_calls_by (places self.old.configuration self.old.events) by o) ask result }
     {
-        let (turn, _copy) = self.turn_with(by, moment, ask, false)?;
-        Ok(turn)
+        let _count = self.tables.names.len();
+        match self.turn_with(by, moment, ask, false) {
+            Ok((turn, _copy)) => Ok(turn),
+            Err(refused) => Err(refused),
+        }
     }
 
     /// What `turn` does and answers. Where the turn is `noted`, a copy of the objects that it tells as gone is beside it.
@@ -113,7 +124,7 @@ impl Space {
         requires moment { moment < END_OF_TIME }
         ensures step { Step self.old.configuration self.old.events (event_of by moment ask) (turn_answer result) self.new.events }
         ensures copy { IfOk result (λ x. noted ≡ true → x.1 ≡ x.0.gone) }
-        ensures collector { OnOk result (Collects self.old.configuration self.old.events (event_of by moment ask) self.new.events) }
+        ensures collector { OnOk result (Collects self.old.configuration self.old.events self.old.rows (event_of by moment ask) self.new.events self.new.rows) }
         ensures config { self.new.configuration ≡ self.old.configuration }
         ensures err { OnErr result (self.new ≡ self.old) }
     {
@@ -145,10 +156,11 @@ impl Space {
     }
 
     /// How many events there are. They are a legal history, what turns leave of the empty one, and none of them is of a
-    /// later moment than 2^62 - 1.
+    /// later moment than 2^62 - 1. The rows are those of the history's table.
     pub fn len(&self) -> u64
         ensures value { result ≡ length self.now.events }
         ensures legal { IsLegal self.now.configuration self.now.events }
+        ensures rows { self.now.rows ≡ table self.now.configuration (places self.now.configuration self.now.events) }
         ensures early { place_words.now (places self.now.configuration self.now.events) < END_OF_TIME }
     {
         self.tables.events.len() as u64

@@ -5,3 +5,7 @@ pub mod LineLaws
 pub mod KeptLaws
 pub mod TextLaws
 pub mod OrderLaws
+pub mod TextSetLaws
+pub mod FieldLaws
+pub mod DescriptionLaws
+pub mod GraphLaws

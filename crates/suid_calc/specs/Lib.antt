@@ -5,3 +5,4 @@ pub mod Text
 pub mod Whole
 pub mod Loops
 pub mod Laws
+pub mod Description

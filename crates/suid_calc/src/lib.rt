@@ -1,7 +1,8 @@
-//! The serialVersionUID that a class has by default, from an outline of the class in text
+//! The serialVersionUID that a class has by default, and its description, from an outline of the class in text
 //! (Java Object Serialization Specification, 4.6).
 #![tactic(auto)]
 
+mod description;
 mod laws;
 mod lines;
 mod number;
@@ -11,6 +12,7 @@ mod text;
 mod types;
 mod words;
 
+pub use description::{DescribeFault, MAX_FIELDS, describe};
 pub use laws::{is_outline, numbers_of};
 pub use outline::{
     ClassOutline, MAX_MODIFIERS, MAX_PARAMETERS, Member, MemberList, NAME_BYTES, OutlineFault,

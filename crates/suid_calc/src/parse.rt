@@ -34,7 +34,7 @@ fn kind_of(member: &Member) -> u8
 }
 
 /// The name by which a member is ordered.
-fn name_of(member: &Member) -> &[u8]
+pub(crate) fn name_of(member: &Member) -> &[u8]
     ensures { result.now ≡ name_of member.now }
 {
     match member {

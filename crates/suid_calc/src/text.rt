@@ -57,7 +57,7 @@ fn put_descriptor(out: &mut ByteList, descriptor: &[u8]) -> Result<(), AllocErro
 }
 
 /// Whether modifiers have a bit.
-fn has_bit(modifiers: u16, bit: u16) -> bool
+pub(crate) fn has_bit(modifiers: u16, bit: u16) -> bool
     ensures { result ≡ has_bit modifiers bit }
 {
     modifiers & bit != 0

@@ -12,6 +12,8 @@ mod method_tests;
 #[cfg(test)]
 mod remote_rows;
 #[cfg(test)]
+mod return_tests;
+#[cfg(test)]
 mod seen;
 #[cfg(test)]
 mod served_tests;

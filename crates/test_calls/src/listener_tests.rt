@@ -59,7 +59,11 @@ fn check_accept(rt: &impl Abort, listener: &mut MemListener, port: i32, left: us
 
 /// Looks at what a listener listened on, and how many links and faults it gave.
 fn check_counts(rt: &impl Abort, listener: &MemListener) {
-    must(rt, listener.ports() == [1099].as_slice(), "ports");
+    let [(address, port)] = listener.ports() else {
+        return must(rt, false, "one port");
+    };
+    must(rt, address.as_slice() == b"127.0.0.1".as_slice(), "address");
+    must(rt, *port == 1099, "port");
     must(rt, listener.accepted() == 2, "accepted");
     must(rt, listener.faults() == 2, "faults");
 }
@@ -67,7 +71,7 @@ fn check_counts(rt: &impl Abort, listener: &MemListener) {
 #[test]
 fn links_come_in_order_and_then_none(rt: HostRuntime) {
     let mut listener = MemListener::new(rt.alloc(), two_links(&rt, rt.alloc()));
-    must(&rt, listener.listen(1099).is_ok(), "listen");
+    must(&rt, listener.listen("127.0.0.1", 1099).is_ok(), "listen");
     check_accept(&rt, &mut listener, 7, 3);
     check_accept(&rt, &mut listener, 9, 0);
     must(&rt, listener.accept().is_err(), "no third link");

@@ -75,7 +75,7 @@ fn dirty_of(rt: &impl Abort, alloc: Global, client: i32, objects: &ObjIds) -> As
     Ask::Dirty {
         client: Vmid::new(ByteList::new(alloc), uid).expect(rt, "a client"),
         number: 1,
-        asked: 1,
+        asked: 600_000,
         objects: objects.copy(alloc).expect(rt, "memory"),
     }
 }

@@ -67,7 +67,11 @@ fn leased(rt: &impl Abort, alloc: Global) -> Leases {
     let mut leases = Leases::fresh(alloc, 100);
     let client = Vmid::new(ByteList::new(alloc), RETURN).expect(rt, "a client");
     let held = ObjIds::from_slice(alloc, &[numbered(17)]).expect(rt, MEMORY);
-    must(rt, leases.dirty(&client, 1, &held, 10).is_ok(), "granted");
+    must(
+        rt,
+        leases.dirty(&client, 1, 100, &held, 10).is_ok(),
+        "granted",
+    );
     leases
 }
 

@@ -77,9 +77,9 @@ fn tell(leases: &mut Leases, moment: u64, ask: &Ask, text: &mut ByteList) -> Res
         Ask::Dirty {
             client,
             number,
-            asked: _,
+            asked,
             objects,
-        } => match leases.dirty(client, *number, objects, moment) {
+        } => match leases.dirty(client, *number, *asked, objects, moment) {
             Ok(granted) => put_line(text, &[Word::Text(b"> granted"), Word::Number(granted)]),
             Err(_fault) => text.append(b"> refused\n"),
         },
@@ -246,13 +246,13 @@ const STRONG_CLEAN: &str = "1 1 clean aa@3/4/5 -1 strong 16
 > 17 free of 0
 ";
 
-const LATE_DIRTY: &str = "1 0 dirty 01@3/4/5 1 1 16,17
+const LATE_DIRTY: &str = "1 0 dirty 01@3/4/5 1 100 16,17
 > granted 100
-1 0 dirty -@3/4/5 1 1 16,17
+1 0 dirty -@3/4/5 1 100 16,17
 > granted 100
 1 1 clean 01@3/4/5 5 weak 16
 > done
-1 2 dirty 01@3/4/5 5 1 16,17
+1 2 dirty 01@3/4/5 5 100 16,17
 > granted 100
 ? 2
 > pairs 4
@@ -263,9 +263,9 @@ const LATE_DIRTY: &str = "1 0 dirty 01@3/4/5 1 1 16,17
 ";
 
 // Of the objects that go at once one is named twice, and one by no call.
-const DROPPED_AT_ONCE: &str = "1 10 dirty 01@3/4/5 1 1 16,17,18,19,20,21,22
+const DROPPED_AT_ONCE: &str = "1 10 dirty 01@3/4/5 1 100 16,17,18,19,20,21,22
 > granted 100
-1 20 dirty 02@3/4/5 1 1 17,18,23
+1 20 dirty 02@3/4/5 1 100 17,18,23
 > granted 100
 1 20 clean 03@3/4/5 1 strong 19,21
 > done
@@ -276,7 +276,7 @@ const DROPPED_AT_ONCE: &str = "1 10 dirty 01@3/4/5 1 1 16,17,18,19,20,21,22
 > 17 free of 0
 > lease 01@3/4/5 until 110
 > lease 02@3/4/5 until 120
-1 21 dirty 02@3/4/5 1 1 17
+1 21 dirty 02@3/4/5 1 100 17
 > granted 100
 ? 21
 > pairs 4
@@ -300,14 +300,14 @@ const DROPPED_AT_ONCE: &str = "1 10 dirty 01@3/4/5 1 1 16,17,18,19,20,21,22
 ";
 
 // A client's objects are few, and more than eight from the second call on.
-const FEW_AND_MANY: &str = "1 10 dirty 01@3/4/5 1 1 16,17,18,19,20,21,22,23
+const FEW_AND_MANY: &str = "1 10 dirty 01@3/4/5 1 100 16,17,18,19,20,21,22,23
 > granted 100
 ? 10
 > pairs 8
 > 16 held by 1
 > 17 held by 1
 > lease 01@3/4/5 until 110
-1 20 dirty 01@3/4/5 2 1 24,17
+1 20 dirty 01@3/4/5 2 100 24,17
 > granted 100
 ? 20
 > pairs 9
@@ -342,7 +342,7 @@ const FEW_AND_MANY: &str = "1 10 dirty 01@3/4/5 1 1 16,17,18,19,20,21,22,23
 > pairs 1
 > 16 free of 0
 > 17 free of 0
-1 130 dirty 01@3/4/5 1 1 17,25
+1 130 dirty 01@3/4/5 1 100 17,25
 > granted 100
 ? 130
 > pairs 2
@@ -352,31 +352,31 @@ const FEW_AND_MANY: &str = "1 10 dirty 01@3/4/5 1 1 16,17,18,19,20,21,22,23
 ";
 
 // A client names its objects again, some of them twice in one call: at the limit of a list, beyond it, and once the lease is over.
-const NAMED_AGAIN: &str = "1 0 dirty 01@3/4/5 1 1 16
+const NAMED_AGAIN: &str = "1 0 dirty 01@3/4/5 1 100 16
 > granted 100
-1 1 dirty 01@3/4/5 2 1 16
+1 1 dirty 01@3/4/5 2 100 16
 > granted 100
-1 2 dirty 01@3/4/5 3 1 16,16,16
+1 2 dirty 01@3/4/5 3 100 16,16,16
 > granted 100
 ? 2
 > pairs 1
 > 16 held by 1
 > 17 free of 0
 > lease 01@3/4/5 until 102
-1 3 dirty 01@3/4/5 4 1 16,17,18,19,20
+1 3 dirty 01@3/4/5 4 100 16,17,18,19,20
 > granted 100
-1 4 dirty 01@3/4/5 5 1 20,19,18,17,16
+1 4 dirty 01@3/4/5 5 100 20,19,18,17,16
 > granted 100
-1 5 dirty 01@3/4/5 6 1 21,22,16,22
+1 5 dirty 01@3/4/5 6 100 21,22,16,22
 > granted 100
 ? 5
 > pairs 7
 > 16 held by 1
 > 17 held by 1
 > lease 01@3/4/5 until 105
-1 6 dirty 01@3/4/5 7 1 23
+1 6 dirty 01@3/4/5 7 100 23
 > granted 100
-1 7 dirty 01@3/4/5 8 1 16,17,18,19,20,21,22,23,16,17
+1 7 dirty 01@3/4/5 8 100 16,17,18,19,20,21,22,23,16,17
 > granted 100
 ? 7
 > pairs 8
@@ -392,14 +392,14 @@ const NAMED_AGAIN: &str = "1 0 dirty 01@3/4/5 1 1 16
 > 16 free of 0
 > 17 free of 0
 > lease 01@3/4/5 until 107
-1 10 dirty 01@3/4/5 11 1 17,24,24
+1 10 dirty 01@3/4/5 11 100 17,24,24
 > granted 100
 ? 10
 > pairs 9
 > 16 free of 0
 > 17 held by 1
 > lease 01@3/4/5 until 110
-1 200 dirty 01@3/4/5 12 1 16,17,17
+1 200 dirty 01@3/4/5 12 100 16,17,17
 > granted 100
 ? 200
 > pairs 2
@@ -416,11 +416,11 @@ const NAMED_AGAIN: &str = "1 0 dirty 01@3/4/5 1 1 16
 // Leases that end at 169, 170 and 171.
 const ENDS: &str = "# 4611686018427387903
 > none due
-1 69 dirty 01@3/4/5 1 1 18
+1 69 dirty 01@3/4/5 1 100 18
 > granted 100
-1 70 dirty 02@3/4/5 1 1 17
+1 70 dirty 02@3/4/5 1 100 17
 > granted 100
-1 71 dirty 03@3/4/5 1 1 16
+1 71 dirty 03@3/4/5 1 100 16
 > granted 100
 # 0
 > none due
@@ -446,9 +446,9 @@ const ENDS: &str = "# 4611686018427387903
 > freed 16
 ";
 
-const TWO_HOLDERS: &str = "1 10 dirty 01@3/4/5 1 1 16
+const TWO_HOLDERS: &str = "1 10 dirty 01@3/4/5 1 100 16
 > granted 100
-1 20 dirty 02@3/4/5 1 1 17,16
+1 20 dirty 02@3/4/5 1 100 17,16
 > granted 100
 # 109
 > none due
@@ -469,7 +469,7 @@ const TWO_HOLDERS: &str = "1 10 dirty 01@3/4/5 1 1 16
 > freed 17
 ";
 
-const HELD_AGAIN: &str = "1 0 dirty 01@3/4/5 1 1 16,17
+const HELD_AGAIN: &str = "1 0 dirty 01@3/4/5 1 100 16,17
 > granted 100
 # 99
 > none due
@@ -477,7 +477,7 @@ const HELD_AGAIN: &str = "1 0 dirty 01@3/4/5 1 1 16,17
 > due
 > freed 16
 > freed 17
-1 100 dirty 01@3/4/5 2 1 16
+1 100 dirty 01@3/4/5 2 100 16
 > granted 100
 ? 100
 > pairs 1
@@ -493,7 +493,7 @@ const HELD_AGAIN: &str = "1 0 dirty 01@3/4/5 1 1 16,17
 > done
 # 200
 > due
-1 160 dirty 01@3/4/5 4 1 16,17
+1 160 dirty 01@3/4/5 4 100 16,17
 > granted 100
 # 199
 > none due
@@ -503,7 +503,7 @@ const HELD_AGAIN: &str = "1 0 dirty 01@3/4/5 1 1 16,17
 > freed 17
 ";
 
-const STRONG_CLEAN_LEFT: &str = "1 9 dirty aa@3/4/5 6 1 16,17
+const STRONG_CLEAN_LEFT: &str = "1 9 dirty aa@3/4/5 6 100 16,17
 > granted 100
 1 10 clean aa@3/4/5 7 strong 16
 > done
@@ -519,14 +519,14 @@ const STRONG_CLEAN_LEFT: &str = "1 9 dirty aa@3/4/5 6 1 16,17
 > 17 free of 0
 # 4611686018427387903
 > none due
-1 200 dirty aa@3/4/5 7 1 16,17
+1 200 dirty aa@3/4/5 7 100 16,17
 > granted 100
 # 299
 > none due
 # 300
 > due
 > freed 17
-1 201 dirty aa@3/4/5 8 1 16
+1 201 dirty aa@3/4/5 8 100 16
 > granted 100
 # 301
 > due
@@ -534,7 +534,69 @@ const STRONG_CLEAN_LEFT: &str = "1 9 dirty aa@3/4/5 6 1 16,17
 > freed 17
 ";
 
-/// What the lines of a script make of a table with this longest duration.
+// What is granted: from 1 to the configured lease what is asked, and the configured lease otherwise. A dirty that asks for less goes on with the
+// tenure and leaves the end of the lease, and so does one without objects; one that comes when the lease has ended opens another tenure.
+const GRANTED: &str = "1 0 dirty 01@3/4/5 1 50 16
+> granted 50
+1 20 dirty 01@3/4/5 2 10 17
+> granted 10
+? 20
+> pairs 2
+> 16 held by 1
+> 17 held by 1
+> lease 01@3/4/5 until 50
+# 49
+> none due
+# 50
+> due
+> freed 16
+> freed 17
+1 30 dirty 01@3/4/5 3 20 -
+> granted 20
+? 30
+> pairs 2
+> 16 held by 1
+> 17 held by 1
+> lease 01@3/4/5 until 50
+1 40 dirty 01@3/4/5 4 11 -
+> granted 11
+? 50
+> pairs 2
+> 16 held by 1
+> 17 held by 1
+> lease 01@3/4/5 until 51
+1 51 dirty 01@3/4/5 5 1 17
+> granted 1
+? 51
+> pairs 1
+> 16 free of 0
+> 17 held by 1
+> lease 01@3/4/5 until 52
+1 51 dirty 02@3/4/5 1 101 16
+> granted 100
+1 51 dirty 03@3/4/5 1 100 16
+> granted 100
+1 51 dirty 04@3/4/5 1 0 16
+> granted 100
+1 51 dirty 05@3/4/5 1 -9223372036854775808 16
+> granted 100
+1 51 dirty 06@3/4/5 1 9223372036854775807 16
+> granted 100
+1 51 dirty 07@3/4/5 1 99 16
+> granted 99
+? 52
+> pairs 6
+> 16 held by 6
+> 17 free of 0
+> lease 02@3/4/5 until 151
+> lease 03@3/4/5 until 151
+> lease 04@3/4/5 until 151
+> lease 05@3/4/5 until 151
+> lease 06@3/4/5 until 151
+> lease 07@3/4/5 until 150
+";
+
+/// What the lines of a script make of a table with this configured lease.
 fn told(rt: &impl Abort, alloc: Global, lease: u64, script: &str) -> ByteList {
     assert!(rt; 1 <= lease && lease <= 100, "a duration");
     let mut leases = Leases::fresh(alloc, lease);
@@ -554,6 +616,7 @@ fn lease_tables_are_told(rt: HostRuntime) {
         (100, DROPPED_AT_ONCE),
         (100, FEW_AND_MANY),
         (100, NAMED_AGAIN),
+        (100, GRANTED),
     ] {
         let text = told(&rt, rt.alloc(), lease, script);
         must_be(&rt, &text, script);

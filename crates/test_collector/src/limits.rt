@@ -5,14 +5,14 @@ use std::alloc::{AllocError, Global};
 
 /// Dirty calls of as many objects as the largest of messages can name, none of which is exported.
 const DIRTIES: &str = "space 600000 300000 7 9
-*63 1 5 dirty -@7/9/0 1 1 1*65536
+*63 1 5 dirty -@7/9/0 1 0 1*65536
 ";
 
 /// What follows after the answers of them.
 const FULL_HISTORY: &str = "?
 events 63 units 4128831 now 5
 lease -@7/9/0 until 600005
-1 6 dirty -@7/9/0 1 1 1*65536
+1 6 dirty -@7/9/0 1 0 1*65536
 > history full
 2 4 tick
 > done

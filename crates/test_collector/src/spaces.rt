@@ -147,7 +147,7 @@ withdrawn 17 place 5
 ];
 
 /// Leases.
-const LEASES: [&str; 6] = [
+const LEASES: [&str; 8] = [
     "space 10 1000 -1 -5
 1 12 open 2 pinned
 > opened 16
@@ -231,6 +231,52 @@ lease aa@3/4/5 until 600003
 events 5 units 9 now 4
 object 16 kind 1 pinned running 0 awaiting 0 held 1 names 0
 lease aa@3/4/5 until 600003
+",
+    // a dirty that asks for less does not shorten the lease
+    "space 600000 300000 7 9
+0 0 open 1 pinned
+> opened 16
+1 0 dirty aa@3/4/5 1 1000 16
+> granted 1000
+1 500 dirty aa@3/4/5 2 100 -
+> granted 100
+?
+events 3 units 4 now 500
+object 16 kind 1 pinned running 0 awaiting 0 held 1 names 0
+lease aa@3/4/5 until 1000
+1 1000 tick
+> done
+?
+events 4 units 5 now 1000
+object 16 kind 1 pinned running 0 awaiting 0 held 0 names 0
+",
+    // what is granted is at most the configured lease; an object goes when the granted lease ends
+    "space 600 300 7 9
+0 0 open 1 pinned
+> opened 16
+1 0 begin 16
+> started 1
+1 0 finish 16 2 - 1/0/0
+> finished 17
+1 0 dirty aa@3/4/5 1 10 17
+> granted 10
+1 0 dirty bb@3/4/5 1 601 16
+> granted 600
+1 0 dirty cc@3/4/5 1 -1 16
+> granted 600
+1 0 ack 1/0/0
+> done
+1 9 tick
+> done
+1 10 tick
+> done
+> gone 17
+?
+events 9 units 13 now 10
+object 16 kind 1 pinned running 0 awaiting 0 held 2 names 0
+lease bb@3/4/5 until 600
+lease cc@3/4/5 until 600
+withdrawn 17 place 8
 ",
 ];
 

@@ -3,7 +3,7 @@
 //! histories are judged by `history_model::turns::answers` too.
 use history::asks::is_abandon;
 use history::{
-    Ask, Event, EventList, Exported, ExportedList, Place, Refused, Reply, SpaceConfig, Turn,
+    Ask, Event, EventList, Exported, ExportedList, Place, Refused, Reply, SpaceConfig, Turn, grant,
 };
 use history_model::names::{name_in, names};
 use history_model::places::{has, ids, kind_of, known_objects, now};
@@ -270,9 +270,9 @@ fn reply_without_list(config: &SpaceConfig, table: &[Exported], p: &Place) -> Re
         Ask::Dirty {
             client: _,
             number: _,
-            asked: _,
+            asked,
             objects: _,
-        } => Reply::Granted(config.lease_ms),
+        } => Reply::Granted(grant(config.lease_ms, *asked)),
         Ask::Bind { name: _, object } => {
             let is_bound = has(table, *object);
             let else_reply = either(is_bound, Reply::AlreadyBound, Reply::NoObject);

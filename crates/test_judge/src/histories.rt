@@ -6,7 +6,7 @@ ghost use Rattle.test_judge.specs.declared.histories.TheConstants.{LATEST};
 
 use crate::course::Course;
 use crate::draws::Draws;
-use history::{Ask, Event, Exported, Name, SpaceConfig};
+use history::{Ask, Event, Exported, Name, SpaceConfig, grant};
 use history_model::running::running_calls_by;
 use object_ids::{ObjId, ObjIds, Uid, Vmid};
 use sequence::{ByteList, Kinds, Units};
@@ -62,7 +62,7 @@ pub(crate) fn configuration(draws: &mut Draws) -> SpaceConfig
 struct Clock {
     /// The greatest moment.
     now: u64,
-    /// The end of the last lease.
+    /// The end of what the last dirty was granted.
     lease_end: u64,
     /// The end of the last wait.
     wait_end: u64,
@@ -88,15 +88,17 @@ impl Clock {
         moment
     }
 
-    /// Notes the end of the lease or of the wait that an ask begins now.
+    /// Notes the end of the lease or of the wait that an ask is granted now.
     fn note(&mut self, config: &SpaceConfig, ask: &Ask) {
         match ask {
             Ask::Dirty {
                 client: _,
                 number: _,
-                asked: _,
+                asked,
                 objects: _,
-            } => self.lease_end = self.now.saturating_add(config.lease_ms),
+            } => {
+                self.lease_end = self.now.saturating_add(grant(config.lease_ms, *asked));
+            }
             Ask::Finish {
                 object: _,
                 made: _,
@@ -191,7 +193,7 @@ fn ask(
         11 => Ok(Ask::Abandon {
             object: called(config.uid, course, by, draws),
         }),
-        12..=14 => dirty(alloc, config.uid, course, draws),
+        12..=14 => dirty(alloc, config, course, draws),
         15..=17 => clean(alloc, config.uid, course, draws),
         18 => Ok(Ask::Ack {
             uid: numbered(draws.below(3) as i32),
@@ -336,12 +338,31 @@ fn number(course: &Course, draws: &mut Draws) -> i64 {
     }
 }
 
-fn dirty(alloc: Global, space: Uid, course: &Course, draws: &mut Draws) -> Result<Ask, AllocError> {
+/// The duration for which a dirty asks: often less than the configured lease, at times as much, more, nothing, or less than nothing.
+fn asked(config: &SpaceConfig, draws: &mut Draws) -> i64 {
+    let lease = config.lease_ms.min(LONGER) as i64;
+    match draws.below(16) {
+        0 => 0,
+        1 => -(draws.below(LONGER) as i64) - 1,
+        2 => i64::MIN,
+        3 => i64::MAX,
+        4 => lease + 1,
+        5..=8 => lease,
+        _ => 1 + draws.below(LONGER) as i64,
+    }
+}
+
+fn dirty(
+    alloc: Global,
+    config: &SpaceConfig,
+    course: &Course,
+    draws: &mut Draws,
+) -> Result<Ask, AllocError> {
     Ok(Ask::Dirty {
         client: client(alloc, draws)?,
         number: number(course, draws),
-        asked: 1,
-        objects: objects(alloc, space, course, draws)?,
+        asked: asked(config, draws),
+        objects: objects(alloc, config.uid, course, draws)?,
     })
 }
 

@@ -12,7 +12,7 @@ use space::{Ask, Refused, Reply, Space, SpaceConfig, Turn};
 use std::alloc::Global;
 use std::sync::Wait;
 use std::thread::{Threads, join};
-use turn_lock::{Pass, Root, SeatPort, TurnLock};
+use turn_lock::{Pass, PassPort, Root, SeatPort, TurnLock};
 
 /// The identifier of the space.
 const SPACE: Uid = Uid {
@@ -70,6 +70,18 @@ pub(crate) fn ticked<R: Wait>(
     let refused = ticks(&mut port, turns);
     let _asked = port.into_asked();
     (pass, refused)
+}
+
+/// A pass after so many ticks, made by a port whose entries exist in proofs alone.
+pub(crate) fn ticked_and_told<R: Wait>(rt: &R, lock: &TurnLock, mut pass: Pass, turns: u64) -> Pass
+    requires own { IsBranchOf lock.now pass }
+    requires room { turns ≤ pass.room }
+    ensures { IsBranchOf lock.now result }
+{
+    let mut port = PassPort::told(rt, lock, &mut pass);
+    let _refused = ticks(&mut port, turns);
+    let _told = port.into_told();
+    pass
 }
 
 /// Whether a call was begun.

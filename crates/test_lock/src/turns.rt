@@ -3,7 +3,7 @@ ghost use Rattle.std.specs.Prelude.{◌≡◌, ◌+◌, ◌≤◌, IfSome};
 ghost use Rattle.turn_lock.specs.Handles.{IsBranchOf, IsRootOf};
 ghost use Rattle.turn_lock.specs.Rule.{most_turns};
 
-use crate::crews::{FIRST, crew, fresh, ticked};
+use crate::crews::{FIRST, crew, fresh, ticked, ticked_and_told};
 use crate::journals::are_counted;
 use object_ids::ObjIds;
 use sequence::Kinds;
@@ -174,40 +174,29 @@ fn eight_passes(rt: HostRuntime) {
     }
 }
 
-/// A further pass after so many ticks.
-fn split_and_tick<R: Wait>(
-    rt: &R,
-    alloc: Global,
-    lock: &TurnLock,
-    root: &mut Root,
-    turns: u64,
-) -> Option<Pass>
+/// A further pass after so many ticks, of which its port kept nothing.
+fn split_and_tick<R: Wait>(rt: &R, lock: &TurnLock, root: &mut Root, turns: u64) -> Option<Pass>
     requires own { IsRootOf lock.now root.old }
     requires few { turns ≤ 1000 }
     ensures root { IsRootOf lock.now root.new }
     ensures pass { IfSome result (λ p. IsBranchOf lock.now p × (root.new.out ≡ root.old.out + 1) × (root.new.pass.room ≡ root.old.pass.room)) }
 {
     match branch(root, lock) {
-        Some(pass) => Some(ticked(rt, alloc, lock, pass, turns).0),
+        Some(pass) => Some(ticked_and_told(rt, lock, pass, turns)),
         None => None,
     }
 }
 
 /// Makes three passes, uses them, and joins them in another order.
-fn join_in_other_order<R: Wait>(
-    rt: &R,
-    alloc: Global,
-    lock: &TurnLock,
-    root: &mut Root,
-) -> Option<()>
+fn join_in_other_order<R: Wait>(rt: &R, lock: &TurnLock, root: &mut Root) -> Option<()>
     requires own { IsRootOf lock.now root.old }
     requires none { root.old.out ≡ 0 }
     ensures root { IsRootOf lock.now root.new }
     ensures joined { IfSome result (λ all. (root.new.out ≡ 0) × (root.new.pass.room ≡ root.old.pass.room)) }
 {
-    let one = split_and_tick(rt, alloc, lock, root, 1)?;
-    let two = split_and_tick(rt, alloc, lock, root, 2)?;
-    let three = split_and_tick(rt, alloc, lock, root, 3)?;
+    let one = split_and_tick(rt, lock, root, 1)?;
+    let two = split_and_tick(rt, lock, root, 2)?;
+    let three = split_and_tick(rt, lock, root, 3)?;
     root.join(lock, two);
     root.join(lock, three);
     root.join(lock, one);
@@ -219,7 +208,7 @@ fn in_other_order<R: Wait>(rt: &R, alloc: Global) -> Option<Space> {
     let Ok((lock, mut root)) = TurnLock::around(alloc, fresh(alloc)) else {
         return None;
     };
-    match join_in_other_order(rt, alloc, &lock, &mut root) {
+    match join_in_other_order(rt, &lock, &mut root) {
         Some(()) => {
             let (_answer, _asked) = root.turn(rt, alloc, &lock, 0, Ask::Tick);
             Some(lock.close(root))

@@ -1,5 +1,6 @@
 //! Each answer is written before the next byte is asked for.
-ghost use Rattle.std.specs.Prelude.{None};
+ghost use Rattle.std.specs.Prelude.{true};
+ghost use Rattle.wire_io.specs.Wire.{untold_read, untold_write};
 
 use crate::hosts::{Runs, host_over, must, words_of};
 use crate::texts::{bytes_of, cut, put_words};
@@ -45,9 +46,7 @@ fn is_due(due: &[u32], at: usize, written: usize) -> bool {
 }
 
 impl Source for Asking<'_> {
-    ghost left = { λ _. None };
-
-    ghost faults = { λ _. 0 };
+    ghost half = { λ _. untold_read 0 true };
 
     fn read(&mut self, buf: &mut [u8]) -> Result<usize, Failed> {
         if !is_due(self.due, self.at, self.written.get()) {
@@ -74,9 +73,7 @@ struct Counting<'a> {
 }
 
 impl Sink for Counting<'_> {
-    ghost held = { λ _. None };
-
-    ghost faults = { λ _. 0 };
+    ghost half = { λ _. untold_write 0 true };
 
     fn write(&mut self, piece: &[u8]) -> Result<usize, Failed> {
         self.written

@@ -54,9 +54,52 @@ events 5 units 9 now 4
 object 16 kind 1 pinned running 0 awaiting 0 held 1 names 0
 lease aa@3/4/5 until 600003
 
+space 600000 300000 7 9
+0 0 open 1 pinned
+1 0 dirty aa@3/4/5 1 1000 16
+1 500 dirty aa@3/4/5 2 100 -
+=
+events 3 units 4 now 500
+object 16 kind 1 pinned running 0 awaiting 0 held 1 names 0
+lease aa@3/4/5 until 1000
+
+space 600000 300000 7 9
+0 0 open 1 pinned
+1 0 dirty aa@3/4/5 1 1000 16
+1 500 dirty aa@3/4/5 2 100 -
+1 1000 tick
+=
+events 4 units 5 now 1000
+object 16 kind 1 pinned running 0 awaiting 0 held 0 names 0
+
+space 600000 300000 7 9
+0 0 open 1 pinned
+1 0 dirty aa@3/4/5 1 600001 16
+1 0 dirty bb@3/4/5 1 -1 16
+1 0 dirty cc@3/4/5 1 0 16
+1 0 dirty dd@3/4/5 1 1 16
+=
+events 5 units 9 now 0
+object 16 kind 1 pinned running 0 awaiting 0 held 4 names 0
+lease aa@3/4/5 until 600000
+lease bb@3/4/5 until 600000
+lease cc@3/4/5 until 600000
+lease dd@3/4/5 until 1
+
+space 600000 300000 7 9
+0 0 open 1 pinned
+1 0 dirty aa@3/4/5 5 1000 16
+1 900 dirty aa@3/4/5 6 200 -
+1 1099 clean aa@3/4/5 4 weak 16
+1 1100 dirty aa@3/4/5 7 50 -
+=
+events 5 units 7 now 1100
+object 16 kind 1 pinned running 0 awaiting 0 held 0 names 0
+lease aa@3/4/5 until 1150
+
 space 10 5 1 1
 0 0 open 4294967295 pinned
-0 5 dirty 00ff@1/2/3 1 1 16
+0 5 dirty 00ff@1/2/3 1 10 16
 4294967295 15 tick
 =
 events 3 units 4 now 15
@@ -392,7 +435,7 @@ name \"\\ud800\" 16
 name \"\" 16
 
 space 2 1 7 9
-2 3 dirty aa@3/4/7 2 1 18
+2 3 dirty aa@3/4/7 2 2 18
 4294967295 5 lookup \"\\u0000\" 1/0/0
 =
 events 2 units 3 now 5

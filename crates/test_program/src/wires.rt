@@ -1,6 +1,7 @@
 //! What no contract says: that calls succeed where there is memory, how much is asked for at once, and what the adapters
 //! do over a reader, a writer and a clock.
-ghost use Rattle.std.specs.Prelude.{None};
+ghost use Rattle.std.specs.Prelude.{true};
+ghost use Rattle.wire_io.specs.Wire.{untold_read, untold_write};
 
 use crate::hosts::{copied, must, sink_of};
 use crate::texts::{bytes_of, cut, number_of, numbers_of, push};
@@ -245,9 +246,7 @@ struct Asked {
 }
 
 impl Source for Asked {
-    ghost left = { λ _. None };
-
-    ghost faults = { λ _. 0 };
+    ghost half = { λ _. untold_read 0 true };
 
     fn read(&mut self, buf: &mut [u8]) -> Result<usize, Failed> {
         self.most = self.most.max(buf.len());
@@ -291,9 +290,7 @@ struct Slow {
 }
 
 impl Sink for Slow {
-    ghost held = { λ _. None };
-
-    ghost faults = { λ s. s.faults };
+    ghost half = { λ s. untold_write s.faults true };
 
     fn write(&mut self, piece: &[u8]) -> Result<usize, Failed> {
         self.writes = self.writes.saturating_add(1);

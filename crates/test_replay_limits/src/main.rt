@@ -44,7 +44,7 @@ fn repeated(alloc: Global, piece: &[u8], count: u32) -> Result<ByteList, AllocEr
 /// The line of a dirty that names 65,536 times an object, which is not exported.
 fn long_dirty(alloc: Global) -> Result<ByteList, AllocError> {
     let more = repeated(alloc, b",16", 65_535)?;
-    let mut line = joined(alloc, b"1 0 dirty -@0/0/0 1 1 16", more.as_slice())?;
+    let mut line = joined(alloc, b"1 0 dirty -@0/0/0 1 0 16", more.as_slice())?;
     line.append(b"\n")?;
     Ok(line)
 }

@@ -6,7 +6,9 @@
 use crate::servers::CONFIG;
 use history::asks::is_abandon;
 use history::places::id_at;
-use history::{Ask, Call, Event, Exported, ExportedList, Place, Reply, Returned, Turn, Withdrawal};
+use history::{
+    Ask, Call, Event, Exported, ExportedList, Place, Reply, Returned, Turn, Withdrawal, grant,
+};
 use history_model::awaiting::returned_references;
 use history_model::leases::{counting_calls, has_time_left, highest_is_dirty};
 use history_model::names::{name_in, names, stands_for};
@@ -500,7 +502,7 @@ fn short_reply(p: &Place, before: &[Place], ask: &Ask) -> Reply {
             Reply::NoObject,
         ),
         Ask::Abandon { .. } => chosen(p, Reply::Done, Reply::NotRunning),
-        Ask::Dirty { .. } => Reply::Granted(CONFIG.lease_ms),
+        Ask::Dirty { asked, .. } => Reply::Granted(grant(CONFIG.lease_ms, *asked)),
         Ask::Bind { object, .. } => {
             if has(table, *object) {
                 chosen(p, Reply::Bound, Reply::AlreadyBound)

@@ -1,12 +1,16 @@
 //! Links in memory that wait for one another.
-ghost use Rattle.std.specs.Prelude.{◌≡◌, IfSome};
+ghost use Rattle.std.specs.Prelude.{◌≡◌, IfSome, false};
+ghost use Rattle.wire_io.specs.Mem.{sink_half};
+ghost use Rattle.wire_io.specs.Wire.{AreNewHalves, untold_read};
 
 use sequence::Kinds;
 use std::alloc::Global;
 use std::sync::Arc;
 use std::sync::atomic::{AtomicU64, Ordering};
 use std::thread::yield_now;
-use wire_io::{Failed, Link, Listener, MemClock, MemListener, MemSink, MemSource, Sink, Source};
+use wire_io::{
+    Failed, Link, Listener, MemClock, MemListener, MemSink, MemSource, Sink, Source, Waited,
+};
 
 /// The most looks of a source that waits.
 const LOOKS: u32 = 10_000_000;
@@ -32,14 +36,13 @@ pub(crate) struct GatedSource {
     source: MemSource,
     ended: Ended,
     wanted: u64,
+    is_shut: bool,
 }
 
 impl Source for GatedSource {
-    ghost use Rattle.std.specs.Prelude.{None};
+    ghost use Rattle.wire_io.specs.Wire.{untold_read};
 
-    ghost left = { λ s. None };
-
-    ghost faults = { λ s. s.source.faults };
+    ghost half = { λ s. untold_read s.source.faults s.is_shut };
 
     fn read(&mut self, buf: &mut [u8]) -> Result<usize, Failed> {
         if !are_ended(&self.ended, self.wanted) {
@@ -53,6 +56,7 @@ impl Source for GatedSource {
 
     fn shut(&mut self) {
         self.source.shut();
+        self.is_shut = true;
         let _before = self.ended.fetch_add(1, Ordering::SeqCst);
     }
 }
@@ -72,11 +76,9 @@ impl GatedSink {
 }
 
 impl Sink for GatedSink {
-    ghost use Rattle.std.specs.Prelude.{Some};
+    ghost use Rattle.wire_io.specs.Mem.{sink_half};
 
-    ghost held = { λ s. Some s.sink.held };
-
-    ghost faults = { λ s. s.sink.faults };
+    ghost half = { λ s. sink_half s.sink };
 
     fn write(&mut self, piece: &[u8]) -> Result<usize, Failed> {
         self.sink.write(piece)
@@ -137,8 +139,7 @@ impl Gated {
 
     /// The next link, if this call does not fail and there is one, and memory for it.
     fn next(&mut self) -> Option<Link<GatedSource, GatedSink, MemClock>>
-        ensures source { IfSome result (λ link. link.source.source.faults ≡ 0) }
-        ensures sink { IfSome result (λ link. link.sink.sink.faults ≡ 0) }
+        ensures halves { IfSome result (λ link. AreNewHalves (untold_read link.source.source.faults link.source.is_shut) (sink_half link.sink.sink)) }
         ensures faults { self.new.faults ≡ self.old.faults }
     {
         if self.fails() {
@@ -159,6 +160,7 @@ impl Gated {
                 source,
                 ended: there,
                 wanted,
+                is_shut: false,
             },
             sink: GatedSink { sink, ended: here },
             clock,
@@ -169,7 +171,8 @@ impl Gated {
 }
 
 impl Listener for Gated {
-    ghost use Rattle.std.specs.Prelude.{None};
+    ghost use Rattle.std.specs.Prelude.{false};
+    ghost use Rattle.wire_io.specs.Links.{untold_listener};
 
     type In = GatedSource;
 
@@ -177,13 +180,9 @@ impl Listener for Gated {
 
     type Ticks = MemClock;
 
-    ghost ports = { λ g. None };
+    ghost listening = { λ g. untold_listener g.faults false };
 
-    ghost accepted = { λ g. None };
-
-    ghost faults = { λ g. g.faults };
-
-    fn listen(&mut self, _port: u16) -> Result<(), Failed> {
+    fn listen(&mut self, _address: &str, _port: u16) -> Result<(), Failed> {
         Ok(())
     }
 
@@ -194,6 +193,13 @@ impl Listener for Gated {
                 self.faults = self.faults.saturating_add(1);
                 Err(Failed)
             }
+        }
+    }
+
+    fn wait(&mut self) -> Result<Waited<Link<GatedSource, GatedSink, MemClock>>, Failed> {
+        match self.accept() {
+            Ok(link) => Ok(Waited::Came(link)),
+            Err(failed) => Err(failed),
         }
     }
 }

@@ -1,9 +1,9 @@
 //! The outline of a history by the definitions.
 use crate::defined::Defined;
 use crate::servers::CONFIG;
-use history::{Call, CallKind, Exported, Name, Place, Returned, Withdrawal};
+use history::{Call, Exported, Name, Place, Returned, Withdrawal};
 use history_model::awaiting::awaiting_references;
-use history_model::leases::{calls_of, clients, clients_with_time_left, holds};
+use history_model::leases::{calls_of, clients, clients_with_time_left, holds, lease_end};
 use history_model::limits::units;
 use history_model::names::{names, stands_for};
 use history_model::places::now;
@@ -13,7 +13,7 @@ use journal::ObjectRow;
 use journal::outline::{
     put_events_line, put_lease_line, put_name_line, put_object_line, put_withdrawal_line,
 };
-use object_ids::{ObjId, Vmid};
+use object_ids::ObjId;
 use sequence::{ByteList, Same, Units};
 use std::alloc::{AllocError, Global};
 
@@ -103,20 +103,11 @@ fn put_leases(alloc: Global, places: &[Place], text: &mut ByteList) -> Result<()
     let calls = lease_calls(alloc, places)?;
     let left = clients_with_time_left(alloc, CONFIG.lease_ms, now(places), calls.as_slice())?;
     for client in left.as_slice() {
-        let last = last_dirty(client, calls.as_slice());
-        put_lease_line(text, client, last.saturating_add(CONFIG.lease_ms))?;
+        let own = calls_of(alloc, client, calls.as_slice())?;
+        let end = lease_end(CONFIG.lease_ms, own.as_slice());
+        put_lease_line(text, client, u64::try_from(end).unwrap_or(u64::MAX))?;
     }
     Ok(())
-}
-
-/// The moment of a client's last dirty call, of calls with the newest first.
-fn last_dirty(client: &Vmid, calls: &[Call]) -> u64 {
-    for call in calls {
-        if call.client.is_same(client) && call.kind == CallKind::Dirty {
-            return call.moment;
-        }
-    }
-    0
 }
 
 fn put_names(alloc: Global, places: &[Place], text: &mut ByteList) -> Result<(), AllocError> {

@@ -1,5 +1,7 @@
 //! A hand is told what a turn withdrew before its client's next byte is asked for, not at its next call or at its connection's end.
 ghost use Rattle.std.specs.Prelude.{◌≡◌, ◌≤◌, IfSome};
+ghost use Rattle.wire_io.specs.Mem.{sink_half};
+ghost use Rattle.wire_io.specs.Wire.{AreNewHalves, untold_read};
 
 use crate::gates::{Gated, GatedSink, GatedSource};
 use crate::servers::{is_short, is_told, listener_of, plan_of};
@@ -17,7 +19,7 @@ use std::sync::atomic::{AtomicU64, Ordering};
 use std::sync::{Arc, Wait};
 use std::thread::Threads;
 use turn_lock::TurnLock;
-use wire_io::{Failed, Link, Listener, MemClock, Source};
+use wire_io::{Failed, Link, Listener, MemClock, Source, Waited};
 
 /// The moments of the turns: of the Tick before the connection, at which the counter that was made beforehand is gone; of twelve more; and of the last
 /// acknowledgement, at which the wait for two more counters has ended.
@@ -92,14 +94,13 @@ struct NotingSource {
     source: GatedSource,
     gone: Gone,
     noted: Kinds,
+    is_shut: bool,
 }
 
 impl Source for NotingSource {
-    ghost use Rattle.std.specs.Prelude.{None};
+    ghost use Rattle.wire_io.specs.Wire.{untold_read};
 
-    ghost left = { λ _. None };
-
-    ghost faults = { λ _. 0 };
+    ghost half = { λ s. untold_read 0 s.is_shut };
 
     fn read(&mut self, buf: &mut [u8]) -> Result<usize, Failed> {
         let told = self.gone.load(Ordering::SeqCst);
@@ -116,6 +117,7 @@ impl Source for NotingSource {
 
     fn shut(&mut self) {
         self.source.shut();
+        self.is_shut = true;
     }
 }
 
@@ -131,7 +133,7 @@ struct Noting {
 impl Noting {
     /// The next link, if there is one, and memory for it.
     fn next(&mut self) -> Option<Link<NotingSource, GatedSink, MemClock>>
-        ensures sink { IfSome result (λ link. link.sink.sink.faults ≡ 0) }
+        ensures halves { IfSome result (λ link. AreNewHalves (untold_read 0 link.source.is_shut) (sink_half link.sink.sink)) }
         ensures faults { self.new.faults ≡ self.old.faults }
     {
         let gone = Arc::try_clone(&self.gone).ok()?;
@@ -148,6 +150,7 @@ impl Noting {
                 source,
                 gone,
                 noted,
+                is_shut: false,
             },
             sink,
             clock,
@@ -158,7 +161,8 @@ impl Noting {
 }
 
 impl Listener for Noting {
-    ghost use Rattle.std.specs.Prelude.{None};
+    ghost use Rattle.std.specs.Prelude.{false};
+    ghost use Rattle.wire_io.specs.Links.{untold_listener};
 
     type In = NotingSource;
 
@@ -166,13 +170,9 @@ impl Listener for Noting {
 
     type Ticks = MemClock;
 
-    ghost ports = { λ g. None };
+    ghost listening = { λ g. untold_listener g.faults false };
 
-    ghost accepted = { λ g. None };
-
-    ghost faults = { λ g. g.faults };
-
-    fn listen(&mut self, _port: u16) -> Result<(), Failed> {
+    fn listen(&mut self, _address: &str, _port: u16) -> Result<(), Failed> {
         Ok(())
     }
 
@@ -183,6 +183,13 @@ impl Listener for Noting {
                 self.faults = self.faults.saturating_add(1);
                 Err(Failed)
             }
+        }
+    }
+
+    fn wait(&mut self) -> Result<Waited<Link<NotingSource, GatedSink, MemClock>>, Failed> {
+        match self.accept() {
+            Ok(link) => Ok(Waited::Came(link)),
+            Err(failed) => Err(failed),
         }
     }
 }

@@ -138,7 +138,7 @@ fn dirty_ask(alloc: Global, client: i32, count: u32) -> Result<Ask, AllocError> 
     Ok(Ask::Dirty {
         client,
         number: 1,
-        asked: 1,
+        asked: 600_000,
         objects,
     })
 }

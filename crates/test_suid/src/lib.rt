@@ -1,5 +1,7 @@
-//! Tests of class outlines, and of the numbers that are made of them.
+//! Tests of class outlines, and of the numbers and descriptions that are made of them.
 #![tactic(auto)]
 
+#[cfg(test)]
+mod descriptions;
 #[cfg(test)]
 mod rows;

@@ -1,5 +1,16 @@
-//! Tests of connections over TCP, on this machine alone.
+//! Tests of connections: in memory, and over TCP on this machine alone.
 #![tactic(auto)]
 
 #[cfg(test)]
+use std::process::Abort;
+
+#[cfg(test)]
+mod memory;
+#[cfg(test)]
 mod tcp;
+
+/// Stops where this does not hold, and says what it is.
+#[cfg(test)]
+fn must(rt: &impl Abort, holds: bool, what: &str) {
+    assert!(rt; holds, "{what}");
+}

@@ -1,16 +1,16 @@
 //! One connection: what either end writes, the other one reads, and each direction is shut by itself.
+use crate::must;
 use sequence::Units;
 use std::alloc::Global;
 use std::io::{Read, Write};
 use std::net::{Net, Shutdown, SocketAddr, TcpListener, TcpStream};
 use std::process::Abort;
-use std::time::Clock;
-use wire_io::{Listener, Sink, Source, TcpListen, TcpSink, TcpSource};
-
-/// Stops where this does not hold, and says what it is.
-fn must(rt: &impl Abort, holds: bool, what: &str) {
-    assert!(rt; holds, "{what}");
-}
+use std::sync::Arc;
+use std::sync::atomic::{AtomicBool, Ordering};
+use std::time::{Clock, Duration};
+use wire_io::{
+    Dialer, Failed, Listener, Sink, Source, TcpDial, TcpListen, TcpSink, TcpSource, Waited,
+};
 
 /// How many ports are tried.
 const TRIES: u32 = 20;
@@ -33,7 +33,7 @@ fn listen<R: Net<Listener = TcpListener, Stream = TcpStream>, L: Listener>(
 ) -> Option<u16> {
     for _ in 0..TRIES {
         if let Some(port) = free_port(rt) {
-            if listener.listen(port).is_ok() {
+            if listener.listen("127.0.0.1", port).is_ok() {
                 return Some(port);
             }
         }
@@ -150,4 +150,86 @@ where
 #[test]
 fn a_connection_carries_bytes_both_ways(rt: HostRuntime) {
     check(&rt, rt.alloc());
+}
+
+/// The text `127.0.0.1`.
+fn host_here(rt: &impl Abort, alloc: Global) -> Units {
+    let mut host = Units::new(alloc);
+    for byte in b"127.0.0.1" {
+        must(rt, host.push(u16::from(*byte)).is_ok(), "memory");
+    }
+    host
+}
+
+/// The word of what a listener answers that waits.
+fn word_of<L: Drop>(waited: Result<Waited<L>, Failed>) -> &'static str {
+    match waited {
+        Ok(Waited::Came(_link)) => "link",
+        Ok(Waited::Quiet) => "quiet",
+        Ok(Waited::Told) => "told",
+        Err(_) => "fault",
+    }
+}
+
+/// Looks at waits of a listener: one without a link, one with a link that is dialled, and one after its flag is set.
+fn check_waits<R>(rt: &R, alloc: Global) -> Option<()>
+where
+    R: Net<Listener = TcpListener, Stream = TcpStream> + Clock + Abort + Sync,
+{
+    let flag = Arc::new(alloc, AtomicBool::new(false)).ok()?;
+    let mut listener = TcpListen::with_flag(alloc, rt, Arc::try_clone(&flag).ok()?);
+    let port = listen(rt, &mut listener)?;
+    must(rt, word_of(listener.wait()) == "quiet", "no link");
+    let mut dialer = TcpDial::new(alloc, rt);
+    let Ok(dialed) = dialer.dial(&host_here(rt, alloc), port) else {
+        return None;
+    };
+    must(rt, is_here(&dialed.host), "the host dialled");
+    must(rt, dialed.port == i32::from(port), "the port dialled");
+    must(rt, word_of(listener.wait()) == "link", "a link");
+    flag.store(true, Ordering::SeqCst);
+    must(rt, word_of(listener.wait()) == "told", "the flag");
+    must(rt, listener.faults() == 0, "no fault");
+    Some(())
+}
+
+#[test]
+fn a_listener_waits_for_what_is_dialled(rt: HostRuntime) {
+    must(&rt, check_waits(&rt, rt.alloc()).is_some(), "a listener");
+}
+
+/// Looks at the limits of time of a connection's halves, before and after the first byte.
+fn check_limits<R>(rt: &R, alloc: Global) -> Option<()>
+where
+    R: Net<Listener = TcpListener, Stream = TcpStream> + Abort,
+{
+    let listener = TcpListener::bind(rt, here(0)).ok()?;
+    let mut peer = TcpStream::connect(rt, listener.local_addr().ok()?).ok()?;
+    let (stream, _peer) = listener.accept().ok()?;
+    let options = stream.try_clone().ok()?;
+    let _sink = TcpSink::new(stream.try_clone().ok()?);
+    let mut source = TcpSource::new(alloc, stream).ok()?;
+    let minute = Some(Duration::from_secs(60));
+    must(rt, options.write_timeout().ok()? == minute, "a write");
+    must(rt, options.read_timeout().ok()? == minute, "a first byte");
+    must(rt, peer.write_all(b"a").is_ok(), "the peer writes");
+    must(rt, gives(&mut source, b"a"), "the source gives it");
+    let hours = Some(Duration::from_secs(7200));
+    must(rt, options.read_timeout().ok()? == hours, "a later byte");
+    Some(())
+}
+
+#[test]
+fn reads_and_writes_have_limits_of_time(rt: HostRuntime) {
+    must(&rt, check_limits(&rt, rt.alloc()).is_some(), "a connection");
+}
+
+/// A dial to a port that nobody listens on fails, and is counted.
+#[test]
+fn a_dial_that_nobody_answers_is_a_fault(rt: HostRuntime) {
+    let mut dialer = TcpDial::new(rt.alloc(), &rt);
+    let host = host_here(&rt, rt.alloc());
+    let port = free_port(&rt).unwrap_or(1);
+    must(&rt, dialer.dial(&host, port).is_err(), "no connection");
+    must(&rt, dialer.faults() == 1, "a fault");
 }

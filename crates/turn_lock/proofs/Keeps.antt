@@ -14,7 +14,9 @@ use Rattle.history.specs.declared.asks.SpaceConfig.{SpaceConfig}
 use Rattle.history.specs.declared.asks.Event.{Event}
 use Rattle.history.specs.Steps.{IsLegal}
 use Rattle.ports.specs.Balance.{AreOfOthers}
+use Rattle.history.specs.Table.{places, table}
 use Rattle.space.specs.Built.{SpaceHistory}
+use Rattle.space.proofs.CollectLaws.{space-shown}
 use Rattle.turn_lock.specs.declared.view.View.{View}
 use Rattle.turn_lock.specs.declared.view.SeatState.{SeatState}
 use Rattle.turn_lock.specs.declared.view.SeatState.TheVariants.{Idle, Drawn, Called}
@@ -30,7 +32,7 @@ IsCalled (Called t h) = true
 IsCalled _ = false
 
 -- the ticket is far below the end of the word
-few : (h0 : SpaceHistory) (s : St) (r : KeepsRule h0 s) → r.ticket ≤ 4611686020574871552
+few : (h0 : SpaceHistory) (s : St) (r : KeepsRule h0 s) → r.ticket ≤ 9223372036854775808
 few h0 s r = let le = sum_le (λ (v : View). v.drawn) (λ (v : View). v.parts) s.views (λ j u e. (r.each j u e).room) in
     let d = r.drawn in let p = r.parts in omega (arith, le)
 
@@ -642,8 +644,8 @@ joins h0 id v other w first idle part idle' part' s r at two there =
           (at_set vs other j spent_seat y e'));
     }
 
-pub starts : (h0 : SpaceHistory) → IsLegal h0.configuration h0.events → KeepsRule h0 (opening (0 ∷ 0 ∷ length h0.events ∷ []) (Some h0 ∷ []) (root h0))
-starts h0 legal =
+pub starts : (h0 : SpaceHistory) → h0.rows ≡ table h0.configuration (places h0.configuration h0.events) → IsLegal h0.configuration h0.events → KeepsRule h0 (opening (0 ∷ 0 ∷ length h0.events ∷ []) (Some h0 ∷ []) (root h0))
+starts h0 shown legal =
     let all : h0.events ++ [] ≡ h0.events = append-nil h0.events in
     let one : (j : ℕ) (u : View) → get_elem? (root h0 ∷ []) j ≡ some u → (j ≡ 0) × (root h0 ≡ u) = λ j u e. only j u e in
     record {
@@ -655,7 +657,7 @@ starts h0 legal =
       words = ap (λ l. 0 ∷ 0 ∷ length l ∷ []) (sym all);
       order = omega arith;
       legal = subst (IsLegal h0.configuration) (sym all) legal;
-      home = ap (λ l. some (Some (space_with h0.configuration l)) ∷ []) (sym all);
+      home = ap (λ (s : SpaceHistory). some (Some s) ∷ []) (space-shown h0 shown) ∙ ap (λ l. some (Some (space_with h0.configuration l)) ∷ []) (sym all);
       caller = λ e. absurd (true≢false (sym e));
       each = λ j u e. let t = one j u e in subst (SeatFits h0 [] 0 0 false (λ t. 0) j) t.1 (record {
         mine = λ _. record {
@@ -676,7 +678,7 @@ starts h0 legal =
       parts = refl;
       counted = λ u e. ap (λ (y : View). suc y.made) (one 0 u e).1;
       ended = λ u e p has. absurd (none_in p (subst (λ l. Contains l p) (ap (λ (y : View). y.ended) (sym (one 0 u e).1)) has));
-      spent_ones = λ u e j y e' nil. let m : 2147483649 ≡ 0 = ap (λ (z : View). z.parts) (one j y e').1 ∙ nil in absurd (omega (arith, m));
+      spent_ones = λ u e j y e' nil. let m : 4294967296 ≡ 0 = ap (λ (z : View). z.parts) (one j y e').1 ∙ nil in absurd (omega (arith, m));
     }
   where
     only : (j : ℕ) (u : View) → get_elem? (root h0 ∷ []) j ≡ some u → (j ≡ 0) × (root h0 ≡ u)
@@ -687,7 +689,7 @@ starts h0 legal =
     none_in p has = let lt = has.1 in absurd (omega (arith, lt))
 
 -- once every part is back, the slot is at home, and the events are those of the first seat and of the ended passes
-pub closes : (h0 : SpaceHistory) (id : ℕ) (v : View) (ws : List ℕ) (xs : List (Option SpaceHistory)) → id ≡ 0 → v.parts ≡ 2147483649 → v.state ≡ Idle
+pub closes : (h0 : SpaceHistory) (id : ℕ) (v : View) (ws : List ℕ) (xs : List (Option SpaceHistory)) → id ≡ 0 → v.parts ≡ 4294967296 → v.state ≡ Idle
     → Final (Seen (KeepsRule h0) id v) ws xs → (h : SpaceHistory) × (get_elem? xs 0 ≡ some (Some h)) × Settled h0 v h
 closes h0 id v ws xs first whole idle final =
     let s : St = final.0 in
@@ -705,6 +707,7 @@ closes h0 id v ws xs first whole idle final =
       record {
         same = refl;
         legal = r.legal;
+        shown = refl;
         tail = r.tail;
         begins = refl;
         seen = mine.begun;

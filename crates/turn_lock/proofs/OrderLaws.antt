@@ -3,7 +3,7 @@ use Rattle.std.proofs.Common.{◌≡◌, ℕ, List, ◌++◌, Result, Ok, Err, a
 use Rattle.std.specs.Prelude.{IfOk}
 use Rattle.history.specs.declared.asks.SpaceConfig.{SpaceConfig}
 use Rattle.history.specs.declared.asks.Ask.{Ask}
-use Rattle.history.specs.Collector.{Collects}
+use Rattle.history.specs.Collector.{TableCollects}
 use Rattle.history.specs.Steps.{turn_of}
 use Rattle.space.specs.Acts.{event_of}
 use Rattle.history.specs.declared.replies.Refused.{Refused}
@@ -33,7 +33,7 @@ rule-orders s t k = record {
   no_others = k.strangers;
 }
 
-goes-collect : (config : SpaceConfig) (by : ℕ) (h next : Events) (m : ℕ) (a : Ask) (end : AskedEnd) → GoesBy config by h m a end next → IsTaken end → Collects config h (event_of by m a) next
+goes-collect : (config : SpaceConfig) (by : ℕ) (h next : Events) (m : ℕ) (a : Ask) (end : AskedEnd) → GoesBy config by h m a end next → IsTaken end → TableCollects config h (event_of by m a) next
 goes-collect config by h next m a (Turned turn) g t = taken-collects config h next (event_of by m a) turn g
 goes-collect config by h next m a (Abandoned place) g t = taken-collects config h next (event_of by m a) (turn_of config h (event_of by m a)) g.2
 goes-collect config by h next m a (Denied refused) g t = absurd t

@@ -109,7 +109,7 @@ root_joined l r s p is branch has_own table id me number room made out =
     }
 
 -- Where a root took a part back, some pass was out.
-pub some_out : (l : TurnLock) (r : Root) → IsRootOf l r → (view_of r.pass).parts + 1 ≤ 2147483649 → 0 < r.out
+pub some_out : (l : TurnLock) (r : Root) → IsRootOf l r → (view_of r.pass).parts + 1 ≤ 4294967296 → 0 < r.out
 some_out l r is few = let parts = is.parts in omega (arith, parts, few)
 
 none_longer : (xs : Events) → longer xs [] ≡ xs
@@ -151,7 +151,7 @@ branch_split l r p is table me has_own number room =
     )
 
 -- The root that a pass was split off is the lock's.
-pub root_split : (l : TurnLock) (r s : Root) → IsRootOf l r → r.made ≢ 2147483648 → s.pass.seat.table_id ≡ r.pass.seat.table_id → s.pass.seat.id ≡ r.pass.seat.id → s.pass.seat.me ≡ (left_of (view_of r.pass), r.pass.seat.me.1)
+pub root_split : (l : TurnLock) (r s : Root) → IsRootOf l r → r.made ≢ 4294967295 → s.pass.seat.table_id ≡ r.pass.seat.table_id → s.pass.seat.id ≡ r.pass.seat.id → s.pass.seat.me ≡ (left_of (view_of r.pass), r.pass.seat.me.1)
     → s.pass.number ≡ r.pass.number → s.pass.room ≡ r.pass.room → s.made ≡ r.made + 1 → s.out ≡ r.out + 1 → IsRootOf l s
 root_split l r s is fits table id me number room made out =
     let own = is.pass_is in let order = own.ordered in
@@ -195,7 +195,7 @@ pub fresh_root : (l : TurnLock) (r : Root) → r.pass.seat.table_id ≡ l.board.
     → r.pass.number ≡ 0 → r.pass.room ≡ 2147483648 → r.made ≡ 0 → r.out ≡ 0 → IsLegal (opening_of l).configuration (opening_of l).events → IsFresh l r
 fresh_root l r table first me number room made out legal =
     let knows : r.pass.seat.me.0 ≡ root (opening_of l) = ap (λ x. x.0) me in
-    let parts : r.pass.seat.me.0.parts ≡ 2147483649 = ap (λ (v : View). v.parts) knows in
+    let parts : r.pass.seat.me.0.parts ≡ 4294967296 = ap (λ (v : View). v.parts) knows in
     let drawn : r.pass.seat.me.0.drawn ≡ 0 = ap (λ (v : View). v.drawn) knows in
     let made_is : r.pass.seat.me.0.made ≡ 0 = ap (λ (v : View). v.made) knows in
     record {

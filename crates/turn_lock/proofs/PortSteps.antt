@@ -1,6 +1,6 @@
 -- What one turn of a pass does to the port over it.
-use Rattle.std.proofs.Common.{◌≡◌, ℕ, ◌+◌, ◌<◌, ◌≤◌, List, [], ◌∷◌, ◌++◌, length, refl, ap, sym, subst, ◌∙◌, append-nil, arith}
-use Rattle.std.specs.Prelude.{Result, Ok, Err}
+use Rattle.std.proofs.Common.{◌≡◌, ◌≢◌, ℕ, ◌+◌, ◌<◌, ◌≤◌, List, [], ◌∷◌, ◌++◌, length, refl, ap, sym, subst, ◌∙◌, append-nil, arith, inl, inr}
+use Rattle.std.specs.Prelude.{Result, Ok, Err, ◌⊎◌}
 use Rattle.object_ids.specs.declared.ids.ObjId.{ObjId}
 use Rattle.history.specs.declared.asks.SpaceConfig.{SpaceConfig}
 use Rattle.history.specs.declared.asks.Event.{Event}
@@ -15,12 +15,12 @@ use Rattle.history.specs.Table.{places}
 use Rattle.history.proofs.StepLaws.{IsLegal-step}
 use Rattle.space.specs.Acts.{event_of}
 use Rattle.ports.specs.Balance.{AreOfOthers, WentAmong}
-use Rattle.space.specs.Entries.{end_of, entry_of}
-use Rattle.ports.specs.Ports.{GoesBy, Shows, abandoned_at}
-use Rattle.ports.specs.Ties.{IsTied}
+use Rattle.space.specs.Entries.{entry_of}
+use Rattle.ports.specs.Ports.{GoesBy, Shows, abandoned_at, entries_of}
+use Rattle.ports.specs.Ties.{IsTied, IsTiedTold}
 use Rattle.space.specs.declared.asked.Asked.{Asked}
 use Rattle.space.proofs.NotedLaws.{taken-turn, refused-turn}
-use Rattle.ports.proofs.TieSteps.{tied-answered, tied-abandoned, tied-as, shown-runs}
+use Rattle.ports.proofs.TieSteps.{tied-answered, tied-abandoned, tied-as, tied-told, entries-or, goes-answered, shown-runs}
 use Rattle.turn_lock.specs.declared.view.View.{View}
 use Rattle.turn_lock.specs.declared.handles.Pass.{Pass}
 use Rattle.turn_lock.specs.Rule.{Events, MayComeTo, TurnedAt, own_after, space_with}
@@ -84,10 +84,6 @@ shown_there v before by entries room o number came tied shows =
 
 -- ---- how it led on
 
-goes_entered : (config : SpaceConfig) (by m : ℕ) (a : Ask) (h h2 : Events) (answer : Result Turn Refused) → Step config h (event_of by m a) answer h2 → GoesBy config by h m a (end_of answer) h2
-goes_entered config by m a h h2 (Ok turn) s = s
-goes_entered config by m a h h2 (Err refused) s = s
-
 own_entered : (own : Events) (by m : ℕ) (a : Ask) (answer : Result Turn Refused) → own_after own (event_of by m a) answer ≡ own ++ (taken_of by (entry_of m a answer) ++ [])
 own_entered own by m a (Ok turn) = refl
 own_entered own by m a (Err refused) = sym (append-nil own)
@@ -111,9 +107,9 @@ among_one : (config : SpaceConfig) (by : ℕ) (seen others before last : Events)
 among_one config by seen others before last entry apart is goes =
     (others, last, apart, subst (λ (h : Events). GoesBy config by h entry.moment entry.ask entry.end last) is goes, ([], tt, sym (append-nil last)))
 
-gained_entered : (v w : View) (before : Events) (m : ℕ) (a : Ask) (answer : Result Turn Refused) → TurnedAt v before (event_of v.number m a) answer w → Gained v w (entry_of m a answer ∷ [])
-gained_entered v w before m a answer t = gained_by v w before (event_of v.number m a) answer (entry_of m a answer ∷ []) t (own_entered v.own v.number m a answer)
-    (among_one v.config v.number v.seen t.came.others before w.seen (entry_of m a answer) t.came.apart t.came.after (goes_entered v.config v.number m a before w.seen answer t.step))
+gained_entered : (v w : View) (before : Events) (m : ℕ) (a : Ask) (answer : Result Turn Refused) → answer ≢ Err OutOfMemory → TurnedAt v before (event_of v.number m a) answer w → Gained v w (entry_of m a answer ∷ [])
+gained_entered v w before m a answer known t = gained_by v w before (event_of v.number m a) answer (entry_of m a answer ∷ []) t (own_entered v.own v.number m a answer)
+    (among_one v.config v.number v.seen t.came.others before w.seen (entry_of m a answer) t.came.apart t.came.after (goes-answered v.config v.number m a before w.seen answer known t.step))
 
 gained_unentered : (v w : View) (before : Events) (e : Event) → TurnedAt v before e (Err OutOfMemory) w → Gained v w []
 gained_unentered v w before e t = gained_by v w before e (Err OutOfMemory) [] t (sym (append-nil v.own))
@@ -128,11 +124,11 @@ gained_ended v w before m o place t at runs =
 went_by : (p q : Pass) (xs ys : List Asked) (gained : List Asked) → ys ≡ xs ++ gained → Gained (view_of p) (view_of q) gained → (view_of q).drawn ≡ (view_of p).drawn + 1 → q.seat.id ≡ p.seat.id → q.room + 1 ≡ p.room → PortWent p xs q ys
 went_by p q xs ys gained is views drawn same room = (gained, is, record { views = views; same_seat = same; counts = omega (arith, drawn, room) })
 
-pub went_entered : (p q : Pass) (xs ys : List Asked) (before : Events) (by m : ℕ) (a : Ask) (answer : Result Turn Refused) (entry : Asked) → by ≡ (view_of p).number → TurnedAt (view_of p) before (event_of by m a) answer (view_of q)
+pub went_entered : (p q : Pass) (xs ys : List Asked) (before : Events) (by m : ℕ) (a : Ask) (answer : Result Turn Refused) (entry : Asked) → answer ≢ Err OutOfMemory → by ≡ (view_of p).number → TurnedAt (view_of p) before (event_of by m a) answer (view_of q)
     → entry ≡ entry_of m a answer → ys ≡ xs ++ entry ∷ [] → q.seat.id ≡ p.seat.id → q.room + 1 ≡ p.room → PortWent p xs q ys
-went_entered p q xs ys before by m a answer entry number t is longer same room =
+went_entered p q xs ys before by m a answer entry known number t is longer same room =
     let t' : TurnedAt (view_of p) before (event_of (view_of p).number m a) answer (view_of q) = subst (λ (n : ℕ). TurnedAt (view_of p) before (event_of n m a) answer (view_of q)) number t in
-    went_by p q xs ys (entry_of m a answer ∷ []) (longer ∙ ap (λ x. xs ++ x ∷ []) is) (gained_entered (view_of p) (view_of q) before m a answer t') (ap (λ (y : View). y.drawn) t.after) same room
+    went_by p q xs ys (entry_of m a answer ∷ []) (longer ∙ ap (λ x. xs ++ x ∷ []) is) (gained_entered (view_of p) (view_of q) before m a answer known t') (ap (λ (y : View). y.drawn) t.after) same room
 
 pub went_unentered : (p q : Pass) (xs ys : List Asked) (before : Events) (e : Event) → TurnedAt (view_of p) before e (Err OutOfMemory) (view_of q) → ys ≡ xs → q.seat.id ≡ p.seat.id → q.room + 1 ≡ p.room → PortWent p xs q ys
 went_unentered p q xs ys before e t same_list same room =
@@ -152,3 +148,36 @@ shown_now v by entries room o number tied shows = subst (λ (n : ℕ). 0 < runni
 
 pub went_same : (p : Pass) (xs ys : List Asked) → ys ≡ xs → PortWent p xs p ys
 went_same p xs ys same = ([], same ∙ sym (append-nil xs), pass_self p)
+
+-- ---- entries in proofs alone
+
+-- The tie after a turn, with its entry if it has one.
+pub tied_told : (v w : View) (before : Events) (by m : ℕ) (a : Ask) (answer : Result Turn Refused) (entries entries2 : List Asked) → by ≡ v.number → TurnedAt v before (event_of by m a) answer w
+    → IsTiedTold v.number (seen_space v) entries → entries2 ≡ entries ++ entries_of m a answer → IsTiedTold w.number (seen_space w) entries2
+tied_told v w before by m a answer entries entries2 number t tied longer = go (entries-or m a answer)
+  where
+    go : ((answer ≡ Err OutOfMemory) × (entries_of m a answer ≡ [])) ⊎ ((answer ≢ Err OutOfMemory) × (entries_of m a answer ≡ entry_of m a answer ∷ [])) → IsTiedTold w.number (seen_space w) entries2
+    go (inl x) =
+        tied-told w.number (seen_space w) entries2 (length entries + length entries)
+        (tied_unentered v w before by m a entries entries2 (length entries + length entries) (length entries + length entries) (subst (λ (r : Result Turn Refused). TurnedAt v before (event_of by m a) r w) x.0 t) tied
+        (longer ∙ (ap (λ l. entries ++ l) x.1 ∙ append-nil entries)) (omega arith))
+    go (inr x) =
+        tied-told w.number (seen_space w) entries2 (length entries + (length entries + 2))
+        (tied_entered v w before by m a answer entries entries2 (entry_of m a answer) (length entries + length entries) (length entries + (length entries + 2)) number t tied refl (longer ∙ ap (λ l. entries ++ l) x.1) (omega arith))
+
+pub went_told : (p q : Pass) (xs ys : List Asked) (before : Events) (by m : ℕ) (a : Ask) (answer : Result Turn Refused) → by ≡ (view_of p).number → TurnedAt (view_of p) before (event_of by m a) answer (view_of q)
+    → ys ≡ xs ++ entries_of m a answer → q.seat.id ≡ p.seat.id → q.room + 1 ≡ p.room → PortWent p xs q ys
+went_told p q xs ys before by m a answer number t longer same room = go (entries-or m a answer)
+  where
+    go : ((answer ≡ Err OutOfMemory) × (entries_of m a answer ≡ [])) ⊎ ((answer ≢ Err OutOfMemory) × (entries_of m a answer ≡ entry_of m a answer ∷ [])) → PortWent p xs q ys
+    go (inl x) =
+        went_unentered p q xs ys before (event_of by m a) (subst (λ (r : Result Turn Refused). TurnedAt (view_of p) before (event_of by m a) r (view_of q)) x.0 t)
+        (longer ∙ (ap (λ l. xs ++ l) x.1 ∙ append-nil xs)) same room
+    go (inr x) = went_entered p q xs ys before by m a answer (entry_of m a answer) x.0 number t refl (longer ∙ ap (λ l. xs ++ l) x.1) same room
+
+-- The tie after an end without an answer.
+pub tied_told_end : (v w : View) (before : Events) (by m : ℕ) (o : ObjId) (entries entries2 : List Asked) (place : ℕ) → by ≡ v.number → TurnedAt v before (event_of by m (Abandon o)) (Ok (turn_of v.config before (event_of by m (Abandon o)))) w
+    → IsTiedTold v.number (seen_space v) entries → Shows entries o → entries2 ≡ entries ++ abandoned_at m o place ∷ [] → IsTiedTold w.number (seen_space w) entries2
+tied_told_end v w before by m o entries entries2 place number t tied shows longer =
+    tied-told w.number (seen_space w) entries2 (length entries + length entries)
+    (tied_ended v w before by m o (Ok (turn_of v.config before (event_of by m (Abandon o)))) entries entries2 place (length entries + length entries) (length entries + length entries) number refl t tied shows longer (omega arith))

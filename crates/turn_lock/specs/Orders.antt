@@ -5,7 +5,7 @@ use lib.ListN.{get_elem?}
 use Rattle.atomic_table.specs.Table.{State}
 use Rattle.history.specs.declared.asks.SpaceConfig.{SpaceConfig}
 use Rattle.history.specs.declared.asks.Ask.{Ask}
-use Rattle.history.specs.Collector.{Collects}
+use Rattle.history.specs.Collector.{TableCollects}
 use Rattle.history.specs.Steps.{IsLegal}
 use Rattle.space.specs.Acts.{event_of}
 use Rattle.space.specs.Built.{SpaceHistory}
@@ -42,9 +42,9 @@ IsTaken (Denied refused) = ⊥
 -- A pass that had seen the history of v makes a turn, and then has seen that of w: others' events, the turn's own, and further ones of others. At its place
 -- the collector keeps and withdraws as it is to.
 abbrev pub TurnCollects : View → ℕ → Ask → View → Type 0
-TurnCollects v moment ask w = (others next last : Events) × Collects v.config (v.seen ++ others) (event_of v.number moment ask) next × (w.seen ≡ next ++ last)
+TurnCollects v moment ask w = (others next last : Events) × TableCollects v.config (v.seen ++ others) (event_of v.number moment ask) next × (w.seen ≡ next ++ last)
 
 -- At each event that an entry tells as taken, at its place, the collector keeps and withdraws as it is to.
 abbrev pub EntriesCollect : Type 0
 EntriesCollect = (config : SpaceConfig) (by : ℕ) (h next : Events) (entry : Asked) → GoesBy config by h entry.moment entry.ask entry.end next → IsTaken entry.end →
-    Collects config h (event_of by entry.moment entry.ask) next
+    TableCollects config h (event_of by entry.moment entry.ask) next

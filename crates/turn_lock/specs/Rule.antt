@@ -1,23 +1,24 @@
 -- The rule of the turn lock: what its words, its slot and its seats have to do with one history; and what each atomic step tells the seat
 -- that takes it.
-use Rattle.std.specs.Prelude.{◌≡◌, ◌≢◌, ◌==◌, ltb, ℕ, suc, ◌+◌, ◌-◌, ◌*◌, ◌<◌, ◌≤◌, pos, Bool, true, false, List, [], ◌∷◌, ◌++◌, length, filter, sum_by, Contains, if◌then◌else◌, Result, Ok, Err, Option, Some}
+use Rattle.std.specs.Prelude.{◌≡◌, ◌≢◌, ◌==◌, ltb, ℕ, suc, ◌+◌, ◌-◌, ◌*◌, ◌<◌, ◌≤◌, pos, Bool, true, false, List, [], ◌∷◌, ◌++◌, length, filter, sum_by, Contains, if◌then◌else◌, Result, Ok, Err, Option, Some, ◌⊎◌}
 use mathlib.Core.Option.{some, none}
 use mathlib.Core.Option as maybe
 use lib.ListN.{get_elem?}
 use Rattle.atomic_table.specs.Table.{State, Me, Step, rest}
+use Rattle.object_ids.specs.declared.ids.ObjId.{ObjId}
 use Rattle.history.specs.declared.asks.SpaceConfig.{SpaceConfig}
 use Rattle.history.specs.declared.asks.Event.{Event}
 use Rattle.history.specs.declared.asks.Ask.{Ask}
-use Rattle.history.specs.declared.asks.Ask.TheVariants.{Tick}
+use Rattle.history.specs.declared.asks.Ask.TheVariants.{Abandon, Tick}
 use Rattle.history.specs.declared.replies.Refused.{Refused}
 use Rattle.history.specs.declared.replies.Refused.TheVariants.{OutOfMemory}
 use Rattle.history.specs.declared.replies.Turn.{Turn}
 use Rattle.history.specs.Steps as history
 use Rattle.history.specs.Running.{running_calls_by}
-use Rattle.history.specs.Table.{with_event, places}
+use Rattle.history.specs.Table.{with_event, places, table}
 use Rattle.space.specs.Acts.{event_of}
 use Rattle.ports.specs.Balance.{AreOfOthers}
-use Rattle.space.specs.Built.{SpaceHistory}
+use Rattle.space.specs.Built.{SpaceHistory, space_of}
 use Rattle.space.specs.TurnAnswers.{IsAnswerTo}
 use Rattle.space.specs.declared.asked.Asked.{Asked}
 use Rattle.turn_lock.specs.declared.view.View.{View}
@@ -30,7 +31,7 @@ most_turns = 2147483648
 
 -- How many passes a lock makes at most.
 abbrev pub most_passes : ℕ
-most_passes = 2147483648
+most_passes = 4294967295
 
 -- ---- histories
 
@@ -49,7 +50,7 @@ abbrev pub longer : Events → Events → Events
 longer xs ys = if ltb (length xs) (length ys) then ys else xs
 
 abbrev pub space_with : SpaceConfig → Events → SpaceHistory
-space_with config h = record { configuration = config; events = h }
+space_with config h = space_of config h
 
 -- ---- what seats know
 
@@ -61,7 +62,7 @@ some_event = record { by = 0; moment = 0; ask = Tick }
 
 -- The first seat of a table round this space, which has all parts.
 abbrev pub root : SpaceHistory → View
-root s = record { number = 0; parts = 2147483649; drawn = 0; config = s.configuration; opening = s.events; seen = s.events; heard = []; own = []; state = Idle; made = 0; ended = [] }
+root s = record { number = 0; parts = 4294967296; drawn = 0; config = s.configuration; opening = s.events; seen = s.events; heard = []; own = []; state = Idle; made = 0; ended = [] }
 
 -- A seat that was joined.
 abbrev pub spent_seat : View
@@ -141,7 +142,7 @@ pub record KeepsRule (s : SpaceHistory) (t : State (Option SpaceHistory) View) :
   pub each : (j : ℕ) (v : View) → get_elem? t.views j ≡ some v → SeatFits s tail ticket serving out owner j v
   pub strangers : (n : ℕ) → length t.views ≤ n → events_by n tail ≡ []
   pub drawn : sum_by (λ v. v.drawn) t.views ≡ ticket
-  pub parts : sum_by (λ v. v.parts) t.views ≡ 2147483649
+  pub parts : sum_by (λ v. v.parts) t.views ≡ 4294967296
   pub counted : (v : View) → get_elem? t.views 0 ≡ some v → length t.views ≡ suc v.made
   pub ended : (v : View) → get_elem? t.views 0 ≡ some v → (p : ℕ × Events) → Contains v.ended p → HasEnded tail t.views p
   pub spent_ones : (v : View) → get_elem? t.views 0 ≡ some v → (j : ℕ) (u : View) → get_elem? t.views j ≡ some u → u.parts ≡ 0 → (l : Events) × Contains v.ended (j, l)
@@ -180,7 +181,7 @@ AdvancesServing st m n m' = m' ≡ (in_state m.0 Idle, rest m.1)
 abbrev pub AbsorbsSeen : At → Sat → ℕ → Sat → Type 0
 AbsorbsSeen st m n m' =
     (m' ≡ (record m.0 { seen = longer m.0.seen m.0.heard }, m.1)) × StartsWith m'.0.seen m.0.seen × StartsWith m'.0.seen m.0.heard
-    × HasOwn m'.0.opening m'.0.number m'.0.own m'.0.seen × (m.0.parts ≤ 2147483649)
+    × HasOwn m'.0.opening m'.0.number m'.0.own m'.0.seen × (m.0.parts ≤ 4294967296)
 
 abbrev pub left_of : View → View
 left_of v = record v { parts = v.parts - 1; made = v.made + 1 }
@@ -232,6 +233,16 @@ pub record TurnedAt (v : View) (before : Events) (e : Event) (answer : Result Tu
 abbrev pub TurnedBy : View → ℕ → ℕ → Ask → Result Turn Refused → View → Type 0
 TurnedBy v by moment ask answer w = (before : Events) × TurnedAt v before (event_of by moment ask) answer w × IsAnswerTo (λ o. 0 < running_calls_by (places v.config before) by o) ask answer
 
+-- The same, but where there was no memory for its entry: then the pass made no turn, and knows what it knew.
+abbrev pub TurnedWithEntry : View → ℕ → ℕ → Ask → Result Turn Refused → View → Type 0
+TurnedWithEntry v by moment ask answer w = TurnedBy v by moment ask answer w ⊎ ((answer ≡ Err OutOfMemory) × (w ≡ v))
+
+-- A pass ended a call of an object that connection `by` ran, without an answer, by an event at this place of the history, and knows this now.
+abbrev pub EndedBy : View → ℕ → ℕ → ObjId → ℕ → View → Type 0
+EndedBy v by moment object place w =
+    (before : Events) × TurnedAt v before (event_of by moment (Abandon object)) (Ok (history.turn_of v.config before (event_of by moment (Abandon object)))) w
+    × (place ≡ length before) × (0 < running_calls_by (places v.config before) by object)
+
 -- What a pass of a lock round this space has seen is a legal history that goes on from the space's, and of its further events those of the
 -- pass's number are exactly its own, in order.
 pub record InOrder (s : SpaceHistory) (v : View) : Type 0 where
@@ -241,10 +252,11 @@ pub record InOrder (s : SpaceHistory) (v : View) : Type 0 where
   pub own : events_by v.number tail ≡ v.own
 
 -- All passes have ended: a history is legal, begins with the opening one and with what the root has seen, and its further events are the
--- root's own, those of the passes that were joined, each pass's in its order, and no others.
+-- root's own, those of the passes that were joined, each pass's in its order, and no others. The rows are those of its table.
 pub record Settled (s : SpaceHistory) (v : View) (h : SpaceHistory) : Type 0 where
   pub same : h.configuration ≡ s.configuration
   pub legal : history.IsLegal s.configuration h.events
+  pub shown : h.rows ≡ table h.configuration (places h.configuration h.events)
   pub tail : Events
   pub begins : h.events ≡ s.events ++ tail
   pub seen : StartsWith h.events v.seen

@@ -29,6 +29,6 @@ pub struct Root {
 /// Why no pass was made.
 #[derive(Clone, Copy, Debug, PartialEq, Eq)]
 pub enum SplitFault {
-    /// 2^31 passes were made.
+    /// 2^32 - 1 passes were made.
     TooManyPasses,
 }

@@ -13,4 +13,4 @@ mod view;
 mod waiting;
 
 pub use handles::{Pass, Root, SplitFault, TurnLock};
-pub use port::{PassPort, SeatPort};
+pub use port::{PassPort, SeatPort, ToldSeatPort};

@@ -1,30 +1,28 @@
 //! What callers do with a lock.
-ghost use Rattle.std.specs.Prelude.{◌≡◌, ◌≢◌, ◌+◌, ◌<◌, length, MatchResult, Ok, Err, IfOk};
-ghost use Rattle.history.specs.declared.asks.Ask.TheVariants.{Abandon};
+ghost use Rattle.std.specs.Prelude.{◌≡◌, ◌≢◌, ◌+◌, ◌<◌, MatchResult, Err, IfOk};
 ghost use Rattle.history.specs.Running.{running_calls_by};
-ghost use Rattle.history.specs.Steps.{turn_of};
 ghost use Rattle.history.specs.Table.{places};
 ghost use Rattle.history.specs.declared.limits.TheConstants.{END_OF_TIME};
-ghost use Rattle.space.specs.Acts.{event_of};
 ghost use Rattle.space.specs.Entries.{entry_of};
-ghost use Rattle.turn_lock.specs.Rule.{Events, InOrder, TurnedAt, TurnedBy, Settled, StartsWith, left_of, most_passes, most_turns, right_of, joined_of};
+ghost use Rattle.turn_lock.specs.Rule.{EndedBy, InOrder, TurnedBy, Settled, StartsWith, left_of, most_passes, most_turns, right_of, joined_of};
 ghost use Rattle.turn_lock.specs.Handles.{IsPassOf, IsBranchOf, IsFresh, IsRootOf, opening_of, view_of};
 
 use crate::handles::{Pass, Root, SplitFault, TurnLock};
 use crate::steps;
 use crate::table::{Absorb, Parts, TICKET};
 use atomic_table::{Refused as NoRoom, Table};
-use history::{Ask, Refused, Turn};
+use history::{Ask, Event, Refused, Turn};
 use object_ids::ObjId;
 use space::{Asked, Space};
 use std::alloc::{AllocError, AllocFailed, Global};
 use std::snapshot::Snapshot;
 use std::sync::Wait;
 
-/// How many passes a lock makes at most.
-const MAX_PASSES: u32 = 1 << 31;
+/// How many passes a lock makes at most, as many as numbers of connections go: at 1,000 connections a second they last for 49 days.
+const MAX_PASSES: u32 = u32::MAX;
 
-/// How many turns a pass makes at most.
+/// How many turns a pass makes at most: at 100,000 turns a second they last for 5 hours and 57 minutes. With all passes that makes 2^63 turns
+/// of a lock, which a ticket counts without coming round.
 const MAX_TURNS: u32 = 1 << 31;
 
 impl TurnLock {
@@ -84,7 +82,7 @@ impl TurnLock {
 }
 
 impl Root {
-    /// A pass with the next number, from 1 on, which has seen what the root has seen. TooManyPasses comes exactly where 2^31 passes were
+    /// A pass with the next number, from 1 on, which has seen what the root has seen. TooManyPasses comes exactly where 2^32 - 1 passes were
     /// made. It takes no memory.
     pub fn split(&mut self, lock: &TurnLock) -> Result<Pass, SplitFault>
         requires own { IsRootOf lock.now self.old }
@@ -142,8 +140,33 @@ impl Root {
 }
 
 impl Pass {
-    /// One turn, with its entry. It waits for its ticket.
+    /// One turn. It waits for its ticket.
     pub(crate) fn turn<R: Wait>(
+        &mut self,
+        rt: &R,
+        lock: &TurnLock,
+        moment: u64,
+        ask: Ask,
+    ) -> Result<Turn, Refused>
+        requires own { IsPassOf lock.now self.old }
+        requires room { 0 < self.old.room }
+        requires moment { moment < END_OF_TIME }
+        ensures pass { IsPassOf lock.now self.new × (self.new.room + 1 ≡ self.old.room) × (self.new.seat.id ≡ self.old.seat.id) × (self.new.number ≡ self.old.number) }
+        ensures turned { TurnedBy (view_of self.old) self.old.number moment ask result (view_of self.new) }
+        ensures ordered { InOrder (opening_of lock.now) (view_of self.new) }
+    {
+        let event = Event {
+            by: self.number,
+            moment,
+            ask,
+        };
+        let answer = steps::turn(rt, &lock.board.shared, &mut self.seat, event);
+        self.room -= 1;
+        answer
+    }
+
+    /// One turn, with its entry. It waits for its ticket.
+    pub(crate) fn turn_noted<R: Wait>(
         &mut self,
         rt: &R,
         lock: &TurnLock,
@@ -160,14 +183,12 @@ impl Pass {
         ensures known { IfOk result (λ x. x.0 ≢ Err Refused.OutOfMemory) }
         ensures ordered { InOrder (opening_of lock.now) (view_of self.new) }
     {
-        let noted = steps::turn(
-            rt,
-            &lock.board.shared,
-            &mut self.seat,
-            self.number,
+        let event = Event {
+            by: self.number,
             moment,
             ask,
-        );
+        };
+        let noted = steps::turn_noted(rt, &lock.board.shared, &mut self.seat, event);
         self.room -= 1;
         noted
     }
@@ -185,8 +206,7 @@ impl Pass {
         requires moment { moment < END_OF_TIME }
         requires runs { 0 < running_calls_by (places (view_of self.old).config (view_of self.old).seen) self.old.number object }
         ensures pass { IsPassOf lock.now self.new × (self.new.room + 1 ≡ self.old.room) × (self.new.seat.id ≡ self.old.seat.id) × (self.new.number ≡ self.old.number) }
-        ensures turned { (before : Events) × TurnedAt (view_of self.old) before (event_of self.old.number moment (Abandon object)) (Ok (turn_of (view_of self.old).config before (event_of self.old.number moment (Abandon object)))) (view_of self.new)
-            × (result ≡ length before) × (0 < running_calls_by (places (view_of self.old).config before) self.old.number object) }
+        ensures turned { EndedBy (view_of self.old) self.old.number moment object result (view_of self.new) }
         ensures ordered { InOrder (opening_of lock.now) (view_of self.new) }
     {
         let place = steps::abandon(

@@ -8,7 +8,7 @@ ghost use Rattle.turn_lock.specs.Handles.{IsPassOf, IsRootOf, opening_of, seen_s
 ghost use Rattle.turn_lock.specs.Lending.{LendsPass};
 ghost use Rattle.turn_lock.specs.Orders.{TurnCollects};
 ghost use Rattle.turn_lock.specs.PassPorts.{PassWent};
-ghost use Rattle.turn_lock.specs.Rule.{InOrder};
+ghost use Rattle.turn_lock.specs.Rule.{InOrder, TurnedWithEntry};
 
 use crate::handles::{Pass, Root, TurnLock};
 use crate::port::{PassPort, SeatPort};
@@ -59,6 +59,9 @@ impl Root {
         ensures went { PassWent self.old.pass self.new.pass result.1 }
         ensures asked { result.1 ≡ entries_of moment ask result.0 }
         ensures room { self.old.pass.room ≤ self.new.pass.room + 1 }
+
+        // The turn is at its place in the one history, which the root has then seen.
+        ensures turned { TurnedWithEntry (view_of self.old.pass) self.old.pass.number moment ask result.0 (view_of self.new.pass) }
         ensures ordered { InOrder (opening_of lock.now) (view_of self.new.pass) }
 
         // The history's table keeps what there is a reason to keep at the turn's place, and the rest is withdrawn.
@@ -85,6 +88,7 @@ fn turn_of_pass<R: Wait>(
     ensures went { PassWent pass.old pass.new result.1 }
     ensures asked { result.1 ≡ entries_of moment ask result.0 }
     ensures room { pass.old.room ≤ pass.new.room + 1 }
+    ensures turned { TurnedWithEntry (view_of pass.old) pass.old.number moment ask result.0 (view_of pass.new) }
     ensures collector { IfOk result.0 (λ _. TurnCollects (view_of pass.old) moment ask (view_of pass.new)) }
 {
     let mut port = SeatPort::new(rt, alloc, lock, pass);

@@ -1,26 +1,23 @@
 //! The steps of one seat.
-ghost use Rattle.std.specs.Prelude.{◌≡◌, ◌≢◌, ℕ, ◌+◌, ◌*◌, ◌<◌, ◌∷◌, ◌++◌, [], Ok, Err, None, length, IfOk};
-ghost use Rattle.history.specs.declared.asks.Ask.TheVariants.{Abandon};
-ghost use Rattle.history.specs.declared.asks.Event.{Event};
+ghost use Rattle.std.specs.Prelude.{◌≡◌, ◌≢◌, ℕ, ◌+◌, ◌*◌, ◌<◌, ◌∷◌, ◌++◌, [], Err, None, IfOk};
 ghost use Rattle.history.specs.Running.{running_calls_by};
-ghost use Rattle.history.specs.Steps.{turn_of};
 ghost use Rattle.history.specs.Table.{places};
 ghost use Rattle.history.specs.declared.limits.TheConstants.{END_OF_TIME};
-ghost use Rattle.space.specs.Acts.{event_of};
 ghost use Rattle.space.specs.Entries.{entry_of};
 ghost use Rattle.space.specs.TurnAnswers.{IsAnswerTo};
 ghost use Rattle.turn_lock.specs.declared.view.SeatState.TheVariants.{Idle, Drawn, Called};
-ghost use Rattle.turn_lock.specs.Rule.{Events, MayComeTo, TurnedAt, answer_of, events_after, holding, in_hand, in_state, most_turns, space_with, seat_after_answer};
+ghost use Rattle.turn_lock.specs.Rule.{EndedBy, Events, MayComeTo, TurnedAt, TurnedBy, answer_of, events_after, holding, in_hand, in_state, most_turns, space_with, seat_after_answer};
 
 use crate::table::{
     Advance, Draw, LENGTH, LockSeat, Look, Naming, PassOver, Publish, SERVING, SharedTable, TICKET,
 };
 use crate::waiting::{approach, pause, wake};
-use history::{Ask, Refused, Turn};
+use history::{Ask, Event, Refused, Turn};
 use object_ids::ObjId;
 use space::{Asked, Space};
 use std::alloc::AllocError;
 use std::marker::Brand;
+use std::snapshot::Snapshot;
 use std::sync::Wait;
 
 /// Draws a ticket.
@@ -69,17 +66,15 @@ fn enter<R: Wait>(rt: &R, shared: &SharedTable, seat: &mut LockSeat) -> Space
 fn publish<N: Naming>(
     shared: &SharedTable,
     seat: &mut LockSeat,
-    by: u32,
-    moment: u64,
-    ask: &Ask,
+    event: &Snapshot<Event>,
     space: &Space,
 )
     requires table { (seat.old.table_id ≡ shared.now.table_id) × (shared.now.table_id.words ≡ 3) × (shared.now.table_id.slots ≡ 1) }
-    requires named { event_of by moment ask.now ≡ N.event }
-    requires called { (t : ℕ) × (h : Events) × (seat.old.me.0.state ≡ Called t h) × (0 < seat.old.me.0.parts) × (by ≡ seat.old.me.0.number) × (space.now ≡ space_with seat.old.me.0.config (h ++ event_of by moment ask.now ∷ [])) }
+    requires named { event.now.value ≡ N.event }
+    requires called { (t : ℕ) × (h : Events) × (seat.old.me.0.state ≡ Called t h) × (0 < seat.old.me.0.parts) × (event.now.value.by ≡ seat.old.me.0.number) × (space.now ≡ space_with seat.old.me.0.config (h ++ event.now.value ∷ [])) }
     ensures seat { (seat.new.table_id ≡ seat.old.table_id) × (seat.new.id ≡ seat.old.id) }
     ensures view { (t : ℕ) (h : Events) → seat.old.me.0.state ≡ Called t h → seat.new.me ≡
-        (record seat.old.me.0 { seen = h ++ event_of by moment ask.now ∷ []; own = seat.old.me.0.own ++ event_of by moment ask.now ∷ []; state = Called t (h ++ event_of by moment ask.now ∷ []) }, seat.old.me.1) }
+        (record seat.old.me.0 { seen = h ++ event.now.value ∷ []; own = seat.old.me.0.own ++ event.now.value ∷ []; state = Called t (h ++ event.now.value ∷ []) }, seat.old.me.1) }
 {
     shared.store::<Publish<N>>(seat, LENGTH, space.len());
 }
@@ -98,39 +93,38 @@ fn pass_over(shared: &SharedTable, seat: &mut LockSeat, space: &Space)
 fn publish_answer(
     shared: &SharedTable,
     seat: &mut LockSeat,
-    by: u32,
+    event: &Snapshot<Event>,
     space: &Space,
     answer: &Result<Turn, Refused>,
-    entry: &Asked,
 )
     requires table { (seat.old.table_id ≡ shared.now.table_id) × (shared.now.table_id.words ≡ 3) × (shared.now.table_id.slots ≡ 1) }
-    requires called { (t : ℕ) × (h : Events) × (seat.old.me.0.state ≡ Called t h) × (0 < seat.old.me.0.parts) × (by ≡ seat.old.me.0.number) × (space.now ≡ space_with seat.old.me.0.config (events_after h (event_of by entry.now.moment entry.now.ask) answer.now)) }
+    requires called { (t : ℕ) × (h : Events) × (seat.old.me.0.state ≡ Called t h) × (0 < seat.old.me.0.parts) × (event.now.value.by ≡ seat.old.me.0.number)
+        × (space.now ≡ space_with seat.old.me.0.config (events_after h event.now.value answer.now)) }
     ensures seat { (seat.new.table_id ≡ seat.old.table_id) × (seat.new.id ≡ seat.old.id) }
-    ensures view { (t : ℕ) (h : Events) → seat.old.me.0.state ≡ Called t h → seat.new.me ≡ (seat_after_answer seat.old.me.0 t h (event_of by entry.now.moment entry.now.ask) answer.now, seat.old.me.1) }
+    ensures view { (t : ℕ) (h : Events) → seat.old.me.0.state ≡ Called t h → seat.new.me ≡ (seat_after_answer seat.old.me.0 t h event.now.value answer.now, seat.old.me.1) }
 {
     match answer {
-        Ok(_turn) => publish::<Brand>(shared, seat, by, entry.moment, &entry.ask, space),
+        Ok(_turn) => publish::<Brand>(shared, seat, event, space),
         Err(_refused) => pass_over(shared, seat, space),
     }
 }
 
-/// Publishes what a turn with its entry says of the event that connection `by` asked at a moment.
+/// Publishes what a turn with its entry says of its event.
 fn publish_noted(
     shared: &SharedTable,
     seat: &mut LockSeat,
-    by: u32,
+    event: &Snapshot<Event>,
     space: &Space,
     noted: &Result<(Result<Turn, Refused>, Asked), AllocError>,
 )
     requires table { (seat.old.table_id ≡ shared.now.table_id) × (shared.now.table_id.words ≡ 3) × (shared.now.table_id.slots ≡ 1) }
-    requires called { (t : ℕ) × (h : Events) × (e : Event) × (seat.old.me.0.state ≡ Called t h) × (0 < seat.old.me.0.parts) × (by ≡ seat.old.me.0.number)
-        × IfOk noted.now (λ x. event_of by x.1.moment x.1.ask ≡ e) × (space.now ≡ space_with seat.old.me.0.config (events_after h e (answer_of noted.now))) }
+    requires called { (t : ℕ) × (h : Events) × (seat.old.me.0.state ≡ Called t h) × (0 < seat.old.me.0.parts) × (event.now.value.by ≡ seat.old.me.0.number)
+        × (space.now ≡ space_with seat.old.me.0.config (events_after h event.now.value (answer_of noted.now))) }
     ensures seat { (seat.new.table_id ≡ seat.old.table_id) × (seat.new.id ≡ seat.old.id) }
-    ensures view { (t : ℕ) (h : Events) (e : Event) → seat.old.me.0.state ≡ Called t h → IfOk noted.now (λ x. event_of by x.1.moment x.1.ask ≡ e) →
-        seat.new.me ≡ (seat_after_answer seat.old.me.0 t h e (answer_of noted.now), seat.old.me.1) }
+    ensures view { (t : ℕ) (h : Events) → seat.old.me.0.state ≡ Called t h → seat.new.me ≡ (seat_after_answer seat.old.me.0 t h event.now.value (answer_of noted.now), seat.old.me.1) }
 {
     match noted {
-        Ok((answer, entry)) => publish_answer(shared, seat, by, space, answer, entry),
+        Ok((answer, _entry)) => publish_answer(shared, seat, event, space, answer),
         Err(_refused) => pass_over(shared, seat, space),
     }
 }
@@ -147,28 +141,51 @@ fn leave(shared: &SharedTable, seat: &mut LockSeat, space: Space)
     wake(shared, served.wrapping_add(1));
 }
 
-/// One turn of the pass with this number, with its entry.
+/// One turn of the pass whose number the event has.
 pub(crate) fn turn<R: Wait>(
     rt: &R,
     shared: &SharedTable,
     seat: &mut LockSeat,
-    by: u32,
-    moment: u64,
-    ask: Ask,
+    event: Event,
+) -> Result<Turn, Refused>
+    requires table { (seat.old.table_id ≡ shared.now.table_id) × (shared.now.table_id.words ≡ 3) × (shared.now.table_id.slots ≡ 1) }
+    requires idle { (seat.old.me.0.state ≡ Idle) × (seat.old.me.1 ≡ []) × (seat.old.me.0.drawn < most_turns * seat.old.me.0.parts) }
+    requires number { event.by ≡ seat.old.me.0.number }
+    requires moment { event.moment < END_OF_TIME }
+    ensures seat { (seat.new.table_id ≡ seat.old.table_id) × (seat.new.id ≡ seat.old.id) × (seat.new.me.1 ≡ []) }
+    ensures turned { TurnedBy seat.old.me.0 event.by event.moment event.ask result seat.new.me.0 }
+{
+    let mut space = enter(rt, shared, seat);
+    let taken = Snapshot::of(&event);
+    let Event { by, moment, ask } = event;
+    let answer = space.turn(by, moment, ask);
+    publish_answer(shared, seat, &taken, &space, &answer);
+    leave(shared, seat, space);
+    answer
+}
+
+/// The same with its entry. Where there is no memory for the entry, the event is refused.
+pub(crate) fn turn_noted<R: Wait>(
+    rt: &R,
+    shared: &SharedTable,
+    seat: &mut LockSeat,
+    event: Event,
 ) -> Result<(Result<Turn, Refused>, Asked), AllocError>
     requires table { (seat.old.table_id ≡ shared.now.table_id) × (shared.now.table_id.words ≡ 3) × (shared.now.table_id.slots ≡ 1) }
     requires idle { (seat.old.me.0.state ≡ Idle) × (seat.old.me.1 ≡ []) × (seat.old.me.0.drawn < most_turns * seat.old.me.0.parts) }
-    requires number { by ≡ seat.old.me.0.number }
-    requires moment { moment < END_OF_TIME }
+    requires number { event.by ≡ seat.old.me.0.number }
+    requires moment { event.moment < END_OF_TIME }
     ensures seat { (seat.new.table_id ≡ seat.old.table_id) × (seat.new.id ≡ seat.old.id) × (seat.new.me.1 ≡ []) }
-    ensures turned { (before : Events) × TurnedAt seat.old.me.0 before (event_of by moment ask) (answer_of result) seat.new.me.0
-        × IfOk result (λ x. IsAnswerTo (λ o. 0 < running_calls_by (places seat.old.me.0.config before) by o) ask x.0) }
-    ensures noted { IfOk result (λ x. x.1 ≡ entry_of moment ask x.0) }
+    ensures turned { (before : Events) × TurnedAt seat.old.me.0 before event (answer_of result) seat.new.me.0
+        × IfOk result (λ x. IsAnswerTo (λ o. 0 < running_calls_by (places seat.old.me.0.config before) event.by o) event.ask x.0) }
+    ensures noted { IfOk result (λ x. x.1 ≡ entry_of event.moment event.ask x.0) }
     ensures known { IfOk result (λ x. x.0 ≢ Err Refused.OutOfMemory) }
 {
     let mut space = enter(rt, shared, seat);
+    let taken = Snapshot::of(&event);
+    let Event { by, moment, ask } = event;
     let noted = space.turn_noted(by, moment, ask);
-    publish_noted(shared, seat, by, &space, &noted);
+    publish_noted(shared, seat, &taken, &space, &noted);
     leave(shared, seat, space);
     noted
 }
@@ -188,14 +205,17 @@ pub(crate) fn abandon<R: Wait>(
     requires moment { moment < END_OF_TIME }
     requires runs { 0 < running_calls_by (places seat.old.me.0.config seat.old.me.0.seen) by object }
     ensures seat { (seat.new.table_id ≡ seat.old.table_id) × (seat.new.id ≡ seat.old.id) × (seat.new.me.1 ≡ []) }
-    ensures turned { (before : Events) × TurnedAt seat.old.me.0 before (event_of by moment (Abandon object)) (Ok (turn_of seat.old.me.0.config before (event_of by moment (Abandon object)))) seat.new.me.0
-        × (result ≡ length before) × (0 < running_calls_by (places seat.old.me.0.config before) by object) }
+    ensures turned { EndedBy seat.old.me.0 by moment object result seat.new.me.0 }
 {
     let mut space = enter(rt, shared, seat);
     let place = space.len();
     space.abandon(by, moment, object);
-    let ask = Ask::Abandon { object };
-    publish::<Brand>(shared, seat, by, moment, &ask, &space);
+    let taken = Snapshot::of(&Event {
+        by,
+        moment,
+        ask: Ask::Abandon { object },
+    });
+    publish::<Brand>(shared, seat, &taken, &space);
     leave(shared, seat, space);
     place
 }

@@ -1,8 +1,10 @@
--- Links that were accepted, and ports that are listened on.
-use Rattle.std.specs.Prelude.{◌≡◌, ◌≤◌, ℕ, ℤ, List, [], ◌∷◌, ◌++◌, map, Option, None, Some, Result, Ok, Err}
-use Rattle.wire_io.specs.Wire.{Rose}
+-- Links that were accepted or dialled, and ports that are listened on.
+use Rattle.std.specs.Prelude.{◌≡◌, ◌≤◌, ℕ, ℤ, Bool, true, List, [], ◌∷◌, ◌++◌, map, Option, None, Some, Result, Ok, Err}
+use Rattle.wire_io.specs.Wire.{ReadHalf, WriteHalf, AreNewHalves, Rose}
 use Rattle.wire_io.specs.declared.link.Link.{Link}
-use Rattle.wire_io.specs.Mem.{SourceState, SinkState, ClockState, moments_given}
+use Rattle.wire_io.specs.declared.listener.Waited.{Waited}
+use Rattle.wire_io.specs.declared.listener.Waited.TheVariants.{Came, Quiet, Told}
+use Rattle.wire_io.specs.Mem.{SourceState, SinkState, ClockState, source_half, sink_half, moments_given}
 
 -- a link as it was accepted: the peer's host and port, what its source had left, what its sink held, and what its clock had
 -- given, where they tell it
@@ -14,12 +16,12 @@ pub record Accepted : Type 0 where
   pub given : Option (List ℕ)
 
 -- what stands at a link, by what its source, its sink and its clock show
-abbrev pub accepted_as : {I O T : Type 0} → (I → Option (List ℕ)) → (O → Option (List ℕ)) → (T → Option (List ℕ)) → Link I O T → Accepted
-accepted_as left held given link = record {
+abbrev pub accepted_as : {I O T : Type 0} → (I → ReadHalf) → (O → WriteHalf) → (T → Option (List ℕ)) → Link I O T → Accepted
+accepted_as read write given link = record {
   host = link.host;
   port = link.port;
-  left = left link.source;
-  held = held link.sink;
+  left = (read link.source).left;
+  held = (write link.sink).held;
   given = given link.clock;
 }
 
@@ -28,32 +30,104 @@ abbrev pub with_next : {A : Type 0} → Option (List A) → A → Option (List A
 with_next None next = None
 with_next (Some told) next = Some (told ++ next ∷ [])
 
--- What a call did that listens on a port. A call that failed leaves what is told.
-abbrev pub Listens : {T E : Type 0} → Option (List ℕ) → Option (List ℕ) → ℕ → ℕ → ℕ → Result T E → Type 0
-Listens before after faults_before faults_after port (Ok _) = (after ≡ with_next before port) × (faults_before ≤ faults_after)
-Listens before after faults_before faults_after port (Err _) = (after ≡ before) × Rose faults_before faults_after
+-- what a listener shows: the addresses and ports that it was told to listen on and the links that it gave, in their order, where it
+-- tells them, how often it failed, and whether it was told to stop
+pub record Listening : Type 0 where
+  pub ports : Option (List (List ℕ × ℕ))
+  pub accepted : Option (List Accepted)
+  pub faults : ℕ
+  pub told : Bool
+
+-- a listener that tells no content, by how often it failed and whether it was told to stop
+abbrev pub untold_listener : ℕ → Bool → Listening
+untold_listener faults told = record { ports = None; accepted = None; faults = faults; told = told }
+
+-- What a call did that listens on a port of an address. A call that failed leaves what is told.
+abbrev pub Listens : {T E : Type 0} → Listening → Listening → List ℕ → ℕ → Result T E → Type 0
+Listens old new address port (Ok _) = (new.ports ≡ with_next old.ports (address, port)) × (old.faults ≤ new.faults)
+Listens old new address port (Err _) = (new.ports ≡ old.ports) × Rose old.faults new.faults
 
 -- What a call did that accepts a link, which is shown so. A call that failed gave none.
-abbrev pub Accepts : {L E : Type 0} → (L → Accepted) → Option (List Accepted) → Option (List Accepted) → ℕ → ℕ → Result L E → Type 0
-Accepts shown before after faults_before faults_after (Ok link) = (after ≡ with_next before (shown link)) × (faults_before ≤ faults_after)
-Accepts shown before after faults_before faults_after (Err _) = (after ≡ before) × Rose faults_before faults_after
+abbrev pub Accepts : {L E : Type 0} → (L → Accepted) → Listening → Listening → Result L E → Type 0
+Accepts shown old new (Ok link) = (new.accepted ≡ with_next old.accepted (shown link)) × (old.faults ≤ new.faults)
+Accepts shown old new (Err _) = (new.accepted ≡ old.accepted) × Rose old.faults new.faults
+
+-- What a call did that waits for a link, which is shown so. It gave one, or none came, or the listener was told to stop. A call
+-- that failed gave none.
+abbrev pub Waits : {L E : Type 0} → (L → Accepted) → Listening → Listening → Result (Waited L) E → Type 0
+Waits shown old new (Ok (Came link)) =
+    (new.accepted ≡ with_next old.accepted (shown link)) × (old.faults ≤ new.faults) × (new.told ≡ old.told)
+Waits shown old new (Ok Quiet) = (new.accepted ≡ old.accepted) × (old.faults ≤ new.faults) × (new.told ≡ old.told)
+Waits shown old new (Ok Told) = (new.accepted ≡ old.accepted) × (old.faults ≤ new.faults) × (new.told ≡ true)
+Waits shown old new (Err _) = (new.accepted ≡ old.accepted) × Rose old.faults new.faults × (new.told ≡ old.told)
+
+-- what holds of the link that came, if one did
+abbrev pub IfCame : {L : Type 0} → Waited L → (L → Type 0) → Type 0
+IfCame (Came link) Holds = Holds link
+IfCame Quiet Holds = Unit {0}
+IfCame Told Holds = Unit {0}
+
+-- a link as it was dialled: the host and port asked for, and what stood at it
+pub record Dialed : Type 0 where
+  pub asked_host : List ℕ
+  pub asked_port : ℕ
+  pub link : Accepted
+
+-- what a dialer shows: the links that it gave, in their order, where it tells them, and how often it failed
+pub record Dialing : Type 0 where
+  pub dialed : Option (List Dialed)
+  pub faults : ℕ
+
+-- a dialer that tells no content, by how often it failed
+abbrev pub untold_dialer : ℕ → Dialing
+untold_dialer faults = record { dialed = None; faults = faults }
+
+-- What a call did that dials a port of a host, and shows a link so. A call that failed gave none.
+abbrev pub Dials : {L E : Type 0} → (L → Accepted) → Dialing → Dialing → List ℕ → ℕ → Result L E → Type 0
+Dials shown old new host port (Ok link) =
+    (new.dialed ≡ with_next old.dialed (record { asked_host = host; asked_port = port; link = shown link })) × (old.faults ≤ new.faults)
+Dials shown old new host port (Err _) = (new.dialed ≡ old.dialed) × Rose old.faults new.faults
 
 -- what stands at a link in memory
 abbrev pub accepted_in_memory : Link SourceState SinkState ClockState → Accepted
-accepted_in_memory link = accepted_as (λ s. Some s.left) (λ s. Some s.held) moments_given link
+accepted_in_memory link = accepted_as source_half sink_half moments_given link
 
--- Neither half of the link failed yet.
+-- Neither half of the link failed or was shut yet.
 abbrev pub IsNew : Link SourceState SinkState ClockState → Type 0
-IsNew link = (link.source.faults ≡ 0) × (link.sink.faults ≡ 0)
+IsNew link = AreNewHalves (source_half link.source) (sink_half link.sink)
 
--- a listener in memory: the links that it has still to give, those that it gave, the ports that it was told to listen on, and how
--- often it failed
+-- a listener in memory: the links that it has still to give, those that it gave, the addresses and ports that it was told to listen
+-- on, how often it failed, the indices of the waits to which no link comes, the index of the wait from which on it is told to stop, if
+-- any, how many waits there were, which is the index of the next one, and whether it was told to stop
 pub record ListenerState : Type 0 where
   pub links : List (Link SourceState SinkState ClockState)
   pub accepted : List (Link SourceState SinkState ClockState)
-  pub ports : List ℕ
+  pub ports : List (List ℕ × ℕ)
+  pub faults : ℕ
+  pub quiet : List ℕ
+  pub stop : Option ℕ
+  pub waits : ℕ
+  pub told : Bool
+
+-- what a listener in memory shows
+abbrev pub listening_in_memory : ListenerState → Listening
+listening_in_memory l = record {
+  ports = Some l.ports;
+  accepted = Some (map accepted_in_memory l.accepted);
+  faults = l.faults;
+  told = l.told;
+}
+
+-- a dialer in memory: the links that it has still to give, those that it gave with what was asked for, and how often it failed
+pub record DialerState : Type 0 where
+  pub links : List (Link SourceState SinkState ClockState)
+  pub dialed : List (Link SourceState SinkState ClockState × List ℕ × ℕ)
   pub faults : ℕ
 
--- the links that a listener in memory gave, as each was then
-abbrev pub links_given : ListenerState → Option (List Accepted)
-links_given l = Some (map accepted_in_memory l.accepted)
+-- a link of a dialer in memory, as it was dialled
+abbrev pub dialed_in_memory : Link SourceState SinkState ClockState × List ℕ × ℕ → Dialed
+dialed_in_memory d = record { asked_host = d.1; asked_port = d.2; link = accepted_in_memory d.0 }
+
+-- what a dialer in memory shows
+abbrev pub dialing_in_memory : DialerState → Dialing
+dialing_in_memory d = record { dialed = Some (map dialed_in_memory d.dialed); faults = d.faults }

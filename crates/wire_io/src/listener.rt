@@ -1,18 +1,32 @@
 //! Where connections come from.
-ghost use Rattle.std.specs.Prelude.{◌≡◌, ℕ, List, [], ◌∷◌, ◌++◌, length, Option, Some, IfOk, OnErr};
+ghost use Rattle.std.specs.Prelude.{◌≡◌, ◌≤◌, ℕ, List, [], ◌∷◌, ◌++◌, length, None, Option, Some, false, IfOk, IsSomeAnd, IfSome, IsTrue, OnOk, OnErr, Ok, Contains, ◌↔◌, ◌<◌};
 ghost use Rattle.std.specs.List.{AllByRecursion};
-ghost use Rattle.wire_io.specs.Links.{Accepted, accepted_as, Listens, Accepts, IsNew, accepted_in_memory, links_given};
+ghost use Rattle.wire_io.specs.Links.{Listening, accepted_as, Listens, Accepts, Waits, IfCame, IsNew, accepted_in_memory, listening_in_memory};
+ghost use Rattle.wire_io.specs.Mem.{source_half, sink_half};
+ghost use Rattle.wire_io.specs.declared.listener.Waited.{Waited};
+ghost use Rattle.wire_io.specs.Wire.{AreNewHalves, next_count};
 
 use crate::clock::Clock;
 use crate::link::Link;
-use crate::mem::{MemClock, MemSink, MemSource};
+use crate::mem::{MemClock, MemSink, MemSource, stands_in};
 use crate::sink::Sink;
 use crate::source::{Failed, Source};
-use sequence::{Sequence, U16List};
-use std::alloc::Global;
+use sequence::{ByteList, Kinds, Sequence};
+use std::alloc::{AllocError, Global};
 use std::marker::Model;
 use std::snapshot::Snapshot;
 use std::vec;
+
+/// What a listener answers that waits for a link for a while.
+#[derive(Drop)]
+pub enum Waited<L> {
+    /// This link came.
+    Came(L),
+    /// No link came.
+    Quiet,
+    /// The listener was told to stop. It is told to from then on.
+    Told,
+}
 
 /// Accepts connections.
 pub trait Listener {
@@ -25,31 +39,39 @@ pub trait Listener {
     /// The clock of an accepted connection.
     type Ticks: Clock + Send + Drop;
 
-    // The ports that it was told to listen on, in their order, where the listener tells them: `Some` of them, or `None`.
-    ghost ports: { Self → Option (List ℕ) };
+    // The addresses and ports that it was told to listen on and the links that it gave, each as it was then, in their order, where the
+    // listener tells them, how often it failed, and whether it was told to stop. The count never falls, and stands still at the
+    // greatest u64.
+    ghost listening: { Self → Listening };
 
-    // The links that it gave, in their order, as each was then, where the listener tells them.
-    ghost accepted: { Self → Option (List Accepted) };
-
-    // How often it failed. The count never falls, and stands still at the greatest u64.
-    ghost faults: { Self → ℕ };
-
-    /// Listens on a port from now on.
+    /// Listens on a port of an address from now on. The address is a name or the numbers of one, as `127.0.0.1`.
     ///
     /// `Failed` comes only where the count of faults rose.
-    fn listen(&mut self, port: u16) -> Result<(), Failed>
-        ensures listens { Listens (ports self.old) (ports self.new) (faults self.old) (faults self.new) port result }
-        ensures accepted { accepted self.new ≡ accepted self.old };
+    fn listen(&mut self, address: &str, port: u16) -> Result<(), Failed>
+        ensures listens { Listens (listening self.old) (listening self.new) address.now port result }
+        ensures accepted { (listening self.new).accepted ≡ (listening self.old).accepted }
+        ensures told { (listening self.new).told ≡ (listening self.old).told };
 
-    /// The next connection. Neither of its halves failed yet.
+    /// The next connection. Neither of its halves failed or was shut yet.
     ///
     /// `Failed` comes only where the count of faults rose.
     fn accept(&mut self) -> Result<Link<Self::In, Self::Out, Self::Ticks>, Failed>
-        ensures accepts { Accepts (accepted_as Self.In.left Self.Out.held Self.Ticks.given) (accepted self.old) (accepted self.new)
-            (faults self.old) (faults self.new) result }
-        ensures source { IfOk result (λ link. Self.In.faults link.source ≡ 0) }
-        ensures sink { IfOk result (λ link. Self.Out.faults link.sink ≡ 0) }
-        ensures ports { ports self.new ≡ ports self.old };
+        ensures accepts { Accepts (accepted_as Self.In.half Self.Out.half Self.Ticks.given)
+            (listening self.old) (listening self.new) result }
+        ensures halves { IfOk result
+            (λ link. AreNewHalves (Self.In.half link.source) (Self.Out.half link.sink)) }
+        ensures ports { (listening self.new).ports ≡ (listening self.old).ports }
+        ensures told { (listening self.new).told ≡ (listening self.old).told };
+
+    /// Waits for the next connection for a second at most. Neither of its halves failed or was shut yet.
+    ///
+    /// `Told` comes where the listener was told to stop. `Failed` comes only where the count of faults rose.
+    fn wait(&mut self) -> Result<Waited<Link<Self::In, Self::Out, Self::Ticks>>, Failed>
+        ensures waits { Waits (accepted_as Self.In.half Self.Out.half Self.Ticks.given)
+            (listening self.old) (listening self.new) result }
+        ensures halves { IfOk result (λ waited. IfCame waited
+            (λ link. AreNewHalves (Self.In.half link.source) (Self.Out.half link.sink))) }
+        ensures ports { (listening self.new).ports ≡ (listening self.old).ports };
 }
 
 /// A link in memory.
@@ -59,27 +81,41 @@ pub type MemLinks = Sequence<MemLink>;
 
 /// A listener that gives the links of a list, one at each call, and then fails.
 ///
-/// It tells the ports that it was told to listen on and the links that it gave. A call that finds no memory to note that fails too.
-/// What it notes of a link is a snapshot, which takes no bytes and is known to contracts alone.
+/// It tells the addresses and ports that it was told to listen on and the links that it gave. A call that finds no memory to note that
+/// fails too. What it notes of a link is a snapshot, which takes no bytes and is known to contracts alone.
+///
+/// Its waits are counted from 0, up to `u64::MAX`, where the count stands still. It is told to stop at the wait whose index is `stop`, and at
+/// those after it. A wait before that whose index stands in `quiet` gives no link, and any other does what `accept` does.
 pub struct MemListener {
+    alloc: Global,
     links: vec::IntoIter<MemLink>,
     accepted: Vec<Snapshot<MemLink>>,
-    ports: U16List,
+    ports: Vec<(ByteList, u16)>,
     faults: u64,
+    quiet: Kinds,
+    stop: Option<u64>,
+    waits: u64,
+    told: bool,
 }
 
 // Written out, so that whoever owns one has one call at each exit, and not the drop of each field.
 impl Drop for MemListener {
     fn drop(self) {
         let MemListener {
+            alloc: _,
             links,
             accepted,
             ports,
             faults: _,
+            quiet,
+            stop: _,
+            waits: _,
+            told: _,
         } = self;
         drop(links);
         drop(accepted);
         drop(ports);
+        drop(quiet);
     }
 }
 
@@ -91,30 +127,65 @@ impl Model for MemListener {
 
     ghost Value = { ListenerState };
 
-    ghost view = { λ l. record { links = into_iter_items l.links; accepted = map (λ s. s.value) l.accepted.items; ports = l.ports; faults = l.faults } };
+    ghost view = { λ l. record {
+      links = into_iter_items l.links;
+      accepted = map (λ s. s.value) l.accepted.items;
+      ports = l.ports.items;
+      faults = l.faults;
+      quiet = l.quiet;
+      stop = l.stop;
+      waits = l.waits;
+      told = l.told;
+    } };
 
     ghost invariant = { λ l. AllByRecursion IsNew (into_iter_items l.links) };
 }
 
 impl MemListener {
-    /// The listener of these links, with no call so far. No half of them failed yet. It takes no memory.
+    /// The listener of these links, with no call so far. No half of them failed or was shut yet. Each wait does what `accept` does, and
+    /// the listener is never told to stop. It takes no memory.
     pub fn new(alloc: Global, links: MemLinks) -> MemListener
         requires { AllByRecursion IsNew links }
         ensures links { result.links ≡ links }
         ensures accepted { result.accepted ≡ [] }
         ensures ports { result.ports ≡ [] }
         ensures faults { result.faults ≡ 0 }
+        ensures quiet { result.quiet ≡ [] }
+        ensures stop { result.stop ≡ None }
+        ensures waits { result.waits ≡ 0 }
+        ensures told { result.told ≡ false }
+    {
+        MemListener::waiting(alloc, links, Kinds::new(alloc), None)
+    }
+
+    /// The listener of these links, with no call so far, whose waits of these indices give no link, and which is told to stop at the
+    /// wait of the index `stop`. No half of the links failed or was shut yet. It takes no memory.
+    pub fn waiting(alloc: Global, links: MemLinks, quiet: Kinds, stop: Option<u64>) -> MemListener
+        requires { AllByRecursion IsNew links }
+        ensures links { result.links ≡ links }
+        ensures accepted { result.accepted ≡ [] }
+        ensures ports { result.ports ≡ [] }
+        ensures faults { result.faults ≡ 0 }
+        ensures quiet { result.quiet ≡ quiet }
+        ensures stop { result.stop ≡ stop }
+        ensures waits { result.waits ≡ 0 }
+        ensures told { result.told ≡ false }
     {
         MemListener {
+            alloc,
             links: links.into_vec().into_iter(),
             accepted: Vec::new(alloc),
-            ports: U16List::new(alloc),
+            ports: Vec::new(alloc),
             faults: 0,
+            quiet,
+            stop,
+            waits: 0,
+            told: false,
         }
     }
 
-    /// The ports that it was told to listen on, in their order.
-    pub fn ports(&self) -> &[u16]
+    /// The addresses and ports that it was told to listen on, in their order.
+    pub fn ports(&self) -> &[(ByteList, u16)]
         ensures { result.now ≡ self.now.ports }
     {
         self.ports.as_slice()
@@ -135,6 +206,33 @@ impl MemListener {
     }
 }
 
+/// Notes an address and a port behind those that were noted. Where there is no memory, these stay as they are.
+fn note_port(
+    alloc: Global,
+    ports: &mut Vec<(ByteList, u16)>,
+    address: &[u8],
+    port: u16,
+) -> Result<(), AllocError>
+    ensures ok { OnOk result (ports.new.items ≡ ports.old.items ++ (address.now, port) ∷ []) }
+    ensures err { OnErr result (ports.new.items ≡ ports.old.items) }
+{
+    ports.reserve(1)?;
+    let mut noted = ByteList::new(alloc);
+    noted.append(address)?;
+    ports.push_reserved((noted, port));
+    Ok(())
+}
+
+/// Whether the wait of this index is told to stop, where `stop` is the first one that is.
+fn is_stopped(stop: Option<u64>, index: u64) -> bool
+    ensures { IsTrue result ↔ IsSomeAnd stop (λ first. first ≤ index) }
+{
+    match stop {
+        Some(first) => first <= index,
+        None => false,
+    }
+}
+
 impl Listener for MemListener {
     type In = MemSource;
 
@@ -142,18 +240,17 @@ impl Listener for MemListener {
 
     type Ticks = MemClock;
 
-    ghost ports = { λ l. Some l.ports };
+    ghost listening = { listening_in_memory };
 
-    ghost accepted = { links_given };
-
-    ghost faults = { λ l. l.faults };
-
-    fn listen(&mut self, port: u16) -> Result<(), Failed>
-        ensures listens { Listens (Some self.old.ports) (Some self.new.ports) self.old.faults self.new.faults port result }
+    fn listen(&mut self, address: &str, port: u16) -> Result<(), Failed>
+        ensures listens { Listens
+            (listening_in_memory self.old) (listening_in_memory self.new) address.now port result }
         ensures accepted { self.new.accepted ≡ self.old.accepted }
+        ensures told { self.new.told ≡ self.old.told }
         ensures links { self.new.links ≡ self.old.links }
+        ensures waits { self.new.waits ≡ self.old.waits }
     {
-        if self.ports.push(port).is_err() {
+        if note_port(self.alloc, &mut self.ports, address.as_bytes(), port).is_err() {
             self.faults = self.faults.saturating_add(1);
             return Err(Failed);
         }
@@ -162,10 +259,14 @@ impl Listener for MemListener {
 
     /// A link comes from the front of the list. It fails where none is left, or where no memory is found.
     fn accept(&mut self) -> Result<MemLink, Failed>
-        ensures accepts { Accepts accepted_in_memory (links_given self.old) (links_given self.new) self.old.faults self.new.faults result }
-        ensures source { IfOk result (λ link. link.source.faults ≡ 0) }
-        ensures sink { IfOk result (λ link. link.sink.faults ≡ 0) }
+        ensures accepts { Accepts accepted_in_memory
+            (listening_in_memory self.old) (listening_in_memory self.new) result }
+        ensures halves { IfOk result
+            (λ link. AreNewHalves (source_half link.source) (sink_half link.sink)) }
         ensures ports { self.new.ports ≡ self.old.ports }
+        ensures told { self.new.told ≡ self.old.told }
+        ensures waits { self.new.waits ≡ self.old.waits }
+        ensures script { (self.new.quiet ≡ self.old.quiet) × (self.new.stop ≡ self.old.stop) }
         ensures next { IfOk result (λ link. self.old.links ≡ link ∷ self.new.links) }
         ensures gave { IfOk result (λ link. self.new.accepted ≡ self.old.accepted ++ link ∷ []) }
         ensures kept { OnErr result (self.new.links ≡ self.old.links) }
@@ -183,6 +284,33 @@ impl Listener for MemListener {
                 self.faults = self.faults.saturating_add(1);
                 Err(Failed)
             }
+        }
+    }
+
+    /// It is told to stop, gives no link or does what `accept` does, by the wait's index.
+    fn wait(&mut self) -> Result<Waited<MemLink>, Failed>
+        ensures waits { Waits accepted_in_memory
+            (listening_in_memory self.old) (listening_in_memory self.new) result }
+        ensures halves { IfOk result (λ waited. IfCame waited
+            (λ link. AreNewHalves (source_half link.source) (sink_half link.sink))) }
+        ensures ports { self.new.ports ≡ self.old.ports }
+        ensures stops { IsSomeAnd self.old.stop (λ first. first ≤ self.old.waits) → result ≡ Ok Waited.Told }
+        ensures quiet { IfSome self.old.stop (λ first. self.old.waits < first)
+            → Contains self.old.quiet self.old.waits → result ≡ Ok Waited.Quiet }
+        ensures count { self.new.waits ≡ next_count self.old.waits }
+    {
+        let index = self.waits;
+        self.waits = index.saturating_add(1);
+        if is_stopped(self.stop, index) {
+            self.told = true;
+            return Ok(Waited::Told);
+        }
+        if stands_in(self.quiet.as_slice(), index) {
+            return Ok(Waited::Quiet);
+        }
+        match self.accept() {
+            Ok(link) => Ok(Waited::Came(link)),
+            Err(failed) => Err(failed),
         }
     }
 }

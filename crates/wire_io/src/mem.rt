@@ -1,7 +1,7 @@
 //! Sources, sinks and clocks in memory, whose calls are known exactly.
-ghost use Rattle.std.specs.Prelude.{◌≡◌, ◌≤◌, ◌↔◌, [], ◌++◌, ◌∷◌, length, take, drop, min, Some, IfOk, OnOk, OnErr, IsErr, IsTrue, Contains, slice_get};
-ghost use Rattle.wire_io.specs.Wire.{Read, Written, Gave};
-ghost use Rattle.wire_io.specs.Mem.{most_given, count_given, after_read, after_failed_read, after_write, after_failed_write, moment_at, moments_given, after_call};
+ghost use Rattle.std.specs.Prelude.{◌≡◌, ◌≤◌, ◌↔◌, [], ◌++◌, ◌∷◌, length, take, drop, min, None, Some, IfOk, OnOk, OnErr, IsErr, IsTrue, Contains, slice_get};
+ghost use Rattle.wire_io.specs.Wire.{Read, Written, ShutsRead, ShutsWrite, Gave};
+ghost use Rattle.wire_io.specs.Mem.{most_given, count_given, source_half, sink_half, after_read, after_failed_read, after_shut_source, after_write, after_failed_write, after_shut_sink, moment_at, moments_given, after_call};
 ghost use Rattle.wire_io.specs.declared.limits.TheConstants.{LAST_MOMENT};
 
 use crate::clock::Clock;
@@ -11,6 +11,7 @@ use crate::source::{Failed, Source};
 use sequence::{ByteList, Kinds, MomentList};
 use std::alloc::Global;
 use std::marker::Model;
+use std::snapshot::Snapshot;
 
 /// A source that gives its bytes in pieces, and fails at chosen reads.
 ///
@@ -24,6 +25,8 @@ pub struct MemSource {
     failing: Kinds,
     reads: u64,
     faults: u64,
+    /// How many bytes were taken when the source was first shut.
+    shut_at: Option<usize>,
 }
 
 // Written out, so that whoever owns one has one call at each exit, and not the drop of each field.
@@ -36,6 +39,7 @@ impl Drop for MemSource {
             failing,
             reads: _,
             faults: _,
+            shut_at: _,
         } = self;
         drop(bytes);
         drop(cuts);
@@ -44,12 +48,19 @@ impl Drop for MemSource {
 }
 
 impl Model for MemSource {
-    ghost use Rattle.std.specs.Prelude.{◌≤◌, drop, length};
+    ghost use Rattle.std.specs.Prelude.{◌≤◌, drop, length, Some, option_map};
     ghost use Rattle.wire_io.specs.Mem.{SourceState};
 
     ghost Value = { SourceState };
 
-    ghost view = { λ s. record { left = drop s.taken s.bytes; cuts = s.cuts; failing = s.failing; reads = s.reads; faults = s.faults } };
+    ghost view = { λ s. record {
+      left = drop s.taken s.bytes;
+      cuts = s.cuts;
+      failing = s.failing;
+      reads = s.reads;
+      faults = s.faults;
+      shut = option_map (λ taken. Some (drop taken s.bytes)) s.shut_at;
+    } };
 
     ghost invariant = { λ s. s.taken ≤ length s.bytes };
 }
@@ -62,6 +73,7 @@ impl MemSource {
         ensures failing { result.failing ≡ failing }
         ensures reads { result.reads ≡ 0 }
         ensures faults { result.faults ≡ 0 }
+        ensures shut { result.shut ≡ None }
     {
         MemSource {
             bytes,
@@ -70,6 +82,7 @@ impl MemSource {
             failing,
             reads: 0,
             faults: 0,
+            shut_at: None,
         }
     }
 
@@ -96,13 +109,11 @@ impl MemSource {
 }
 
 impl Source for MemSource {
-    ghost left = { λ s. Some s.left };
-
-    ghost faults = { λ s. s.faults };
+    ghost half = { source_half };
 
     /// A read fails exactly where its index stands in `failing`.
     fn read(&mut self, buf: &mut [u8]) -> Result<usize, Failed>
-        ensures read { Read (Some self.old.left) (Some self.new.left) self.old.faults self.new.faults buf.new result }
+        ensures read { Read (source_half self.old) (source_half self.new) buf.new result }
         ensures fails { IsErr result ↔ Contains self.old.failing self.old.reads }
         ensures count { IfOk result (λ n. n ≡ count_given self.old (length buf.old)) }
         ensures bytes { IfOk result (λ n. buf.new ≡ take n self.old.left ++ drop n buf.old) }
@@ -123,12 +134,17 @@ impl Source for MemSource {
     }
 
     fn shut(&mut self)
-        ensures { self.new ≡ self.old }
-    {}
+        ensures shut { ShutsRead (source_half self.old) (source_half self.new) }
+        ensures after { self.new ≡ after_shut_source self.old }
+    {
+        if self.shut_at.is_none() {
+            self.shut_at = Some(self.taken);
+        }
+    }
 }
 
 /// Whether this index stands among these.
-fn stands_in(indices: &[u32], index: u64) -> bool
+pub(crate) fn stands_in(indices: &[u32], index: u64) -> bool
     ensures { IsTrue result ↔ Contains indices.now index }
 {
     indices.iter().any(|i| u64::from(*i) == index)
@@ -164,6 +180,8 @@ pub struct MemSink {
     failing: Kinds,
     writes: u64,
     faults: u64,
+    /// The bytes that it held when it was first shut, which takes no bytes and is known to contracts alone.
+    shut: Option<Snapshot<ByteList>>,
 }
 
 // Written out, so that whoever owns one has one call at each exit, and not the drop of each field.
@@ -174,6 +192,7 @@ impl Drop for MemSink {
             failing,
             writes: _,
             faults: _,
+            shut: _,
         } = self;
         drop(bytes);
         drop(failing);
@@ -181,11 +200,18 @@ impl Drop for MemSink {
 }
 
 impl Model for MemSink {
+    ghost use Rattle.std.specs.Prelude.{Some, option_map};
     ghost use Rattle.wire_io.specs.Mem.{SinkState};
 
     ghost Value = { SinkState };
 
-    ghost view = { λ s. record { held = s.bytes; failing = s.failing; writes = s.writes; faults = s.faults } };
+    ghost view = { λ s. record {
+      held = s.bytes;
+      failing = s.failing;
+      writes = s.writes;
+      faults = s.faults;
+      shut = option_map (λ noted. Some noted.value) s.shut;
+    } };
 }
 
 impl MemSink {
@@ -195,12 +221,14 @@ impl MemSink {
         ensures failing { result.failing ≡ failing }
         ensures writes { result.writes ≡ 0 }
         ensures faults { result.faults ≡ 0 }
+        ensures shut { result.shut ≡ None }
     {
         MemSink {
             bytes: ByteList::new(alloc),
             failing,
             writes: 0,
             faults: 0,
+            shut: None,
         }
     }
 
@@ -227,13 +255,11 @@ impl MemSink {
 }
 
 impl Sink for MemSink {
-    ghost held = { λ s. Some s.held };
-
-    ghost faults = { λ s. s.faults };
+    ghost half = { sink_half };
 
     /// A write fails where its index stands in `failing`, and else only for want of memory.
     fn write(&mut self, piece: &[u8]) -> Result<usize, Failed>
-        ensures written { Written (Some self.old.held) (Some self.new.held) self.old.faults self.new.faults piece.now result }
+        ensures written { Written (sink_half self.old) (sink_half self.new) piece.now result }
         ensures fails { Contains self.old.failing self.old.writes → IsErr result }
         ensures count { IfOk result (λ n. n ≡ length piece.now) }
         ensures ok { OnOk result (self.new ≡ after_write self.old piece.now) }
@@ -249,8 +275,13 @@ impl Sink for MemSink {
     }
 
     fn shut(&mut self)
-        ensures { self.new ≡ self.old }
-    {}
+        ensures shut { ShutsWrite (sink_half self.old) (sink_half self.new) }
+        ensures after { self.new ≡ after_shut_sink self.old }
+    {
+        if self.shut.is_none() {
+            self.shut = Some(Snapshot::of(&self.bytes));
+        }
+    }
 }
 
 /// A clock that gives the moments of a list, one at each call, and the last one again past its end. It gives 0 where

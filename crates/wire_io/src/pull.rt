@@ -89,7 +89,7 @@ impl<'s, S: Source> Pull<'s, S> {
     /// `End`, `Limit` and `ReadFault` come as [`PullEnd`] says; it takes no memory.
     #[inline]
     pub fn byte(&mut self) -> Result<u8, PullEnd>
-        ensures gives { GivesByte (pull_state S.left S.faults self.old) (pull_state S.left S.faults self.new) result }
+        ensures gives { GivesByte (pull_state S.half self.old) (pull_state S.half self.new) result }
         ensures lent { self.new.source.ghost_name ≡ self.old.source.ghost_name }
     {
         let mut one = [0u8; 1];
@@ -115,7 +115,8 @@ impl<'s, S: Source> Pull<'s, S> {
     /// of the bytes was taken and is lost, and the position is behind it. At every moment there is room for at most
     /// 4,096 bytes ahead of those that were read.
     pub fn take(&mut self, alloc: Global, n: u32) -> Result<ByteList, PullEnd>
-        ensures gives { GivesBytes (pull_state S.left S.faults self.old) (pull_state S.left S.faults self.new) n result }
+        ensures gives { GivesBytes
+            (pull_state S.half self.old) (pull_state S.half self.new) n result }
         ensures lent { self.new.source.ghost_name ≡ self.old.source.ghost_name }
     {
         let wanted = n as usize;
@@ -138,7 +139,8 @@ impl<'s, S: Source> Pull<'s, S> {
     /// taken and is lost, and the position is behind it.
     #[inline(always)]
     pub fn take_into(&mut self, buf: &mut [u8]) -> Result<(), PullEnd>
-        ensures gives { GivesBytes (pull_state S.left S.faults self.old) (pull_state S.left S.faults self.new) (length buf.old) (with_bytes buf.new result) }
+        ensures gives { GivesBytes (pull_state S.half self.old) (pull_state S.half self.new)
+            (length buf.old) (with_bytes buf.new result) }
         ensures lent { self.new.source.ghost_name ≡ self.old.source.ghost_name }
     {
         let wanted = buf.len();
@@ -157,7 +159,8 @@ impl<'s, S: Source> Pull<'s, S> {
     #[inline(never)]
     fn take_rest(&mut self, buf: &mut [u8], from: usize) -> Result<(), PullEnd>
         requires within { from ≤ length buf.old }
-        ensures gives { TakesRest (pull_state S.left S.faults self.old) (pull_state S.left S.faults self.new) from buf.old buf.new result }
+        ensures gives { TakesRest
+            (pull_state S.half self.old) (pull_state S.half self.new) from buf.old buf.new result }
         ensures lent { self.new.source.ghost_name ≡ self.old.source.ghost_name }
     {
         let mut done = from;
@@ -174,7 +177,8 @@ impl<'s, S: Source> Pull<'s, S> {
     #[inline(always)]
     fn fill_some(&mut self, buf: &mut [u8]) -> Result<usize, PullEnd>
         requires { 0 < length buf.old }
-        ensures gives { GivesFront (pull_state S.left S.faults self.old) (pull_state S.left S.faults self.new) buf.new result }
+        ensures gives { GivesFront
+            (pull_state S.half self.old) (pull_state S.half self.new) buf.new result }
         ensures lent { self.new.source.ghost_name ≡ self.old.source.ghost_name }
     {
         if self.at == self.stop {
@@ -191,8 +195,10 @@ impl<'s, S: Source> Pull<'s, S> {
     /// stand there.
     fn append_some(&mut self, bytes: &mut Vec<u8>, wanted: usize) -> Result<(), PullEnd>
         requires { 0 < wanted }
-        ensures gives { AppendsSome (pull_state S.left S.faults self.old) (pull_state S.left S.faults self.new) wanted bytes.old.items bytes.new.items result }
-        ensures room { vec_capacity bytes.new ≤ max (vec_capacity bytes.old) (vec_len bytes.old + AHEAD) }
+        ensures gives { AppendsSome (pull_state S.half self.old) (pull_state S.half self.new)
+            wanted bytes.old.items bytes.new.items result }
+        ensures room { vec_capacity bytes.new ≤
+            max (vec_capacity bytes.old) (vec_len bytes.old + AHEAD) }
         ensures lent { self.new.source.ghost_name ≡ self.old.source.ghost_name }
     {
         if self.at == self.stop {
@@ -223,7 +229,8 @@ impl<'s, S: Source> Pull<'s, S> {
     fn fill(&mut self, buf: &mut [u8]) -> Result<usize, PullEnd>
         requires some { 0 < length buf.old }
         requires room { self.old.at + length buf.old ≤ self.old.stop }
-        ensures gives { GivesFront (pull_state S.left S.faults self.old) (pull_state S.left S.faults self.new) buf.new result }
+        ensures gives { GivesFront
+            (pull_state S.half self.old) (pull_state S.half self.new) buf.new result }
         ensures lent { self.new.source.ghost_name ≡ self.old.source.ghost_name }
     {
         match self.source.read(buf) {
@@ -243,7 +250,8 @@ impl<'s, S: Source> Pull<'s, S> {
 fn append_zeros(bytes: &mut Vec<u8>, more: usize) -> Result<(), AllocError>
     ensures ok { OnOk result (bytes.new.items ≡ bytes.old.items ++ replicate more 0) }
     ensures err { OnErr result (bytes.new.items ≡ bytes.old.items) }
-    ensures room { vec_capacity bytes.new ≤ max (vec_capacity bytes.old) (vec_len bytes.old + more) }
+    ensures room { vec_capacity bytes.new ≤
+        max (vec_capacity bytes.old) (vec_len bytes.old + more) }
 {
     bytes.reserve_exact(more)?;
     for _i in 0..more {

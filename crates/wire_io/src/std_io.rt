@@ -1,6 +1,7 @@
-//! Sources, sinks and clocks over the real thing. They tell no content, and contracts see each as its count of faults.
-ghost use Rattle.std.specs.Prelude.{◌≡◌, ◌≤◌, ◌⊎◌, ℕ, [], ◌∷◌, None, IfOk, OnOk, OnErr};
-ghost use Rattle.wire_io.specs.Wire.{Read, Written, Gave, next_count};
+//! Sources, sinks and clocks over the real thing. They tell no content. Contracts see each half as its count of faults and whether it was
+//! shut, and the clock as its count of faults.
+ghost use Rattle.std.specs.Prelude.{◌≡◌, ◌≤◌, ◌⊎◌, false, [], ◌∷◌, None, IfOk, OnOk, OnErr};
+ghost use Rattle.wire_io.specs.Wire.{Read, Written, ShutsRead, ShutsWrite, Gave, next_count, first_shut, untold_read, untold_write};
 ghost use Rattle.wire_io.specs.declared.limits.TheConstants.{LAST_MOMENT};
 
 use crate::clock::Clock;
@@ -21,22 +22,26 @@ use std::{io, time};
 pub struct StdSource<R> {
     reader: ReadAhead<R>,
     faults: u64,
+    is_shut: bool,
 }
 
 impl<R> Model for StdSource<R> {
-    ghost Value = { ℕ };
+    ghost use Rattle.wire_io.specs.Wire.{ReadHalf, untold_read};
 
-    ghost view = { λ s. s.faults };
+    ghost Value = { ReadHalf };
+
+    ghost view = { λ s. untold_read s.faults s.is_shut };
 }
 
 impl<R: Read + Drop> StdSource<R> {
     /// The source of this reader's bytes. It takes memory for the buffer, and drops the reader where there is none.
     pub fn new(alloc: Global, reader: R) -> Result<StdSource<R>, AllocError>
-        ensures { IfOk result (λ source. source ≡ 0) }
+        ensures { IfOk result (λ source. source ≡ untold_read 0 false) }
     {
         Ok(StdSource {
             reader: ReadAhead::new(alloc, reader)?,
             faults: 0,
+            is_shut: false,
         })
     }
 }
@@ -44,22 +49,21 @@ impl<R: Read + Drop> StdSource<R> {
 impl<R> StdSource<R> {
     /// How many reads failed.
     pub fn faults(&self) -> u64
-        ensures { result ≡ self.now }
+        ensures { result ≡ self.now.faults }
     {
         self.faults
     }
 }
 
 impl<R: Read> Source for StdSource<R> {
-    ghost left = { λ _. None };
-
-    ghost faults = { λ s. s };
+    ghost half = { λ s. s };
 
     #[inline(always)]
     fn read(&mut self, buf: &mut [u8]) -> Result<usize, Failed>
-        ensures read { Read None None self.old self.new buf.new result }
+        ensures read { Read self.old self.new buf.new result }
         ensures ok { OnOk result (self.new ≡ self.old) }
-        ensures err { OnErr result (self.new ≡ next_count self.old) }
+        ensures err { OnErr result
+            (self.new ≡ record self.old { faults = next_count self.old.faults }) }
     {
         match self.reader.read(buf) {
             Ok(n) => Ok(n),
@@ -71,8 +75,11 @@ impl<R: Read> Source for StdSource<R> {
     }
 
     fn shut(&mut self)
-        ensures { self.new ≡ self.old }
-    {}
+        ensures shut { ShutsRead self.old self.new }
+        ensures after { self.new ≡ record self.old { shut = first_shut self.old.shut None } }
+    {
+        self.is_shut = true;
+    }
 }
 
 /// Bytes to a writer, as standard output or a file.
@@ -83,39 +90,45 @@ impl<R: Read> Source for StdSource<R> {
 pub struct StdSink<W> {
     writer: W,
     faults: u64,
+    is_shut: bool,
 }
 
 impl<W> Model for StdSink<W> {
-    ghost Value = { ℕ };
+    ghost use Rattle.wire_io.specs.Wire.{WriteHalf, untold_write};
 
-    ghost view = { λ s. s.faults };
+    ghost Value = { WriteHalf };
+
+    ghost view = { λ s. untold_write s.faults s.is_shut };
 }
 
 impl<W> StdSink<W> {
     /// The sink to this writer. It takes no memory.
     pub fn new(writer: W) -> StdSink<W>
-        ensures { result ≡ 0 }
+        ensures { result ≡ untold_write 0 false }
     {
-        StdSink { writer, faults: 0 }
+        StdSink {
+            writer,
+            faults: 0,
+            is_shut: false,
+        }
     }
 
     /// How many writes failed.
     pub fn faults(&self) -> u64
-        ensures { result ≡ self.now }
+        ensures { result ≡ self.now.faults }
     {
         self.faults
     }
 }
 
 impl<W: Write> Sink for StdSink<W> {
-    ghost held = { λ _. None };
-
-    ghost faults = { λ s. s };
+    ghost half = { λ s. s };
 
     fn write(&mut self, piece: &[u8]) -> Result<usize, Failed>
-        ensures written { Written None None self.old self.new piece.now result }
+        ensures written { Written self.old self.new piece.now result }
         ensures ok { OnOk result (self.new ≡ self.old) }
-        ensures err { OnErr result (self.new ≡ next_count self.old) }
+        ensures err { OnErr result
+            (self.new ≡ record self.old { faults = next_count self.old.faults }) }
     {
         match self.writer.write(piece) {
             Ok(n) if n > 0 || piece.is_empty() => Ok(n),
@@ -127,8 +140,11 @@ impl<W: Write> Sink for StdSink<W> {
     }
 
     fn shut(&mut self)
-        ensures { self.new ≡ self.old }
-    {}
+        ensures shut { ShutsWrite self.old self.new }
+        ensures after { self.new ≡ record self.old { shut = first_shut self.old.shut None } }
+    {
+        self.is_shut = true;
+    }
 }
 
 /// The time of day, in milliseconds since the year 1970 began, and 2^62 - 1 in place of a later moment.

@@ -1,25 +1,33 @@
-//! Connections over TCP. They tell no content, and contracts see each half, and the listener, as its count of faults.
-ghost use Rattle.std.specs.Prelude.{◌≡◌, ◌≤◌, length, None, IfOk, OnOk, OnErr};
+//! Connections over TCP. They tell no content. Contracts see each half as its count of faults and whether it was shut, a listener as its count
+//! of faults and whether it was told to stop, and a dialer as its count of faults.
+ghost use Rattle.std.specs.Prelude.{◌≡◌, ◌≤◌, length, None, false, is_none, IfOk, IfSome, OnOk, OnErr};
 ghost use Rattle.mod_utf.specs.Utf.{utf};
-ghost use Rattle.wire_io.specs.Links.{accepted_as, Listens, Accepts};
-ghost use Rattle.wire_io.specs.Wire.{Read, Written, next_count};
+ghost use Rattle.wire_io.specs.Links.{accepted_as, Listens, Accepts, Waits, IfCame, Dials, untold_listener, untold_dialer};
+ghost use Rattle.wire_io.specs.Wire.{Read, Written, ShutsRead, ShutsWrite, AreNewHalves, next_count, first_shut, untold_read, untold_write};
 ghost use Rattle.wire_io.specs.declared.limits.TheConstants.{MAX_HOST_BYTES};
 
-use crate::limits::MAX_HOST_BYTES;
+use crate::dialer::Dialer;
+use crate::limits::{
+    DIAL_SECONDS, FIRST_BYTE_SECONDS, MAX_HOST_BYTES, NEXT_BYTE_SECONDS, WAIT_SECONDS,
+    WRITE_SECONDS,
+};
 use crate::link::Link;
-use crate::listener::Listener;
+use crate::listener::{Listener, Waited};
 use crate::read_ahead::ReadAhead;
 use crate::sink::Sink;
 use crate::source::{Failed, Source};
 use crate::std_io::StdClock;
-use mod_utf::utf::{encoded_len, units_of_ascii};
+use mod_utf::utf::{encode, encoded_len, units_of_ascii};
 use sequence::Units;
 use std::alloc::{AllocError, Global};
 use std::io::{Read, Write};
 use std::marker::Model;
-use std::net::{Net, Shutdown, SocketAddr, TcpListener, TcpStream};
+use std::net::{Net, Shutdown, SocketAddr, TcpListener, TcpStream, ToSocketAddrs};
+use std::os::fd::OwnedFd;
 use std::sync::Arc;
-use std::{io, time};
+use std::sync::atomic::{AtomicBool, Ordering};
+use std::time::Duration;
+use std::{io, str, time};
 
 /// The most connections in a row that their peers may abort while they wait. After so many one call of `accept` fails.
 const MAX_ABORTED_CONNECTIONS: u32 = 16;
@@ -40,53 +48,92 @@ impl Handle {
             Handle::Shared(stream) => stream,
         }
     }
+
+    /// Lets a read take so many seconds until bytes come.
+    fn limit_reads(&self, seconds: u64) {
+        let _ = self
+            .stream()
+            .set_read_timeout(Some(Duration::from_secs(seconds)));
+    }
+
+    /// Lets a write take so many seconds until it takes bytes.
+    fn limit_writes(&self, seconds: u64) {
+        let _ = self
+            .stream()
+            .set_write_timeout(Some(Duration::from_secs(seconds)));
+    }
 }
 
-impl Read for Handle {
+/// Reads a socket, each time for a while at most: a shorter one until the first byte, and a longer one from then on.
+#[derive(Drop)]
+struct Reader {
+    handle: Handle,
+    has_first: bool,
+}
+
+impl Reader {
+    /// The reader over this handle, of which no byte was read.
+    fn new(handle: Handle) -> Reader {
+        handle.limit_reads(FIRST_BYTE_SECONDS);
+        Reader {
+            handle,
+            has_first: false,
+        }
+    }
+}
+
+impl Read for Reader {
     fn read(&mut self, buf: &mut [u8]) -> io::Result<usize> {
-        let mut stream = self.stream();
-        stream.read(buf)
+        let mut stream = self.handle.stream();
+        let count = stream.read(buf)?;
+        if count > 0 && !self.has_first {
+            self.has_first = true;
+            self.handle.limit_reads(NEXT_BYTE_SECONDS);
+        }
+        Ok(count)
     }
 }
 
 /// The half of a TCP connection that bytes are read from.
 ///
-/// It reads ahead into a buffer of its own. Each error of the socket is a fault, and so is a read after `shut`.
+/// It reads ahead into a buffer of its own. Each error of the socket is a fault, and so is a read after `shut`. Where the first byte takes
+/// longer than [`FIRST_BYTE_SECONDS`], or a later one longer than [`NEXT_BYTE_SECONDS`], that is a fault too.
 #[derive(Drop)]
 pub struct TcpSource {
-    half: Option<ReadAhead<Handle>>,
+    half: Option<ReadAhead<Reader>>,
     faults: u64,
 }
 
 impl Model for TcpSource {
-    ghost use Rattle.std.specs.Prelude.{ℕ};
+    ghost use Rattle.std.specs.Prelude.{is_none};
+    ghost use Rattle.wire_io.specs.Wire.{ReadHalf, untold_read};
 
-    ghost Value = { ℕ };
+    ghost Value = { ReadHalf };
 
-    ghost view = { λ s. s.faults };
+    ghost view = { λ s. untold_read s.faults (is_none s.half) };
 }
 
 impl TcpSource {
     /// The source of this connection's bytes. It takes memory for the buffer, and drops its handle of the socket where there is none.
     pub fn new(alloc: Global, stream: TcpStream) -> Result<TcpSource, AllocError>
-        ensures { IfOk result (λ source. source ≡ 0) }
+        ensures { IfOk result (λ source. source ≡ untold_read 0 false) }
     {
         TcpSource::over(alloc, Handle::Own(stream))
     }
 
     /// The source over this handle.
     fn over(alloc: Global, handle: Handle) -> Result<TcpSource, AllocError>
-        ensures { IfOk result (λ source. source ≡ 0) }
+        ensures { IfOk result (λ source. source ≡ untold_read 0 false) }
     {
         Ok(TcpSource {
-            half: Some(ReadAhead::new(alloc, handle)?),
+            half: Some(ReadAhead::new(alloc, Reader::new(handle))?),
             faults: 0,
         })
     }
 
     /// How many reads failed.
     pub fn faults(&self) -> u64
-        ensures { result ≡ self.now }
+        ensures { result ≡ self.now.faults }
     {
         self.faults
     }
@@ -94,8 +141,9 @@ impl TcpSource {
 
 /// One read of what is left of the half, if it was not shut.
 #[inline(always)]
-fn read_half(half: &mut Option<ReadAhead<Handle>>, buf: &mut [u8]) -> Result<usize, Failed>
-    ensures { Read None None 0 (next_count 0) buf.new result }
+fn read_half(half: &mut Option<ReadAhead<Reader>>, buf: &mut [u8]) -> Result<usize, Failed>
+    ensures read { Read (untold_read 0 false) (untold_read (next_count 0) false) buf.new result }
+    ensures kept { is_none half.new ≡ is_none half.old }
 {
     match half {
         Some(reader) => reader.read(buf),
@@ -104,15 +152,14 @@ fn read_half(half: &mut Option<ReadAhead<Handle>>, buf: &mut [u8]) -> Result<usi
 }
 
 impl Source for TcpSource {
-    ghost left = { λ _. None };
-
-    ghost faults = { λ s. s };
+    ghost half = { λ s. s };
 
     #[inline(always)]
     fn read(&mut self, buf: &mut [u8]) -> Result<usize, Failed>
-        ensures read { Read None None self.old self.new buf.new result }
+        ensures read { Read self.old self.new buf.new result }
         ensures ok { OnOk result (self.new ≡ self.old) }
-        ensures err { OnErr result (self.new ≡ next_count self.old) }
+        ensures err { OnErr result
+            (self.new ≡ record self.old { faults = next_count self.old.faults }) }
     {
         match read_half(&mut self.half, buf) {
             Ok(n) => Ok(n),
@@ -125,10 +172,11 @@ impl Source for TcpSource {
 
     /// Shuts this direction down and gives its handle of the socket back to the system.
     fn shut(&mut self)
-        ensures { self.new ≡ self.old }
+        ensures shut { ShutsRead self.old self.new }
+        ensures after { self.new ≡ record self.old { shut = first_shut self.old.shut None } }
     {
         if let Some(reader) = self.half.take() {
-            let _ = reader.inner().stream().shutdown(Shutdown::Read);
+            let _ = reader.inner().handle.stream().shutdown(Shutdown::Read);
         }
     }
 }
@@ -136,7 +184,7 @@ impl Source for TcpSource {
 /// The half of a TCP connection that bytes are written to.
 ///
 /// It keeps no bytes back: each write is one of the socket. Each error of the socket is a fault, and so are a write that takes no
-/// byte of a piece that is not empty, and a write after `shut`.
+/// byte of a piece that is not empty, a write after `shut`, and a write that takes longer than [`WRITE_SECONDS`].
 #[derive(Drop)]
 pub struct TcpSink {
     half: Option<Handle>,
@@ -144,26 +192,28 @@ pub struct TcpSink {
 }
 
 impl Model for TcpSink {
-    ghost use Rattle.std.specs.Prelude.{ℕ};
+    ghost use Rattle.std.specs.Prelude.{is_none};
+    ghost use Rattle.wire_io.specs.Wire.{WriteHalf, untold_write};
 
-    ghost Value = { ℕ };
+    ghost Value = { WriteHalf };
 
-    ghost view = { λ s. s.faults };
+    ghost view = { λ s. untold_write s.faults (is_none s.half) };
 }
 
 impl TcpSink {
     /// The sink to this connection, which sends each write at once. It takes no memory.
     pub fn new(stream: TcpStream) -> TcpSink
-        ensures { result ≡ 0 }
+        ensures { result ≡ untold_write 0 false }
     {
         TcpSink::over(Handle::Own(stream))
     }
 
     /// The sink over this handle, which sends each write at once.
     fn over(handle: Handle) -> TcpSink
-        ensures { result ≡ 0 }
+        ensures { result ≡ untold_write 0 false }
     {
         let _ = handle.stream().set_nodelay(true);
+        handle.limit_writes(WRITE_SECONDS);
         TcpSink {
             half: Some(handle),
             faults: 0,
@@ -172,7 +222,7 @@ impl TcpSink {
 
     /// How many writes failed.
     pub fn faults(&self) -> u64
-        ensures { result ≡ self.now }
+        ensures { result ≡ self.now.faults }
     {
         self.faults
     }
@@ -180,7 +230,7 @@ impl TcpSink {
 
 /// One write to the half, if it was not shut.
 fn write_half(half: &Option<Handle>, piece: &[u8]) -> Result<usize, Failed>
-    ensures { Written None None 0 (next_count 0) piece.now result }
+    ensures { Written (untold_write 0 false) (untold_write (next_count 0) false) piece.now result }
 {
     let Some(handle) = half else {
         return Err(Failed);
@@ -193,14 +243,13 @@ fn write_half(half: &Option<Handle>, piece: &[u8]) -> Result<usize, Failed>
 }
 
 impl Sink for TcpSink {
-    ghost held = { λ _. None };
-
-    ghost faults = { λ s. s };
+    ghost half = { λ s. s };
 
     fn write(&mut self, piece: &[u8]) -> Result<usize, Failed>
-        ensures written { Written None None self.old self.new piece.now result }
+        ensures written { Written self.old self.new piece.now result }
         ensures ok { OnOk result (self.new ≡ self.old) }
-        ensures err { OnErr result (self.new ≡ next_count self.old) }
+        ensures err { OnErr result
+            (self.new ≡ record self.old { faults = next_count self.old.faults }) }
     {
         match write_half(&self.half, piece) {
             Ok(n) => Ok(n),
@@ -213,7 +262,8 @@ impl Sink for TcpSink {
 
     /// Shuts this direction down and gives its handle of the socket back to the system.
     fn shut(&mut self)
-        ensures { self.new ≡ self.old }
+        ensures shut { ShutsWrite self.old self.new }
+        ensures after { self.new ≡ record self.old { shut = first_shut self.old.shut None } }
     {
         if let Some(handle) = self.half.take() {
             let _ = handle.stream().shutdown(Shutdown::Write);
@@ -233,8 +283,8 @@ pub fn tcp_link<R>(
 ) -> io::Result<TcpLink<R>>
 where
     R: Drop,
-    ensures source { IfOk result (λ link. link.source ≡ 0) }
-    ensures sink { IfOk result (λ link. link.sink ≡ 0) }
+    ensures source { IfOk result (λ link. link.source ≡ untold_read 0 false) }
+    ensures sink { IfOk result (λ link. link.sink ≡ untold_write 0 false) }
 {
     let host = host_of(alloc, peer)?;
     let shared = Arc::new(alloc, stream)?;
@@ -261,45 +311,80 @@ fn host_of(alloc: Global, peer: SocketAddr) -> io::Result<Units>
     Ok(host)
 }
 
-/// Accepts connections over TCP, at 127.0.0.1 alone: no other machine reaches it.
+/// Accepts connections over TCP.
 ///
-/// Each error of the system is a fault, and so is an `accept` before `listen`. A connection that its peer gave up while it waited is passed over;
-/// where sixteen were, one after the other, that is a fault too.
+/// Each error of the system is a fault, and so is an `accept` or a `wait` before `listen`. A connection that its peer gave up while it waited is
+/// passed over; where sixteen were, one after the other, that is a fault too. It is told to stop where someone sets its flag.
 #[derive(Drop)]
 pub struct TcpListen<R> {
     rt: R,
     alloc: Global,
     listener: Option<TcpListener>,
+    flag: Option<Arc<AtomicBool>>,
+    told: bool,
     faults: u64,
 }
 
 impl<R> Model for TcpListen<R> {
-    ghost use Rattle.std.specs.Prelude.{ℕ};
+    ghost use Rattle.wire_io.specs.Links.{Listening, untold_listener};
 
-    ghost Value = { ℕ };
+    ghost Value = { Listening };
 
-    ghost view = { λ l. l.faults };
+    ghost view = { λ l. untold_listener l.faults l.told };
 }
 
 impl<R> TcpListen<R> {
-    /// The listener over this runtime's sockets, which does not listen yet. It takes no memory.
+    /// The listener over this runtime's sockets, which does not listen yet. It is never told to stop. It takes no memory.
     pub fn new(alloc: Global, rt: R) -> TcpListen<R>
-        ensures { result ≡ 0 }
+        ensures { result ≡ untold_listener 0 false }
     {
         TcpListen {
             rt,
             alloc,
             listener: None,
+            flag: None,
+            told: false,
+            faults: 0,
+        }
+    }
+
+    /// The listener over this runtime's sockets, which does not listen yet. It is told to stop where this flag is set. It takes no memory.
+    pub fn with_flag(alloc: Global, rt: R, flag: Arc<AtomicBool>) -> TcpListen<R>
+        ensures { result ≡ untold_listener 0 false }
+    {
+        TcpListen {
+            rt,
+            alloc,
+            listener: None,
+            flag: Some(flag),
+            told: false,
             faults: 0,
         }
     }
 
     /// How often it failed.
     pub fn faults(&self) -> u64
-        ensures { result ≡ self.now }
+        ensures { result ≡ self.now.faults }
     {
         self.faults
     }
+}
+
+/// Whether this flag is set, if there is one.
+fn is_set(flag: &Option<Arc<AtomicBool>>) -> bool {
+    match flag {
+        Some(flag) => flag.load(Ordering::SeqCst),
+        None => false,
+    }
+}
+
+/// Lets a call that accepts a connection take so long, or without end.
+///
+/// The system knows that limit as the one of reads, and the kit sets that of a stream alone: so a second handle of the socket is taken for a
+/// stream's while it is set.
+fn limit_accepts(listener: &TcpListener, limit: Option<Duration>) -> io::Result<()> {
+    let socket = TcpStream::from(OwnedFd::from(listener.try_clone()?));
+    socket.set_read_timeout(limit)
 }
 
 /// The next connection of a listener, if it listens.
@@ -308,14 +393,36 @@ fn next_link<R: Copy + Drop>(
     rt: &R,
     listener: &Option<TcpListener>,
 ) -> io::Result<TcpLink<R>>
-    ensures source { IfOk result (λ link. link.source ≡ 0) }
-    ensures sink { IfOk result (λ link. link.sink ≡ 0) }
+    ensures source { IfOk result (λ link. link.source ≡ untold_read 0 false) }
+    ensures sink { IfOk result (λ link. link.sink ≡ untold_write 0 false) }
 {
     let Some(listener) = listener else {
         return Err(io::Error::from(io::ErrorKind::NotConnected));
     };
     let (stream, peer) = next_stream(listener)?;
     tcp_link(alloc, *rt, stream, peer)
+}
+
+/// The next connection of a listener, if it listens and one comes within [`WAIT_SECONDS`].
+fn next_link_soon<R: Copy + Drop>(
+    alloc: Global,
+    rt: &R,
+    listener: &Option<TcpListener>,
+) -> io::Result<Option<TcpLink<R>>>
+    ensures source { IfOk result (λ came. IfSome came (λ link. link.source ≡ untold_read 0 false)) }
+    ensures sink { IfOk result (λ came. IfSome came (λ link. link.sink ≡ untold_write 0 false)) }
+{
+    let Some(listener) = listener else {
+        return Err(io::Error::from(io::ErrorKind::NotConnected));
+    };
+    limit_accepts(listener, Some(Duration::from_secs(WAIT_SECONDS)))?;
+    let next = next_stream(listener);
+    limit_accepts(listener, None)?;
+    match next {
+        Ok((stream, peer)) => Ok(Some(tcp_link(alloc, *rt, stream, peer)?)),
+        Err(error) if error.kind() == io::ErrorKind::WouldBlock => Ok(None),
+        Err(error) => Err(error),
+    }
 }
 
 /// The next connection that its peer hasn't given up while it waited. Others are passed over, if there are fewer than
@@ -354,18 +461,17 @@ where
 
     type Ticks = StdClock<R>;
 
-    ghost ports = { λ _. None };
+    ghost listening = { λ l. l };
 
-    ghost accepted = { λ _. None };
-
-    ghost faults = { λ l. l };
-
-    /// An earlier port is no longer listened on.
-    fn listen(&mut self, port: u16) -> Result<(), Failed>
-        ensures listens { Listens None None self.old self.new port result }
-        ensures counted { OnErr result (self.new ≡ next_count self.old) }
+    /// An earlier port is no longer listened on. Of the addresses of a name the first one that can be had is listened on.
+    fn listen(&mut self, address: &str, port: u16) -> Result<(), Failed>
+        ensures listens { Listens self.old self.new address.now port result }
+        ensures accepted { self.new.accepted ≡ self.old.accepted }
+        ensures told { self.new.told ≡ self.old.told }
+        ensures counted { OnErr result
+            (self.new ≡ record self.old { faults = next_count self.old.faults }) }
     {
-        match TcpListener::bind(&self.rt, SocketAddr::from(([127, 0, 0, 1], port))) {
+        match TcpListener::bind(&self.rt, (address, port)) {
             Ok(listener) => {
                 self.listener = Some(listener);
                 Ok(())
@@ -378,12 +484,136 @@ where
     }
 
     fn accept(&mut self) -> Result<TcpLink<R>, Failed>
-        ensures accepts { Accepts (accepted_as (λ _. None) (λ _. None) (λ _. None)) None None self.old self.new result }
-        ensures source { IfOk result (λ link. link.source ≡ 0) }
-        ensures sink { IfOk result (λ link. link.sink ≡ 0) }
-        ensures counted { OnErr result (self.new ≡ next_count self.old) }
+        ensures accepts { Accepts (accepted_as (λ s. s) (λ s. s) (λ _. None))
+            self.old self.new result }
+        ensures halves { IfOk result (λ link. AreNewHalves link.source link.sink) }
+        ensures ports { self.new.ports ≡ self.old.ports }
+        ensures told { self.new.told ≡ self.old.told }
+        ensures counted { OnErr result
+            (self.new ≡ record self.old { faults = next_count self.old.faults }) }
     {
         match next_link(self.alloc, &self.rt, &self.listener) {
+            Ok(link) => Ok(link),
+            Err(_) => {
+                self.faults = self.faults.saturating_add(1);
+                Err(Failed)
+            }
+        }
+    }
+
+    /// It waits for [`WAIT_SECONDS`] at most.
+    fn wait(&mut self) -> Result<Waited<TcpLink<R>>, Failed>
+        ensures waits { Waits (accepted_as (λ s. s) (λ s. s) (λ _. None)) self.old self.new result }
+        ensures halves { IfOk result (λ waited. IfCame waited
+            (λ link. AreNewHalves link.source link.sink)) }
+        ensures ports { self.new.ports ≡ self.old.ports }
+        ensures counted { OnErr result
+            (self.new ≡ record self.old { faults = next_count self.old.faults }) }
+    {
+        if self.told || is_set(&self.flag) {
+            self.told = true;
+            return Ok(Waited::Told);
+        }
+        match next_link_soon(self.alloc, &self.rt, &self.listener) {
+            Ok(Some(link)) => Ok(Waited::Came(link)),
+            Ok(None) => Ok(Waited::Quiet),
+            Err(_) => {
+                self.faults = self.faults.saturating_add(1);
+                Err(Failed)
+            }
+        }
+    }
+}
+
+/// Dials connections over TCP.
+///
+/// The addresses of a name are tried in their order, each for [`DIAL_SECONDS`] at most. Where none answers, that is a fault, and so is each other
+/// error of the system.
+#[derive(Drop)]
+pub struct TcpDial<R> {
+    rt: R,
+    alloc: Global,
+    faults: u64,
+}
+
+impl<R> Model for TcpDial<R> {
+    ghost use Rattle.wire_io.specs.Links.{Dialing, untold_dialer};
+
+    ghost Value = { Dialing };
+
+    ghost view = { λ d. untold_dialer d.faults };
+}
+
+impl<R> TcpDial<R> {
+    /// The dialer over this runtime's sockets, with no call so far. It takes no memory.
+    pub fn new(alloc: Global, rt: R) -> TcpDial<R>
+        ensures { result ≡ untold_dialer 0 }
+    {
+        TcpDial {
+            rt,
+            alloc,
+            faults: 0,
+        }
+    }
+
+    /// How often it failed.
+    pub fn faults(&self) -> u64
+        ensures { result ≡ self.now.faults }
+    {
+        self.faults
+    }
+}
+
+/// A connection to a port of the first address of a host that answers.
+fn dialed_stream<R>(rt: &R, host: &str, port: u16) -> io::Result<(TcpStream, SocketAddr)>
+where
+    R: Net<Listener = TcpListener, Stream = TcpStream>,
+{
+    let mut last = io::Error::from(io::ErrorKind::NotFound);
+    for address in (host, port).to_socket_addrs(rt)? {
+        match TcpStream::connect_timeout(rt, &address, Duration::from_secs(DIAL_SECONDS)) {
+            Ok(stream) => return Ok((stream, address)),
+            Err(error) => last = error,
+        }
+    }
+    Err(last)
+}
+
+/// A link to a port of a host. It fails where the host's bytes as modified UTF are no text to the system, too.
+fn dialed_link<R>(alloc: Global, rt: &R, host: &Units, port: u16) -> io::Result<TcpLink<R>>
+where
+    R: Net<Listener = TcpListener, Stream = TcpStream> + Copy + Drop,
+    ensures source { IfOk result (λ link. link.source ≡ untold_read 0 false) }
+    ensures sink { IfOk result (λ link. link.sink ≡ untold_write 0 false) }
+{
+    let bytes = encode(alloc, host)?;
+    let Ok(name) = str::from_utf8(bytes.as_slice()) else {
+        return Err(io::Error::from(io::ErrorKind::InvalidInput));
+    };
+    let (stream, peer) = dialed_stream(rt, name, port)?;
+    tcp_link(alloc, *rt, stream, peer)
+}
+
+impl<R> Dialer for TcpDial<R>
+where
+    R: Net<Listener = TcpListener, Stream = TcpStream> + time::Clock + Copy + Send + Drop,
+{
+    type In = TcpSource;
+
+    type Out = TcpSink;
+
+    type Ticks = StdClock<R>;
+
+    ghost dialing = { λ d. d };
+
+    fn dial(&mut self, host: &Units, port: u16) -> Result<TcpLink<R>, Failed>
+        ensures dials { Dials (accepted_as (λ s. s) (λ s. s) (λ _. None)) self.old self.new
+            host.now port result }
+        ensures halves { IfOk result (λ link. AreNewHalves link.source link.sink) }
+        ensures counted { OnErr result
+            (self.new ≡ record self.old { faults = next_count self.old.faults }) }
+    {
+        match dialed_link(self.alloc, &self.rt, host, port) {
             Ok(link) => Ok(link),
             Err(_) => {
                 self.faults = self.faults.saturating_add(1);

@@ -32,12 +32,16 @@ pub fn take_whole<S: Source>(
 ) -> Result<ByteList, WholeEnd>
     requires { limit < 2 ^ 32 }
     ensures ok { IfOk result (λ bytes. (length bytes ≤ limit)
-        × (S.left source.old ≡ with_front bytes (S.left source.new)) × NothingLeft (S.left source.new)) }
-    ensures too_large { result ≡ Err WholeEnd.TooLarge → (bytes : List ℕ) × (limit < length bytes) × (length bytes ≤ limit + READ_BLOCK)
-        × (S.left source.old ≡ with_front bytes (S.left source.new)) }
-    ensures err { (front : List ℕ) × (length front ≤ limit + READ_BLOCK) × (S.left source.old ≡ with_front front (S.left source.new)) }
-    ensures read_fault { result ≡ Err WholeEnd.ReadFault → Rose (S.faults source.old) (S.faults source.new) }
-    ensures faults { S.faults source.old ≤ S.faults source.new }
+        × ((S.half source.old).left ≡ with_front bytes (S.half source.new).left) × NothingLeft (S.half source.new).left) }
+    ensures too_large { result ≡ Err WholeEnd.TooLarge → (bytes : List ℕ)
+        × (limit < length bytes) × (length bytes ≤ limit + READ_BLOCK)
+        × ((S.half source.old).left ≡ with_front bytes (S.half source.new).left) }
+    ensures err { (front : List ℕ) × (length front ≤ limit + READ_BLOCK)
+        × ((S.half source.old).left ≡ with_front front (S.half source.new).left) }
+    ensures read_fault { result ≡ Err WholeEnd.ReadFault →
+        Rose (S.half source.old).faults (S.half source.new).faults }
+    ensures faults { (S.half source.old).faults ≤ (S.half source.new).faults }
+    ensures shut { (S.half source.new).shut ≡ (S.half source.old).shut }
 {
     let mut bytes = ByteList::new(alloc);
     let mut block = [0u8; READ_BLOCK];

@@ -30,7 +30,7 @@ pub(super) fn array<S: Source>(
     left: u32,
 ) -> Result<Slot, StreamFault>
     requires left { left ≤ LEVELS }
-    ensures { ReadsNodes S.left S.faults pull.old pull.new table.old table.new result GivesNode (λ end. with_class (slot_at end left) table.old.unread.items at (array_at end at (slot_at end left Reference table.old.unread.items))) }
+    ensures { ReadsNodes S.half pull.old pull.new table.old table.new result GivesNode (λ end. with_class (slot_at end left) table.old.unread.items at (array_at end at (slot_at end left Reference table.old.unread.items))) }
 {
     let class = class(alloc, pull, table, at, left)?;
     array_in(alloc, pull, table, at, class, left)
@@ -49,7 +49,7 @@ fn array_in<S: Source>(
 ) -> Result<Slot, StreamFault>
     requires room { length table.old.nodes.items < NODES }
     requires left { left ≤ LEVELS }
-    ensures { ReadsNodes S.left S.faults pull.old pull.new table.old table.new result GivesNode (λ end. array_at end at (slot_at end left Reference table.old.unread.items) class) }
+    ensures { ReadsNodes S.half pull.old pull.new table.old table.new result GivesNode (λ end. array_at end at (slot_at end left Reference table.old.unread.items) class) }
 {
     match table.element_type(class) {
         None => Err(bad(StreamKind::BadDesc, at)),
@@ -70,7 +70,7 @@ fn array_of<S: Source>(
 ) -> Result<Slot, StreamFault>
     requires room { length table.old.nodes.items < NODES }
     requires left { left ≤ LEVELS }
-    ensures { ReadsNodes S.left S.faults pull.old pull.new table.old table.new result GivesNode (λ end. array_of end 0 (slot_at end left Reference table.old.unread.items) class (Some code)) }
+    ensures { ReadsNodes S.half pull.old pull.new table.old table.new result GivesNode (λ end. array_of end 0 (slot_at end left Reference table.old.unread.items) class (Some code)) }
 {
     let n = count(pull)?;
     let number = table.begin(Node::Array {
@@ -94,7 +94,7 @@ fn elements<S: Source>(
     left: u32,
 ) -> Result<Values, StreamFault>
     requires left { left ≤ LEVELS }
-    ensures { ReadsNodes S.left S.faults pull.old pull.new table.old table.new result Any (λ end. elements_at (slot_at end left Reference table.old.unread.items) code n) }
+    ensures { ReadsNodes S.half pull.old pull.new table.old table.new result Any (λ end. elements_at (slot_at end left Reference table.old.unread.items) code n) }
 {
     if is_primitive(code) {
         primitives(alloc, pull, code, n)
@@ -114,7 +114,7 @@ fn slots<S: Source>(
     left: u32,
 ) -> Result<SlotList, StreamFault>
     requires left { left ≤ LEVELS }
-    ensures { ReadsNodes S.left S.faults pull.old pull.new table.old table.new result Any (λ end. many_at (slot_at end left Reference table.old.unread.items) n) }
+    ensures { ReadsNodes S.half pull.old pull.new table.old table.new result Any (λ end. many_at (slot_at end left Reference table.old.unread.items) n) }
 {
     let mut slots = SlotList::new(alloc);
     for _ in 0..n {

@@ -24,7 +24,7 @@ returns-in-NoObject-clause-answers g c first reads =
     let (moment, led) = c.in-Ok.ensures.led in
     let (bytes, takes, whole) = head_ends first _ c.args.head c.args.reader.stand reads in
     let prepared = rw c.take_turn.ensures.setup at c.refuse.ensures.prepared in
-    rw c.take_turn.ensures.pull (closing_answers _ _ (terms_of c.args.connection.now.book.now c.args.connection.now.setup.now) _ c.args.head (absent moment c.in-Ok.turn) bytes first (pull_state g.S.Source.left g.S.Source.faults c.args.connection.now.pull) _ _ _ _ c.refuse.result
+    rw c.take_turn.ensures.pull (closing_answers _ _ (terms_of c.args.connection.now.book.now c.args.connection.now.setup.now) _ c.args.head (absent moment c.in-Ok.turn) bytes first (pull_state g.S.Source.half c.args.connection.now.pull) _ _ _ _ c.refuse.result
     takes (whole, c.in-NoObject.is) led (begin_absent c.args.head.id moment c.in-Ok.turn [] (λ o. refl) c.in-NoObject.is) prepared)
 
 pub returns-in-NoObject-clause-balanced : goal.returns-in-NoObject-clause-balanced
@@ -37,7 +37,7 @@ returns-in-Err-HistoryFull-clause-answers g c first reads =
     let (moment, led) = rw c.in-Err-HistoryFull.field-0-is at c.in-Err-HistoryFull.ensures.led in
     let (bytes, takes, whole) = head_ends first _ c.args.head c.args.reader.stand reads in
     let prepared = rw c.take_turn.ensures.setup at c.refuse-in-Err-HistoryFull.ensures.prepared in
-    rw c.take_turn.ensures.pull (closing_answers _ _ (terms_of c.args.connection.now.book.now c.args.connection.now.setup.now) _ c.args.head (refused moment) bytes first (pull_state g.S.Source.left g.S.Source.faults c.args.connection.now.pull) _ _ _ _ c.refuse-in-Err-HistoryFull.result
+    rw c.take_turn.ensures.pull (closing_answers _ _ (terms_of c.args.connection.now.book.now c.args.connection.now.setup.now) _ c.args.head (refused moment) bytes first (pull_state g.S.Source.half c.args.connection.now.pull) _ _ _ _ c.refuse-in-Err-HistoryFull.result
     takes whole led (begin_refused c.args.head.id moment HistoryFull [] (λ o. refl)) prepared)
 
 pub returns-in-Err-HistoryFull-clause-balanced : goal.returns-in-Err-HistoryFull-clause-balanced
@@ -48,4 +48,4 @@ returns-in-Err-HistoryFull-clause-balanced g c =
 pub returns-clause-answers : goal.returns-clause-answers
 returns-clause-answers g c first reads =
     let (moment, led) = rw c.in-Err-OutOfMemory.field-0-is at c.in-Err-OutOfMemory.ensures.led in
-    rw c.take_turn.ensures.pull (lost_answers _ _ (terms_of c.args.connection.now.book.now c.args.connection.now.setup.now) _ c.args.head moment first (pull_state g.S.Source.left g.S.Source.faults c.args.connection.now.pull) c.args.reader.stand _ _ _ _ reads led)
+    rw c.take_turn.ensures.pull (lost_answers _ _ (terms_of c.args.connection.now.book.now c.args.connection.now.setup.now) _ c.args.head moment first (pull_state g.S.Source.half c.args.connection.now.pull) c.args.reader.stand _ _ _ _ reads led)

@@ -10,7 +10,7 @@ pub returns-in_default-clause-runs_on : goal.returns-in_default-clause-runs_on
 returns-in_default-clause-runs_on g c first reads =
     let (moment, at, led) = c.give_up.ensures.led in
     let prepared = rw c.no_such_method.ensures at (rw c.give_up.ensures.setup at c.refuse.ensures.prepared) in
-    rw c.give_up.ensures.pull (unknown_runs _ _ (terms_of c.args.connection.now.book.now c.args.connection.now.setup.now) _ c.args.head c.args.kind first (pull_state g.S.Source.left g.S.Source.faults c.args.connection.now.pull) c.args.reader.stand _ _ _ _ moment at c.refuse.result c.in_default.ensures.none reads led prepared)
+    rw c.give_up.ensures.pull (unknown_runs _ _ (terms_of c.args.connection.now.book.now c.args.connection.now.setup.now) _ c.args.head c.args.kind first (pull_state g.S.Source.half c.args.connection.now.pull) c.args.reader.stand _ _ _ _ moment at c.refuse.result c.in_default.ensures.none reads led prepared)
 
 pub returns-in_default-clause-balanced : goal.returns-in_default-clause-balanced
 returns-in_default-clause-balanced g c =
@@ -30,7 +30,7 @@ returns-in-Err-clause-runs_on g c first reads =
     inr (
       ap (λ s. s.now.draw.drawn) c.give_up-in-Err.ensures.setup,
       (
-        pull_state g.S.Source.left g.S.Source.faults c.args.connection.now.pull,
+        pull_state g.S.Source.half c.args.connection.now.pull,
         c.args.reader.stand,
         c.in-Some.method_place,
         c.in-Some-method.method.now,

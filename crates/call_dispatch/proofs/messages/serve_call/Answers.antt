@@ -14,12 +14,12 @@ use Rattle.call_dispatch.proofs.messages.serve_call.Goals as goal
 
 pub returns-in-Err-clause-serves : goal.returns-in-Err-clause-serves
 returns-in-Err-clause-serves g c start first opening exchanges coded =
-    rw c.end_of.ensures (head_breaks _ _ _ start first (pull_state g.S.Source.left g.S.Source.faults c.args.connection.now.pull) (pull_state g.S.Source.left g.S.Source.faults c.read_head.new.pull) _ _ _ _ opening exchanges c.in-Err.fault
+    rw c.end_of.ensures (head_breaks _ _ _ start first (pull_state g.S.Source.half c.args.connection.now.pull) (pull_state g.S.Source.half c.read_head.new.pull) _ _ _ _ opening exchanges c.in-Err.fault
     coded c.read_head.new.pull.within c.in-Err.ensures.stops)
 
 pub returns-in-Err-clause-blames : goal.returns-in-Err-clause-blames
 returns-in-Err-clause-blames g c =
-    rw c.end_of.ensures (head_blames head_at (g.K.Sink.faults c.args.connection.now.sink.now) (pull_state g.S.Source.left g.S.Source.faults c.args.connection.now.pull) (pull_state g.S.Source.left g.S.Source.faults c.read_head.new.pull) c.in-Err.fault c.in-Err.ensures.stops)
+    rw c.end_of.ensures (head_blames head_at (g.K.Sink.half c.args.connection.now.sink.now).faults (pull_state g.S.Source.half c.args.connection.now.pull) (pull_state g.S.Source.half c.read_head.new.pull) c.in-Err.fault c.in-Err.ensures.stops)
 
 pub returns-in_err-answer-in-Ok-clause-serves : goal.returns-in_err-answer-in-Ok-clause-serves
 returns-in_err-answer-in-Ok-clause-serves g c start first opening exchanges coded =
@@ -31,15 +31,15 @@ returns-in_err-answer-in-Ok-clause-serves g c start first opening exchanges code
     let hash : FitsSigned w64 c.in-Ok.head.hash = search rules in
     let fits : FitsHead c.in-Ok.head = record { number = number; unique = unique; time = time; count = count; operation = operation; hash = hash } in
     let p = err_from_is_err_and c.from_residual.result c.from_residual.ensures.1 in
-    let start_place = pull_state g.S.Source.left g.S.Source.faults c.args.connection.now.pull in
+    let start_place = pull_state g.S.Source.half c.args.connection.now.pull in
     rw (c.in_err-answer-in-Ok.ensures.sink, p.1, p.2) (any_ended g.W.Worker.may g.W.Worker.moves (terms_of c.args.connection.now.book.now c.args.connection.now.setup.now) start first start_place _ _ _ _ _ _ _ opening exchanges c.in-Ok.head _
     coded fits c.dispatch_call.new.connection.pull.within (c.in_err-answer-in-Ok.ensures.answers start_place c.in-Ok.ensures.reads))
 
 pub returns-in_err-answer-in-Ok-clause-blames : goal.returns-in_err-answer-in-Ok-clause-blames
 returns-in_err-answer-in-Ok-clause-blames g c =
     let p = err_from_is_err_and c.from_residual.result c.from_residual.ensures.1 in
-    let start_place = pull_state g.S.Source.left g.S.Source.faults c.args.connection.now.pull in
-    rw (c.in_err-answer-in-Ok.ensures.sink, p.1, p.2) (any_ended_blames g.W.Worker.may g.W.Worker.moves (terms_of c.args.connection.now.book.now c.args.connection.now.setup.now) c.in-Ok.head start_place (pull_state g.S.Source.left g.S.Source.faults c.dispatch_call.new.connection.pull) _ _ _ _ (g.K.Sink.faults c.args.connection.now.sink.now) _ (c.in_err-answer-in-Ok.ensures.answers start_place c.in-Ok.ensures.reads))
+    let start_place = pull_state g.S.Source.half c.args.connection.now.pull in
+    rw (c.in_err-answer-in-Ok.ensures.sink, p.1, p.2) (any_ended_blames g.W.Worker.may g.W.Worker.moves (terms_of c.args.connection.now.book.now c.args.connection.now.setup.now) c.in-Ok.head start_place (pull_state g.S.Source.half c.dispatch_call.new.connection.pull) _ _ _ _ (g.K.Sink.half c.args.connection.now.sink.now).faults _ (c.in_err-answer-in-Ok.ensures.answers start_place c.in-Ok.ensures.reads))
 
 pub returns-in_ok-answer-in-Ok-clause-serves : goal.returns-in_ok-answer-in-Ok-clause-serves
 returns-in_ok-answer-in-Ok-clause-serves g c start first opening exchanges coded =
@@ -50,16 +50,16 @@ returns-in_ok-answer-in-Ok-clause-serves g c start first opening exchanges coded
     let operation : FitsSigned w32 c.in-Ok.head.operation = search rules in
     let hash : FitsSigned w64 c.in-Ok.head.hash = search rules in
     let fits : FitsHead c.in-Ok.head = record { number = number; unique = unique; time = time; count = count; operation = operation; hash = hash } in
-    let start_place = pull_state g.S.Source.left g.S.Source.faults c.args.connection.now.pull in
+    let start_place = pull_state g.S.Source.half c.args.connection.now.pull in
     any_done g.W.Worker.may g.W.Worker.moves (terms_of c.args.connection.now.book.now c.args.connection.now.setup.now) start first start_place _ _ _ _ _ _ _ _ _ _ opening exchanges c.in-Ok.head c.in_ok-answer-in-Ok.answer c.send.result
     coded fits c.dispatch_call.new.connection.pull.within (c.in_ok-answer-in-Ok.ensures.answers start_place c.in-Ok.ensures.reads) (rw c.in_ok-answer-in-Ok.ensures.sink at c.send.ensures.sends)
 
 pub returns-in_ok-answer-in-Ok-clause-blames : goal.returns-in_ok-answer-in-Ok-clause-blames
 returns-in_ok-answer-in-Ok-clause-blames g c =
-    let start_place = pull_state g.S.Source.left g.S.Source.faults c.args.connection.now.pull in
+    let start_place = pull_state g.S.Source.half c.args.connection.now.pull in
     any_blames g.W.Worker.may g.W.Worker.moves (terms_of c.args.connection.now.book.now c.args.connection.now.setup.now) c.in-Ok.head start_place _ _ _ c.args.connection.now.setup.now.draw.drawn c.dispatch_call.new.connection.setup.now.draw.drawn _ _ _ _ _ c.in_ok-answer-in-Ok.answer c.send.result (c.in_ok-answer-in-Ok.ensures.answers start_place c.in-Ok.ensures.reads) (rw c.in_ok-answer-in-Ok.ensures.sink at c.send.ensures.sends)
 
 pub returns-in_ok-answer-in-Ok-clause-most : goal.returns-in_ok-answer-in-Ok-clause-most
 returns-in_ok-answer-in-Ok-clause-most g c =
-    let start_place = pull_state g.S.Source.left g.S.Source.faults c.args.connection.now.pull in
+    let start_place = pull_state g.S.Source.half c.args.connection.now.pull in
     most_of c.send.result _ _ _ (any_within g.W.Worker.may g.W.Worker.moves (terms_of c.args.connection.now.book.now c.args.connection.now.setup.now) c.in-Ok.head start_place _ _ _ c.args.connection.now.setup.now.draw.drawn c.dispatch_call.new.connection.setup.now.draw.drawn c.in_ok-answer-in-Ok.answer c.dispatch_call.new.connection.pull.within (c.in_ok-answer-in-Ok.ensures.answers start_place c.in-Ok.ensures.reads)) c.send.ensures.most

@@ -19,7 +19,7 @@ pub returns-in-Err-clause-goes_on : goal.returns-in-Err-clause-goes_on
 returns-in-Err-clause-goes_on g c start opening is stands =
     let (exchanges, count, goes, now) = c.loop-after.invariant.0 start opening is stands in
     let steps = steps_on _ _ _ _ _
-    (state_of_connection g.S.Source.left g.K.Sink.held g.C.Clock.given g.P.Port.asked g.W.Worker.calls g.W.Worker.seen g.W.Worker.state c.serve_message.new.connection)
+    (state_of_connection g.S.Source.half g.K.Sink.half g.C.Clock.given g.P.Port.asked g.W.Worker.calls g.W.Worker.seen g.W.Worker.state c.serve_message.new.connection)
     _ _ _ c.serve_message.new.connection.pull.at (Err c.in-Err.end) c.loop-after.invariant.4.terms c.in-Err.ensures.steps in
     steps start opening exchanges count (stream_at_code opening exchanges is goes) now
 
@@ -28,7 +28,7 @@ loop-after-preserved g c = (
   (λ start opening is stands.
       let (exchanges, count, goes, now) = c.loop-after.invariant.0 start opening is stands in
       let steps = steps_on _ _ _ _ _
-      (state_of_connection g.S.Source.left g.K.Sink.held g.C.Clock.given g.P.Port.asked g.W.Worker.calls g.W.Worker.seen g.W.Worker.state c.serve_message.new.connection)
+      (state_of_connection g.S.Source.half g.K.Sink.half g.C.Clock.given g.P.Port.asked g.W.Worker.calls g.W.Worker.seen g.W.Worker.state c.serve_message.new.connection)
       _ _ _ c.serve_message.new.connection.pull.at (Ok c.in-Ok.after) c.loop-after.invariant.4.terms c.in-Ok.ensures.steps in
       let (e, leaves, after) = steps start opening exchanges count (stream_at_code opening exchanges is goes) now in
       (exchanges ++ e ∷ [], omega (arith, length-append exchanges (e ∷ []), count), goes_on_more exchanges e leaves, after)),

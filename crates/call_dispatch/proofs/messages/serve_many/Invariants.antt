@@ -17,15 +17,15 @@ use Rattle.call_dispatch.specs.declared.messages.TheConstants.{MAX_MESSAGES}
 abbrev pub invariant-loop-after : goal.invariant-loop-after
 invariant-loop-after g l = ((start : ConnectionState) (opening : Opening) → protocol_of opening ≡ Stream
     → StandsWhole g.W.Worker.may g.W.Worker.moves (terms_of l.initial.connection.book.now l.initial.connection.setup.now) start
-    (state_of_connection g.S.Source.left g.K.Sink.held g.C.Clock.given g.P.Port.asked g.W.Worker.calls g.W.Worker.seen g.W.Worker.state l.initial.connection) l.initial.connection.pull.at l.before (opened opening [])
+    (state_of_connection g.S.Source.half g.K.Sink.half g.C.Clock.given g.P.Port.asked g.W.Worker.calls g.W.Worker.seen g.W.Worker.state l.initial.connection) l.initial.connection.pull.at l.before (opened opening [])
     → (exchanges : List Exchange) × (length exchanges ≡ l.served) × StaysOpen exchanges
     × StandsWhole g.W.Worker.may g.W.Worker.moves (terms_of l.initial.connection.book.now l.initial.connection.setup.now) start
-    (state_of_connection g.S.Source.left g.K.Sink.held g.C.Clock.given g.P.Port.asked g.W.Worker.calls g.W.Worker.seen g.W.Worker.state l.connection) l.connection.pull.at l.sent (opened opening exchanges))
+    (state_of_connection g.S.Source.half g.K.Sink.half g.C.Clock.given g.P.Port.asked g.W.Worker.calls g.W.Worker.seen g.W.Worker.state l.connection) l.connection.pull.at l.sent (opened opening exchanges))
     × (l.served ≤ MAX_MESSAGES)
     × (l.connection.pull.at ≤ l.initial.connection.pull.at + MESSAGE_BYTES * l.served)
     × (l.sent ≤ l.before + RETURN_BYTES * l.served)
     × IsLent l.initial.connection l.connection
-    × Grew (counts_of g.S.Source.faults g.K.Sink.faults l.initial.connection) (counts_of g.S.Source.faults g.K.Sink.faults l.connection)
+    × Grew (counts_of g.S.Source.half g.K.Sink.half l.initial.connection) (counts_of g.S.Source.half g.K.Sink.half l.connection)
     × Balanced (g.P.Port.asked l.connection.port.now)
     × g.P.Port.ready l.connection.port.now
     × g.P.Port.leads l.initial.connection.port.now l.connection.port.now

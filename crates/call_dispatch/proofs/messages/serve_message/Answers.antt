@@ -11,7 +11,7 @@ use Rattle.call_dispatch.proofs.messages.serve_message.Goals as goal
 pub returns-in-Ok-None-clause-steps : goal.returns-in-Ok-None-clause-steps
 returns-in-Ok-None-clause-steps g c start opening exchanges count code stands =
     let gives = rw c.in-Ok-None.field-0-is at c.in-Ok-None.ensures.gives in
-    talks_took _ _ _ start _ _ _ _ (opened opening exchanges) [] ends.Ended stands (ap g.S.Source.left (sym c.mark.ensures.source) ∙ gives.0.left) refl refl refl
+    talks_took _ _ _ start _ _ _ _ (opened opening exchanges) [] ends.Ended stands (ap (λ s. (g.S.Source.half s).left) (sym c.mark.ensures.source) ∙ gives.0.left) refl refl refl
     (inl (code, gives.1), refl)
 
 pub returns-in-Err-clause-steps : goal.returns-in-Err-clause-steps
@@ -23,14 +23,14 @@ returns-in-Err-clause-steps g c start opening exchanges count code stands =
 pub returns-then-served-eq-MAX_MESSAGES-clause-steps : goal.returns-then-served-eq-MAX_MESSAGES-clause-steps
 returns-then-served-eq-MAX_MESSAGES-clause-steps g c start opening exchanges count code stands =
     let gives = rw c.in-Ok-Some.field-0-is at c.in-Ok-Some.ensures.gives in
-    talks_took _ _ _ start _ _ _ _ (opened opening exchanges) _ ends.MessageLimit stands (ap g.S.Source.left (sym c.mark.ensures.source) ∙ gives.left) refl refl refl
+    talks_took _ _ _ start _ _ _ _ (opened opening exchanges) _ ends.MessageLimit stands (ap (λ s. (g.S.Source.half s).left) (sym c.mark.ensures.source) ∙ gives.left) refl refl refl
     (code, count ∙ c.if-served-eq-MAX_MESSAGES.true, (_, (c.in-Ok-Some.code, refl), refl))
 
 pub returns-in-Ping-clause-steps : goal.returns-in-Ping-clause-steps
 returns-in-Ping-clause-steps g c start opening exchanges count code stands =
     let gives = rw c.in-Ping.is at (rw c.in-Ok-Some.field-0-is at c.in-Ok-Some.ensures.gives) in
     ping_steps _ _ _ start _ _ _ _ _ opening exchanges c.write_answer.result stands code
-    (omega (arith, count, c.requires.served, c.if-served-eq-MAX_MESSAGES.false)) (ap g.S.Source.left (sym c.mark.ensures.source) ∙ gives.left) refl refl
+    (omega (arith, count, c.requires.served, c.if-served-eq-MAX_MESSAGES.false)) (ap (λ s. (g.S.Source.half s).left) (sym c.mark.ensures.source) ∙ gives.left) refl refl
     (gives.at ∙ ap (λ n. n + 1) c.mark.ensures.at) c.write_answer.ensures.writes
 
 pub returns-in-DgcAck-clause-steps : goal.returns-in-DgcAck-clause-steps
@@ -54,12 +54,12 @@ returns-in-DgcAck-clause-blames g c =
 pub returns-in-Call-clause-steps : goal.returns-in-Call-clause-steps
 returns-in-Call-clause-steps g c start opening exchanges count code stands =
     let gives = rw c.in-Call.is at (rw c.in-Ok-Some.field-0-is at c.in-Ok-Some.ensures.gives) in
-    c.serve_call.ensures.serves start (state_of_connection g.S.Source.left g.K.Sink.held g.C.Clock.given g.P.Port.asked g.W.Worker.calls g.W.Worker.seen g.W.Worker.state c.args.connection.now) opening exchanges (record {
+    c.serve_call.ensures.serves start (state_of_connection g.S.Source.half g.K.Sink.half g.C.Clock.given g.P.Port.asked g.W.Worker.calls g.W.Worker.seen g.W.Worker.state c.args.connection.now) opening exchanges (record {
       few = omega (arith, count, c.requires.served, c.if-served-eq-MAX_MESSAGES.false);
       code = code;
       place = c.args.connection.now.pull.at;
       stands = stands;
-      left = ap g.S.Source.left (sym c.mark.ensures.source) ∙ gives.left;
+      left = ap (λ s. (g.S.Source.half s).left) (sym c.mark.ensures.source) ∙ gives.left;
       held = refl;
       side = refl;
       drawn = refl;

@@ -7,7 +7,7 @@ use Rattle.call_dispatch.proofs.system_calls.call_system_object.Goals as goal
 
 pub returns-in_default-clause-answers : goal.returns-in_default-clause-answers
 returns-in_default-clause-answers g c first reads =
-    unknown_answers g.W.Worker.may g.W.Worker.moves (terms_of c.args.connection.now.book.now c.args.connection.now.setup.now) c.args.head first (pull_state g.S.Source.left g.S.Source.faults c.args.connection.now.pull) c.args.reader.stand (observed_of g.C.Clock.given g.P.Port.asked g.W.Worker.calls g.W.Worker.seen g.W.Worker.state c.args.connection.now) c.args.connection.now.setup.now.draw.drawn _ c.refuse.result
+    unknown_answers g.W.Worker.may g.W.Worker.moves (terms_of c.args.connection.now.book.now c.args.connection.now.setup.now) c.args.head first (pull_state g.S.Source.half c.args.connection.now.pull) c.args.reader.stand (observed_of g.C.Clock.given g.P.Port.asked g.W.Worker.calls g.W.Worker.seen g.W.Worker.state c.args.connection.now) c.args.connection.now.setup.now.draw.drawn _ c.refuse.result
     (sym c.in_default.ensures) reads (ap (λ s. s.draw.drawn) c.refuse.ensures.drawn) (rw c.no_such_method.ensures at c.refuse.ensures.prepared)
 
 pub returns-in-Ok-clause-answers : goal.returns-in-Ok-clause-answers
@@ -21,7 +21,7 @@ returns-in-Err-clause-answers g c first reads =
       refl,
       refl,
       (
-        pull_state g.S.Source.left g.S.Source.faults c.args.connection.now.pull,
+        pull_state g.S.Source.half c.args.connection.now.pull,
         c.args.reader.stand,
         c.in-Some.method,
         c.in-Err.fault,

@@ -10,14 +10,14 @@ loop-init g c =
     let a = c.args.accepting in
     let fresh = c.requires.fresh in
     let turns = c.requires.turns.1 in
-    let left = g.L.In.Source.left in let held = g.L.Out.Sink.held in let given = g.L.Ticks.Clock.given in
-    let told = g.L.Listener.accepted c.args.listener.now in
+    let read_half = g.L.In.Source.half in let write_half = g.L.Out.Sink.half in let given = g.L.Ticks.Clock.given in
+    let told = (g.L.Listener.listening c.args.listener.now).accepted in
     record {
       is = c.requires.accepting;
       turns = omega (arith, turns);
       count = a.started.ok.0 ∙ ap length fresh.0;
-      tied = fresh.1 ∙ ap (λ l. ticks_of (shown_all left held given l)) (sym fresh.0);
-      links = sym (with_none told) ∙ ap (λ l. with_all told (links_of (shown_all left held given l))) (sym fresh.0);
+      tied = fresh.1 ∙ ap (λ l. ticks_of (shown_all read_half write_half given l)) (sym fresh.0);
+      links = sym (with_none told) ∙ ap (λ l. with_all told (links_of (shown_all read_half write_half given l))) (sym fresh.0);
       faults = omega arith;
       ports = refl;
     }
@@ -41,35 +41,35 @@ admit-next-requires-clause-tied g c κs within =
 
 pub returns-then-not-taken-clause-links : goal.returns-then-not-taken-clause-links
 returns-then-not-taken-clause-links g c =
-    let left = g.L.In.Source.left in let held = g.L.Out.Sink.held in let given = g.L.Ticks.Clock.given in
+    let read_half = g.L.In.Source.half in let write_half = g.L.Out.Sink.half in let given = g.L.Ticks.Clock.given in
     let next = c.admit-next.result.0 in
     let was = c.loop.invariant in
-    let before = links_of (shown_all left held given c.loop.accepting.started.items) in
-    let told = g.L.Listener.accepted c.args.listener.now in
-    let link = accepted_as left held given c.in-Ok.link in
+    let before = links_of (shown_all read_half write_half given c.loop.accepting.started.items) in
+    let told = (g.L.Listener.listening c.args.listener.now).accepted in
+    let link = accepted_as read_half write_half given c.in-Ok.link in
     let freed = c.join_ended-accepted.result in
-    let here : links_of (shown_all left held given next.started.items) ≡ links_of (shown_all left held given freed.started.items) = search rules in
-    let same : links_of (shown_all left held given next.started.items) ≡ before = here ∙ ap (λ l. links_of l) c.join_ended-accepted.ensures.links in
+    let here : links_of (shown_all read_half write_half given next.started.items) ≡ links_of (shown_all read_half write_half given freed.started.items) = search rules in
+    let same : links_of (shown_all read_half write_half given next.started.items) ≡ before = here ∙ ap (λ l. links_of l) c.join_ended-accepted.ensures.links in
     let count : vec_len next.started ≡ vec_len freed.started = search rules in
     let count2 = c.join_ended-accepted.ensures.count in
     let counter = was.count in
     let test = c.loop-test.true in (
       link ∷ [],
-      one_more told (g.L.Listener.accepted c.loop.listener) (g.L.Listener.accepted c.next_link.new.listener) before link was.links c.in-Ok.ensures.accepts.0 ∙ ap (λ l. with_all told (l ++ link ∷ [])) (sym same),
+      one_more told (g.L.Listener.listening c.loop.listener).accepted (g.L.Listener.listening c.next_link.new.listener).accepted before link was.links c.in-Ok.ensures.accepts.0 ∙ ap (λ l. with_all told (l ++ link ∷ [])) (sym same),
       (omega (arith, count, count2, counter, test), refl),
     )
 
 pub loop-preserved : goal.loop-preserved
 loop-preserved g c =
-    let left = g.L.In.Source.left in let held = g.L.Out.Sink.held in let given = g.L.Ticks.Clock.given in
+    let read_half = g.L.In.Source.half in let write_half = g.L.Out.Sink.half in let given = g.L.Ticks.Clock.given in
     let next = c.admit-next.result.0 in
     let was = c.loop.invariant in
-    let before = links_of (shown_all left held given c.loop.accepting.started.items) in
-    let told = g.L.Listener.accepted c.args.listener.now in
-    let link = accepted_as left held given c.in-Ok.link in
+    let before = links_of (shown_all read_half write_half given c.loop.accepting.started.items) in
+    let told = (g.L.Listener.listening c.args.listener.now).accepted in
+    let link = accepted_as read_half write_half given c.in-Ok.link in
     let freed = c.join_ended-accepted.result in
-    let here : links_of (shown_all left held given next.started.items) ≡ links_of (shown_all left held given freed.started.items) ++ link ∷ [] = search rules in
-    let longer : links_of (shown_all left held given next.started.items) ≡ before ++ link ∷ [] = here ∙ ap (λ l. links_of l ++ link ∷ []) c.join_ended-accepted.ensures.links in
+    let here : links_of (shown_all read_half write_half given next.started.items) ≡ links_of (shown_all read_half write_half given freed.started.items) ++ link ∷ [] = search rules in
+    let longer : links_of (shown_all read_half write_half given next.started.items) ≡ before ++ link ∷ [] = here ∙ ap (λ l. links_of l ++ link ∷ []) c.join_ended-accepted.ensures.links in
     let count : vec_len next.started ≡ vec_len freed.started + 1 = search rules in
     let count2 = c.join_ended-accepted.ensures.count in
     let counter = was.count in
@@ -83,7 +83,7 @@ loop-preserved g c =
       turns = omega (arith, room, room2, room3);
       count = omega (arith, count, count2, counter);
       tied = c.admit-next.ensures.tied;
-      links = one_more told (g.L.Listener.accepted c.loop.listener) (g.L.Listener.accepted c.next_link.new.listener) before link was.links c.in-Ok.ensures.accepts.0 ∙ ap (with_all told) (sym longer);
+      links = one_more told (g.L.Listener.listening c.loop.listener).accepted (g.L.Listener.listening c.next_link.new.listener).accepted before link was.links c.in-Ok.ensures.accepts.0 ∙ ap (with_all told) (sym longer);
       faults = omega (arith, faults, faults2);
       ports = c.in-Ok.ensures.ports ∙ was.ports;
     }

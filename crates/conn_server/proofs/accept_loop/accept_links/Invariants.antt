@@ -8,13 +8,13 @@ use Rattle.conn_server.specs.declared.plan.TheConstants.{MAX_LINKS}
 abbrev pub invariant-loop : goal.invariant-loop
 invariant-loop g l = record {
   is : IsAccepting
-      (TalksOver g.L.In.Source.left g.L.Out.Sink.held g.L.Ticks.Clock.given g.G.Hand.Worker.calls g.G.Hand.Worker.seen g.G.Hand.Worker.state g.G.Hand.Worker.may g.G.Hand.Worker.moves l.book)
-      (IsMadeFor g.L.In.Source.left g.L.Out.Sink.held g.L.Ticks.Clock.given g.G.Hand.Worker.seen g.G.Hand.Worker.state g.G.Hand.Worker.moves l.plan)
+      (TalksOver g.L.In.Source.half g.L.Out.Sink.half g.L.Ticks.Clock.given g.G.Hand.Worker.calls g.G.Hand.Worker.seen g.G.Hand.Worker.state g.G.Hand.Worker.may g.G.Hand.Worker.moves l.book)
+      (IsMadeFor g.L.In.Source.half g.L.Out.Sink.half g.L.Ticks.Clock.given g.G.Hand.Worker.seen g.G.Hand.Worker.state g.G.Hand.Worker.moves l.plan)
       g.G.Hand.Worker.calls l.lock l.book l.accepting;
   turns : MAX_LINKS ≤ l.accepting.root.pass.room + l.counter;
   count : vec_len l.accepting.started ≡ l.counter;
-  tied : l.accepting.ticks.items ≡ ticks_of (shown_all g.L.In.Source.left g.L.Out.Sink.held g.L.Ticks.Clock.given l.accepting.started.items);
-  links : g.L.Listener.accepted l.listener ≡ with_all (g.L.Listener.accepted l.fn.listener) (links_of (shown_all g.L.In.Source.left g.L.Out.Sink.held g.L.Ticks.Clock.given l.accepting.started.items));
-  faults : g.L.Listener.faults l.fn.listener ≤ g.L.Listener.faults l.listener;
-  ports : g.L.Listener.ports l.listener ≡ g.L.Listener.ports l.fn.listener;
+  tied : l.accepting.ticks.items ≡ ticks_of (shown_all g.L.In.Source.half g.L.Out.Sink.half g.L.Ticks.Clock.given l.accepting.started.items);
+  links : (g.L.Listener.listening l.listener).accepted ≡ with_all (g.L.Listener.listening l.fn.listener).accepted (links_of (shown_all g.L.In.Source.half g.L.Out.Sink.half g.L.Ticks.Clock.given l.accepting.started.items));
+  faults : (g.L.Listener.listening l.fn.listener).faults ≤ (g.L.Listener.listening l.listener).faults;
+  ports : (g.L.Listener.listening l.listener).ports ≡ (g.L.Listener.listening l.fn.listener).ports;
 }

@@ -19,8 +19,8 @@ loop-link-init g c =
     let len : into_iter_len it ≡ vec_len a.started = gives.1 in
     let none : vec_len a.reports ≡ 0 = a.reports.ok.0 ∙ ap length is.empty in
     let room = is.room in
-    let talked = TalksOver g.I.Source.left g.O.Sink.held g.T.Clock.given g.H.Worker.calls g.H.Worker.seen g.H.Worker.state g.H.Worker.may g.H.Worker.moves c.args.book.now in
-    let made = IsMadeFor g.I.Source.left g.O.Sink.held g.T.Clock.given g.H.Worker.seen g.H.Worker.state g.H.Worker.moves c.args.plan.now in
+    let talked = TalksOver g.I.Source.half g.O.Sink.half g.T.Clock.given g.H.Worker.calls g.H.Worker.seen g.H.Worker.state g.H.Worker.may g.H.Worker.moves c.args.book.now in
+    let made = IsMadeFor g.I.Source.half g.O.Sink.half g.T.Clock.given g.H.Worker.seen g.H.Worker.state g.H.Worker.moves c.args.plan.now in
     record {
       same = len ∙ (a.started.ok.0 ∙ ap length (sym gives.0));
       root = is.own;

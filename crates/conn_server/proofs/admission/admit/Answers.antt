@@ -16,10 +16,10 @@ returns-in_default-clause-turns g c = let root = ap (λ r. r.pass.room) c.reserv
 pub returns-in_default-clause-tied : goal.returns-in_default-clause-tied
 returns-in_default-clause-tied g c =
     let same = c.reserve_link-accepting.ensures.same in
-    same.ticks ∙ (c.requires.tied ∙ ap (λ l. ticks_of (shown_all g.I.Source.left g.O.Sink.held g.T.Clock.given l)) (sym same.started))
+    same.ticks ∙ (c.requires.tied ∙ ap (λ l. ticks_of (shown_all g.I.Source.half g.O.Sink.half g.T.Clock.given l)) (sym same.started))
 
 pub returns-in_default-clause-links : goal.returns-in_default-clause-links
-returns-in_default-clause-links g c = ap (λ l. links_of (shown_all g.I.Source.left g.O.Sink.held g.T.Clock.given l)) c.reserve_link-accepting.ensures.same.started
+returns-in_default-clause-links g c = ap (λ l. links_of (shown_all g.I.Source.half g.O.Sink.half g.T.Clock.given l)) c.reserve_link-accepting.ensures.same.started
 
 pub returns-in_default-clause-count : goal.returns-in_default-clause-count
 returns-in_default-clause-count g c = c.reserve_link-accepting.ensures.same.count
@@ -61,12 +61,12 @@ returns-in_default-admitted-clause-tied g c =
     let same = c.reserve_link-accepting.ensures.same in
     let prepared = c.prepare_link-accepting.ensures in
     (rw c.in_default-admitted.is at prepared.ticks)
-    ∙ (same.ticks ∙ (c.requires.tied ∙ ap (λ l. ticks_of (shown_all g.I.Source.left g.O.Sink.held g.T.Clock.given l)) (sym (ap (λ v. v.items) prepared.links.0 ∙ same.started))))
+    ∙ (same.ticks ∙ (c.requires.tied ∙ ap (λ l. ticks_of (shown_all g.I.Source.half g.O.Sink.half g.T.Clock.given l)) (sym (ap (λ v. v.items) prepared.links.0 ∙ same.started))))
 
 pub returns-in_default-admitted-clause-links : goal.returns-in_default-admitted-clause-links
 returns-in_default-admitted-clause-links g c =
-    ap (λ v. links_of (shown_all g.I.Source.left g.O.Sink.held g.T.Clock.given v.items)) c.prepare_link-accepting.ensures.links.0
-    ∙ ap (λ l. links_of (shown_all g.I.Source.left g.O.Sink.held g.T.Clock.given l)) c.reserve_link-accepting.ensures.same.started
+    ap (λ v. links_of (shown_all g.I.Source.half g.O.Sink.half g.T.Clock.given v.items)) c.prepare_link-accepting.ensures.links.0
+    ∙ ap (λ l. links_of (shown_all g.I.Source.half g.O.Sink.half g.T.Clock.given l)) c.reserve_link-accepting.ensures.same.started
 
 pub returns-in_default-admitted-clause-count : goal.returns-in_default-admitted-clause-count
 returns-in_default-admitted-clause-count g c = ap vec_len c.prepare_link-accepting.ensures.links.0 ∙ c.reserve_link-accepting.ensures.same.count
@@ -86,17 +86,17 @@ returns-clause-tied g c =
     let same = c.reserve_link-accepting.ensures.same in
     let prepared = c.prepare_link-accepting.ensures in
     let begun = c.start_link-accepting.ensures in
-    ticks_on (shown_all g.I.Source.left g.O.Sink.held g.T.Clock.given c.prepare_link-accepting.result.0.started.items) _ (shown_admitted g.I.Source.left g.O.Sink.held g.T.Clock.given c.in-Some-admitted.admitted) _ _ begun.links
-    (same.ticks ∙ (c.requires.tied ∙ ap (λ l. ticks_of (shown_all g.I.Source.left g.O.Sink.held g.T.Clock.given l)) (sym (ap (λ v. v.items) prepared.links.0 ∙ same.started))))
+    ticks_on (shown_all g.I.Source.half g.O.Sink.half g.T.Clock.given c.prepare_link-accepting.result.0.started.items) _ (shown_admitted g.I.Source.half g.O.Sink.half g.T.Clock.given c.in-Some-admitted.admitted) _ _ begun.links
+    (same.ticks ∙ (c.requires.tied ∙ ap (λ l. ticks_of (shown_all g.I.Source.half g.O.Sink.half g.T.Clock.given l)) (sym (ap (λ v. v.items) prepared.links.0 ∙ same.started))))
     (ap (λ v. v.items) begun.ticks ∙ (rw c.in-Some-admitted.is at prepared.ticks))
 
 pub returns-clause-links : goal.returns-clause-links
 returns-clause-links g c =
     let same = c.reserve_link-accepting.ensures.same in
     let prepared = c.prepare_link-accepting.ensures in
-    links_on (shown_all g.I.Source.left g.O.Sink.held g.T.Clock.given c.prepare_link-accepting.result.0.started.items) _ (shown_admitted g.I.Source.left g.O.Sink.held g.T.Clock.given c.in-Some-admitted.admitted) _ _ c.start_link-accepting.ensures.links
-    (ap (λ l. links_of (shown_all g.I.Source.left g.O.Sink.held g.T.Clock.given l)) (ap (λ v. v.items) prepared.links.0 ∙ same.started))
-    (ap (λ l. accepted_as g.I.Source.left g.O.Sink.held g.T.Clock.given l) (rw c.in-Some-admitted.is at prepared.first))
+    links_on (shown_all g.I.Source.half g.O.Sink.half g.T.Clock.given c.prepare_link-accepting.result.0.started.items) _ (shown_admitted g.I.Source.half g.O.Sink.half g.T.Clock.given c.in-Some-admitted.admitted) _ _ c.start_link-accepting.ensures.links
+    (ap (λ l. links_of (shown_all g.I.Source.half g.O.Sink.half g.T.Clock.given l)) (ap (λ v. v.items) prepared.links.0 ∙ same.started))
+    (ap (λ l. accepted_as g.I.Source.half g.O.Sink.half g.T.Clock.given l) (rw c.in-Some-admitted.is at prepared.first))
 
 pub returns-clause-count : goal.returns-clause-count
 returns-clause-count g c = c.start_link-accepting.ensures.count ∙ ap (λ n. n + 1) (ap vec_len c.prepare_link-accepting.ensures.links.0 ∙ c.reserve_link-accepting.ensures.same.count)

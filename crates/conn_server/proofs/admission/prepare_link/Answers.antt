@@ -18,7 +18,7 @@ returns-clause-next g c =
       accepting = t.accepting;
       few = omega (arith, count, few);
       can = record { told = t.calls ∙ ready.told; peer_host = ready.peer_host; host = ready.host; time = ready.time; drawn = ready.drawn };
-      made = made_for g.I.Source.left g.O.Sink.held g.T.Clock.given g.H.Worker.seen g.H.Worker.state g.H.Worker.moves c.args.plan.now _ _ c.args.link _ c.of-first.ensures
+      made = made_for g.I.Source.half g.O.Sink.half g.T.Clock.given g.H.Worker.seen g.H.Worker.state g.H.Worker.moves c.args.plan.now _ _ c.args.link _ c.of-first.ensures
           (ap (λ n. n + 1) (sym count)) refl refl ready.terms
           (rw c.in-Some.is at t.asked) (rw c.in-Some.is at t.given)
           (g.H.Worker.seen hand, g.H.Worker.state hand, ready.untold, rw c.in-Some.is at t.seen, rw c.in-Some.is at t.state);

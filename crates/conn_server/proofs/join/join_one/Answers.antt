@@ -11,4 +11,4 @@ returns-clause-accepting g c =
     joined_accepting _ _ _ c.args.lock.now c.args.book.now c.args.accepting _ c.requires.accepting s.root.0 s.root.1 s.root.2 s.grown s.links s.count refl refl
 
 pub returns-clause-links : goal.returns-clause-links
-returns-clause-links g c = map_by (λ s. task_of s) (λ j. shown_admitted g.I.Source.left g.O.Sink.held g.T.Clock.given j.admitted) _ _ c.settle_at.ensures.tasks
+returns-clause-links g c = map_by (λ s. task_of s) (λ j. shown_admitted g.I.Source.half g.O.Sink.half g.T.Clock.given j.admitted) _ _ c.settle_at.ensures.tasks

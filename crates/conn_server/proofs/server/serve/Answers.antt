@@ -1,9 +1,9 @@
 use Rattle.std.proofs.Common.{rules, ◌∙◌, ℕ, ap, length, subst, sym}
 use Rattle.history.specs.Steps.{IsLegal}
 use Rattle.history.specs.declared.asks.SpaceConfig.{SpaceConfig}
+use Rattle.space.proofs.CollectLaws.{collects-all}
 use Rattle.conn_server.specs.Stops.{Stopped}
 use Rattle.conn_server.proofs.Closing.{links_reported, no_others, ticks_reported}
-use Rattle.conn_server.proofs.Histories.{collects_all}
 use Rattle.conn_server.proofs.server.serve.Goals as goal
 
 pub returns-clause-served : goal.returns-clause-served
@@ -16,7 +16,7 @@ returns-clause-served g c =
       config = settled.same;
       legal = subst (λ (config : SpaceConfig). IsLegal config c.close.result.events) (sym settled.same) settled.legal;
       begins = (settled.tail, settled.begins);
-      collects = collects_all c.close.result.configuration c.close.result.events;
+      collects = collects-all c.close.result.configuration c.close.result.events c.close.result.rows settled.shown;
       links = (
         all.0,
         all.2.0,

@@ -17,10 +17,10 @@ returns-clause-served g c =
     let j = c.join_links-root in
     let all = a.result.0.started in
     let w = view_of j.result.0.pass in
-    let left = g.L.In.Source.left in let held = g.L.Out.Sink.held in let given = g.L.Ticks.Clock.given in
+    let read_half = g.L.In.Source.half in let write_half = g.L.Out.Sink.half in let given = g.L.Ticks.Clock.given in
     let calls = g.G.Hand.Worker.calls in let seen = g.G.Hand.Worker.seen in let state = g.G.Hand.Worker.state in
     let may = g.G.Hand.Worker.may in let moves = g.G.Hand.Worker.moves in
-    let served = shown_all left held given all.items in
+    let served = shown_all read_half write_half given all.items in
     let same : length all.items ≡ length j.result.1.items = paired_length _ 1 all.items j.result.1.items j.ensures.links in
     let count = all.ok.0 ∙ same in (
       served,
@@ -30,7 +30,7 @@ returns-clause-served g c =
         made = j.ensures.made ∙ count;
         ticked = j.ensures.ticks.0;
         tied = ap (λ v. v.items) j.ensures.ticks.1 ∙ a.ensures.tied;
-        links = paired_known _ c.args.lock.now left held given _ _ calls (link_of left held given calls seen state may moves c.args.book.now c.args.plan.now) w 1 all.items j.result.1.items j.ensures.links;
+        links = paired_known _ c.args.lock.now read_half write_half given _ _ calls (link_of read_half write_half given calls seen state may moves c.args.book.now c.args.plan.now) w 1 all.items j.result.1.items j.ensures.links;
       },
       (a.ensures.links.0, a.ensures.links.1, subst (λ (n : ℕ). Stopped a.result.1 c.args.plan.now.count n a.ensures.links.0) count a.ensures.links.2),
     )

@@ -8,5 +8,5 @@ invariant-loop-code g l =
     record {
       lent : l.pull.source.ghost_name ≡ l.fn.pull.source.ghost_name;
       kept : l.reader.refused ≡ None;
-      comes : Comes (pull_state g.S.Source.left g.S.Source.faults l.fn.pull) (pull_state g.S.Source.left g.S.Source.faults l.pull) l.params l.code-index l.fn.reader.stand l.reader.stand l.args;
+      comes : Comes (pull_state g.S.Source.half l.fn.pull) (pull_state g.S.Source.half l.pull) l.params l.code-index l.fn.reader.stand l.reader.stand l.args;
     }

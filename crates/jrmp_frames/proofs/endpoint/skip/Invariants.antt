@@ -6,5 +6,5 @@ use Rattle.jrmp_frames.proofs.endpoint.skip.Given as goal
 abbrev pub invariant-loop-skipped : goal.invariant-loop-skipped
 invariant-loop-skipped g l =
     ((bytes : List ℕ) × (length bytes ≡ l._skipped)
-    × Takes (pull_state g.S.Source.left g.S.Source.faults l.initial.pull) (pull_state g.S.Source.left g.S.Source.faults l.pull) bytes)
+    × Takes (pull_state g.S.Source.half l.initial.pull) (pull_state g.S.Source.half l.pull) bytes)
     × (l.pull.source.ghost_name ≡ l.initial.pull.source.ghost_name)

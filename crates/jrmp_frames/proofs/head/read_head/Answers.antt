@@ -12,7 +12,7 @@ returns-in-Ok-clause-ready g c =
     (c.in-Ok.ensures.kept, c.read_start.new.bytes, h.0, h.1)
 
 pub returns-in-Ok-clause-gives : goal.returns-in-Ok-clause-gives
-returns-in-Ok-clause-gives g c = λ told. rw c.from_bytes.ensures (reads_gives g.S.Source.left g.S.Source.faults c.args.pull.now c.read_start.new.pull c.in-Ok.ensures.reads c.read_start.new.pull.within told)
+returns-in-Ok-clause-gives g c = λ told. rw c.from_bytes.ensures (reads_gives g.S.Source.half c.args.pull.now c.read_start.new.pull c.in-Ok.ensures.reads c.read_start.new.pull.within told)
 
 pub returns-in-Err-clause-gives : goal.returns-in-Err-clause-gives
-returns-in-Err-clause-gives g c = λ told. want_breaks_fails g.S.Source.left g.S.Source.faults c.args.pull.now c.read_start.new.pull c.in-Err.fault c.in-Err.ensures.stops c.read_start.new.pull.within told
+returns-in-Err-clause-gives g c = λ told. want_breaks_fails g.S.Source.half c.args.pull.now c.read_start.new.pull c.in-Err.fault c.in-Err.ensures.stops c.read_start.new.pull.within told

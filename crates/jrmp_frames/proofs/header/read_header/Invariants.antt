@@ -6,5 +6,5 @@ use Rattle.jrmp_frames.proofs.header.read_header.Given as goal
 -- So much of the header's start was taken.
 abbrev pub invariant-loop-wanted : goal.invariant-loop-wanted
 invariant-loop-wanted g l =
-    Takes (pull_state g.S.Source.left g.S.Source.faults l.initial.pull) (pull_state g.S.Source.left g.S.Source.faults l.pull) (take l.wanted-index header_start)
+    Takes (pull_state g.S.Source.half l.initial.pull) (pull_state g.S.Source.half l.pull) (take l.wanted-index header_start)
     × (l.pull.source.ghost_name ≡ l.initial.pull.source.ghost_name)

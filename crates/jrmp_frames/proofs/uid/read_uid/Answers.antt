@@ -26,4 +26,4 @@ pub returns-clause-gives : goal.returns-clause-gives
 returns-clause-gives g c =
     let all = c.loop-i.invariant.long in
     let whole = take_all c.loop-i.i c.loop-i.bytes (omega (arith, all, c.loop-i-test.false)) in
-    subst (λ (l : List ℕ). Takes (pull_state g.S.Source.left g.S.Source.faults c.args.pull.now) (pull_state g.S.Source.left g.S.Source.faults c.loop-i.pull) l) (whole ∙ sym c.uid_of.ensures.inverse) c.loop-i.invariant.takes
+    subst (λ (l : List ℕ). Takes (pull_state g.S.Source.half c.args.pull.now) (pull_state g.S.Source.half c.loop-i.pull) l) (whole ∙ sym c.uid_of.ensures.inverse) c.loop-i.invariant.takes

@@ -7,6 +7,6 @@ abbrev pub invariant-loop-i : goal.invariant-loop-i
 invariant-loop-i g l =
     record {
       long : length l.bytes ≡ 14;
-      takes : Takes (pull_state g.S.Source.left g.S.Source.faults l.initial.pull) (pull_state g.S.Source.left g.S.Source.faults l.pull) (take l.i l.bytes);
+      takes : Takes (pull_state g.S.Source.half l.initial.pull) (pull_state g.S.Source.half l.pull) (take l.i l.bytes);
       lent : l.pull.source.ghost_name ≡ l.initial.pull.source.ghost_name;
     }

@@ -12,7 +12,7 @@ returns-in-Answer-clause-exact g c options is =
 
 pub returns-in-Serve-clause-serves : goal.returns-in-Serve-clause-serves
 returns-in-Serve-clause-serves g c serve is =
-    serving_asked g.L.In.Source.left g.L.Out.Sink.held g.L.Ticks.Clock.given _ _ _ _ _ _ _ _ _ _ _ c.serve_input-served.result.report c.serve_input-served.result.end c.in-Serve.is is
+    serving_asked g.L.In.Source.half g.L.Out.Sink.half g.L.Ticks.Clock.given _ _ _ _ _ _ _ _ _ _ _ c.serve_input-served.result.report c.serve_input-served.result.end c.in-Serve.is is
     c.serve_input-served.ensures.served c.serve_input-served.ensures.alone c.serve_input-served.ensures.ends c.report_end-in-Serve.ensures.told refl
 
 pub returns-in-Replay-clause-replay_exact : goal.returns-in-Replay-clause-replay_exact

@@ -12,7 +12,7 @@ invariant-loop-done g l =
       lent : l.pull.source.ghost_name ≡ l.fn.pull.source.ghost_name;
       within : l.done ≤ length l.buf;
       long : length l.buf ≡ length l.fn.buf;
-      leads : Leads (inside short) (pull_state g.S.Source.left g.S.Source.faults l.fn.pull) (pull_state g.S.Source.left g.S.Source.faults l.pull) (λ end. run_at end (length l.fn.buf) l.fn.block) (λ end bs. behind (take l.done l.buf) (run_at end (length l.buf - l.done) l.block bs));
+      leads : Leads (inside short) (pull_state g.S.Source.half l.fn.pull) (pull_state g.S.Source.half l.pull) (λ end. run_at end (length l.fn.buf) l.fn.block) (λ end bs. behind (take l.done l.buf) (run_at end (length l.buf - l.done) l.block bs));
     }
 
 abbrev pub decreases-loop-done : goal.decreases-loop-done

@@ -10,7 +10,7 @@ abbrev pub invariant-loop-left : goal.invariant-loop-left
 invariant-loop-left g l =
     record {
       lent : l.pull.source.ghost_name ≡ l.fn.pull.source.ghost_name;
-      leads : Leads (inside short) (pull_state g.S.Source.left g.S.Source.faults l.fn.pull) (pull_state g.S.Source.left g.S.Source.faults l.pull) (λ end. run_at end l.n l.fn.block) (λ end bs. behind l.bytes (run_at end l.left l.block bs));
+      leads : Leads (inside short) (pull_state g.S.Source.half l.fn.pull) (pull_state g.S.Source.half l.pull) (λ end. run_at end l.n l.fn.block) (λ end bs. behind l.bytes (run_at end l.left l.block bs));
     }
 
 abbrev pub decreases-loop-left : goal.decreases-loop-left

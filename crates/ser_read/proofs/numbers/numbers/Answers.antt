@@ -15,12 +15,12 @@ pub returns-in_err-block-clause-stops : goal.returns-in_err-block-clause-stops
 returns-in_err-block-clause-stops g c = λ now. raised c.from_residual.result c.from_residual.ensures.1 (loop_stops (c.loop-left.invariant.leads now)
     (λ end bs f here is. run_err g.T.Number.read g.T.Number.WIDTH g.T.Number.value g.met.T.Number.spelled c.loop-left.numbers c.loop-left.left c.min-more.result now bs f (omega arith) (rw c.WIDTH.ensures at is)) c.in_err-block.ensures.stops)
 
-pub returns-in_err-append_run-clause-stops : goal.returns-in_err-append_run-clause-stops
-returns-in_err-append_run-clause-stops g c = λ now. raised c.from_residual-in_err-append_run.result c.from_residual-in_err-append_run.ensures.1 (loop_stops (c.loop-left.invariant.leads now)
+pub returns-in_err-append_block-clause-stops : goal.returns-in_err-append_block-clause-stops
+returns-in_err-append_block-clause-stops g c = λ now. raised c.from_residual-in_err-append_block.result c.from_residual-in_err-append_block.ensures.1 (loop_stops (c.loop-left.invariant.leads now)
     (λ end bs f here is. run_err g.T.Number.read g.T.Number.WIDTH g.T.Number.value g.met.T.Number.spelled c.loop-left.numbers c.loop-left.left c.min-more.result now bs f (omega arith) (rw c.WIDTH.ensures at is)) (took c.in_ok-block.ensures.reads))
 
-pub append_run-requires : goal.append_run-requires
-append_run-requires g c =
+pub append_block-requires-clause-long : goal.append_block-requires-clause-long
+append_block-requires-clause-long g c =
     let long = block_long (c.min-more.result * c.WIDTH.result) c.in_ok-block.block c.in_ok-block.ensures.reads in
     rw c.as_slice.ensures (rw c.WIDTH.ensures at long)
 
@@ -28,7 +28,7 @@ pub loop-left-preserved : goal.loop-left-preserved
 loop-left-preserved g c = record {
   lent = c.in_ok-block.ensures.lent ∙ c.loop-left.invariant.lent;
   leads = λ now. leads_more _ (c.loop-left.invariant.leads now) c.in_ok-block.ensures.reads
-      (λ end bs rest here h. rw (c.in_ok-append_run.ensures, c.as_slice.ensures)
+      (λ end bs rest here h. rw (c.in_ok-append_block.ensures, c.as_slice.ensures)
       (run_next g.T.Number.read g.T.Number.WIDTH g.T.Number.value g.met.T.Number.spelled c.loop-left.numbers c.loop-left.left c.min-more.result now bs c.in_ok-block.block rest (omega arith) (rw c.WIDTH.ensures at h)))
       (λ end bs here is. run_err g.T.Number.read g.T.Number.WIDTH g.T.Number.value g.met.T.Number.spelled c.loop-left.numbers c.loop-left.left c.min-more.result now bs short (omega arith) (rw c.WIDTH.ensures at is));
 }

@@ -9,7 +9,7 @@ abbrev pub invariant-loop-left : goal.invariant-loop-left
 invariant-loop-left g l =
     record {
       lent : l.pull.source.ghost_name ≡ l.fn.pull.source.ghost_name;
-      leads : (now : Progress) → Leads short (pull_state g.S.Source.left g.S.Source.faults l.fn.pull) (pull_state g.S.Source.left g.S.Source.faults l.pull) (λ end. many_at g.T.Number.read l.n now) (λ end bs. front_of l.numbers (many_at g.T.Number.read l.left now bs));
+      leads : (now : Progress) → Leads short (pull_state g.S.Source.half l.fn.pull) (pull_state g.S.Source.half l.pull) (λ end. many_at g.T.Number.read l.n now) (λ end bs. front_of l.numbers (many_at g.T.Number.read l.left now bs));
     }
 
 abbrev pub decreases-loop-left : goal.decreases-loop-left

@@ -9,5 +9,5 @@ abbrev pub invariant-loop : goal.invariant-loop
 invariant-loop g l =
     record {
       lent : l.pull.source.ghost_name ≡ l.fn.pull.source.ghost_name;
-      leads : (now : Progress) → Leads short (pull_state g.S.Source.left g.S.Source.faults l.fn.pull) (pull_state g.S.Source.left g.S.Source.faults l.pull) (λ end. many_at (plain (short_at end)) l.n now) (λ end bs. front_of l.names (many_at (plain (short_at end)) (l.n - l.counter) now bs));
+      leads : (now : Progress) → Leads short (pull_state g.S.Source.half l.fn.pull) (pull_state g.S.Source.half l.pull) (λ end. many_at (plain (short_at end)) l.n now) (λ end bs. front_of l.names (many_at (plain (short_at end)) (l.n - l.counter) now bs));
     }

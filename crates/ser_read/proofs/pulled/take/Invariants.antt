@@ -9,7 +9,7 @@ abbrev pub invariant-loop-left : goal.invariant-loop-left
 invariant-loop-left g l =
     record {
       lent : l.pull.source.ghost_name ≡ l.fn.pull.source.ghost_name;
-      leads : Leads short (pull_state g.S.Source.left g.S.Source.faults l.fn.pull) (pull_state g.S.Source.left g.S.Source.faults l.pull) (λ end. take_at l.n) (λ end bs. onto l.bytes (take_at l.left bs));
+      leads : Leads short (pull_state g.S.Source.half l.fn.pull) (pull_state g.S.Source.half l.pull) (λ end. take_at l.n) (λ end bs. onto l.bytes (take_at l.left bs));
     }
 
 abbrev pub decreases-loop-left : goal.decreases-loop-left

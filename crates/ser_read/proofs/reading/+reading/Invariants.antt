@@ -103,7 +103,7 @@ invariant-arrays::slots-loop g l =
       lent : l.pull.source.ghost_name ≡ l.fn.pull.source.ghost_name;
       grows : length l.fn.table.nodes.items ≤ length l.table.nodes.items;
       unread : l.table.unread.items ≡ l.fn.table.unread.items;
-      leads : Leads short (pull_state g.S.Source.left g.S.Source.faults l.fn.pull) (pull_state g.S.Source.left g.S.Source.faults l.pull) (λ end. many_at (slot_at end l.left Reference l.fn.table.unread.items) l.n (now_of l.fn.table)) (λ end bs. front_of l.slots (many_at (slot_at end l.left Reference l.fn.table.unread.items) (l.n - l.counter) (now_of l.table) bs));
+      leads : Leads short (pull_state g.S.Source.half l.fn.pull) (pull_state g.S.Source.half l.pull) (λ end. many_at (slot_at end l.left Reference l.fn.table.unread.items) l.n (now_of l.fn.table)) (λ end bs. front_of l.slots (many_at (slot_at end l.left Reference l.fn.table.unread.items) (l.n - l.counter) (now_of l.table) bs));
     }
 
 abbrev pub invariant-descriptions::fields-loop : goal.invariant-descriptions::fields-loop
@@ -112,7 +112,7 @@ invariant-descriptions::fields-loop g l =
       lent : l.pull.source.ghost_name ≡ l.fn.pull.source.ghost_name;
       grows : length l.fn.table.nodes.items ≤ length l.table.nodes.items;
       unread : l.table.unread.items ≡ l.fn.table.unread.items;
-      leads : Leads short (pull_state g.S.Source.left g.S.Source.faults l.fn.pull) (pull_state g.S.Source.left g.S.Source.faults l.pull) (λ end. many_at (field_at end l.at (slot_at end l.left Text l.fn.table.unread.items)) l.n (now_of l.fn.table)) (λ end bs. front_of l.fields.items (many_at (field_at end l.at (slot_at end l.left Text l.fn.table.unread.items)) (l.n - l.counter) (now_of l.table) bs));
+      leads : Leads short (pull_state g.S.Source.half l.fn.pull) (pull_state g.S.Source.half l.pull) (λ end. many_at (field_at end l.at (slot_at end l.left Text l.fn.table.unread.items)) l.n (now_of l.fn.table)) (λ end bs. front_of l.fields.items (many_at (field_at end l.at (slot_at end l.left Text l.fn.table.unread.items)) (l.n - l.counter) (now_of l.table) bs));
     }
 
 abbrev pub invariant-objects::values-loop-code : goal.invariant-objects::values-loop-code
@@ -121,7 +121,7 @@ invariant-objects::values-loop-code g l =
       lent : l.pull.source.ghost_name ≡ l.fn.pull.source.ghost_name;
       grows : length l.fn.table.nodes.items ≤ length l.table.nodes.items;
       unread : l.table.unread.items ≡ l.fn.table.unread.items;
-      leads : Leads short (pull_state g.S.Source.left g.S.Source.faults l.fn.pull) (pull_state g.S.Source.left g.S.Source.faults l.pull) (λ end. values_by (slot_at end l.left Reference l.fn.table.unread.items) l.codes (now_of l.fn.table)) (λ end bs. front_of l.values.items (all_at (value_at (slot_at end l.left Reference l.fn.table.unread.items)) (drop l.code-index l.codes) (now_of l.table) bs));
+      leads : Leads short (pull_state g.S.Source.half l.fn.pull) (pull_state g.S.Source.half l.pull) (λ end. values_by (slot_at end l.left Reference l.fn.table.unread.items) l.codes (now_of l.fn.table)) (λ end bs. front_of l.values.items (all_at (value_at (slot_at end l.left Reference l.fn.table.unread.items)) (drop l.code-index l.codes) (now_of l.table) bs));
     }
 
 abbrev pub invariant-objects::parts-loop-row : goal.invariant-objects::parts-loop-row
@@ -130,7 +130,7 @@ invariant-objects::parts-loop-row g l =
       lent : l.pull.source.ghost_name ≡ l.fn.pull.source.ghost_name;
       grows : length l.fn.table.nodes.items ≤ length l.table.nodes.items;
       unread : l.table.unread.items ≡ l.fn.table.unread.items;
-      leads : Leads short (pull_state g.S.Source.left g.S.Source.faults l.fn.pull) (pull_state g.S.Source.left g.S.Source.faults l.pull) (λ end. parts_by end (slot_at end l.left Reference l.fn.table.unread.items) l.rows (now_of l.fn.table)) (λ end bs. front_of l.parts.items (all_at (part_by end (slot_at end l.left Reference l.fn.table.unread.items)) (drop l.row-index l.rows) (now_of l.table) bs));
+      leads : Leads short (pull_state g.S.Source.half l.fn.pull) (pull_state g.S.Source.half l.pull) (λ end. parts_by end (slot_at end l.left Reference l.fn.table.unread.items) l.rows (now_of l.fn.table)) (λ end bs. front_of l.parts.items (all_at (part_by end (slot_at end l.left Reference l.fn.table.unread.items)) (drop l.row-index l.rows) (now_of l.table) bs));
     }
 
 abbrev pub invariant-annotations::items-loop-items : goal.invariant-annotations::items-loop-items
@@ -139,7 +139,7 @@ invariant-annotations::items-loop-items g l =
       lent : l.pull.source.ghost_name ≡ l.fn.pull.source.ghost_name;
       grows : length l.fn.table.nodes.items ≤ length l.table.nodes.items;
       unread : l.table.unread.items ≡ l.fn.table.unread.items;
-      slack : Slack (pull_state g.S.Source.left g.S.Source.faults l.fn.pull) (pull_state g.S.Source.left g.S.Source.faults l.pull) (λ end. (slot_at end l.left Reference l.fn.table.unread.items)) true (now_of l.fn.table) (now_of l.table) l.items.items;
+      slack : Slack (pull_state g.S.Source.half l.fn.pull) (pull_state g.S.Source.half l.pull) (λ end. (slot_at end l.left Reference l.fn.table.unread.items)) true (now_of l.fn.table) (now_of l.table) l.items.items;
     }
 
 abbrev pub decreases-annotations::items-loop-items : goal.decreases-annotations::items-loop-items

@@ -11,5 +11,5 @@ invariant-loop-want g l =
     record {
       lent : l.pull.source.ghost_name ≡ l.fn.pull.source.ghost_name;
       kept : l.reader.refused ≡ None;
-      leads : Leads (inside short) (pull_state g.S.Source.left g.S.Source.faults l.fn.pull) (pull_state g.S.Source.left g.S.Source.faults l.pull) (λ end. serve end l.wants l.fn.reader.stand) (λ end bs. given_before l.answers (serve end (drop l.want-index l.wants) l.reader.stand bs));
+      leads : Leads (inside short) (pull_state g.S.Source.half l.fn.pull) (pull_state g.S.Source.half l.pull) (λ end. serve end l.wants l.fn.reader.stand) (λ end bs. given_before l.answers (serve end (drop l.want-index l.wants) l.reader.stand bs));
     }

@@ -11,7 +11,7 @@ returns-clause-reads g c =
 
 pub from_parts-requires : goal.from_parts-requires
 from_parts-requires g c =
-    let reads : ReadsAll (pull_state g.S.Source.left g.S.Source.faults c.args.pull.now) (pull_state g.S.Source.left g.S.Source.faults c.items_to_end.new.pull) stream_at (c.into_nodes.result, c.in_ok-items.items) =
+    let reads : ReadsAll (pull_state g.S.Source.half c.args.pull.now) (pull_state g.S.Source.half c.items_to_end.new.pull) stream_at (c.into_nodes.result, c.in_ok-items.items) =
     rw c.into_nodes.ensures (stream_reads c.in_ok-items.items (now_of c.items_to_end.new.table) c.in_ok-magic.ensures.reads (rw (c.new-table.ensures.nodes, c.new-table.ensures.parts, c.new-table.ensures.unread) at c.in_ok-items.ensures.reads)) in
     ∣ graph_of reads ∣₁
 

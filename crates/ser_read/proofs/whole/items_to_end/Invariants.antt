@@ -11,7 +11,7 @@ invariant-loop-items g l =
     record {
       lent : l.pull.source.ghost_name ≡ l.fn.pull.source.ghost_name;
       unread : l.table.unread.items ≡ l.fn.table.unread.items;
-      slack : Slack (pull_state g.S.Source.left g.S.Source.faults l.fn.pull) (pull_state g.S.Source.left g.S.Source.faults l.pull) (λ end. (slot_at end 200 Reference l.fn.table.unread.items)) false (now_of l.fn.table) (now_of l.table) l.items.items;
+      slack : Slack (pull_state g.S.Source.half l.fn.pull) (pull_state g.S.Source.half l.pull) (λ end. (slot_at end 200 Reference l.fn.table.unread.items)) false (now_of l.fn.table) (now_of l.table) l.items.items;
     }
 
 abbrev pub decreases-loop-items : goal.decreases-loop-items

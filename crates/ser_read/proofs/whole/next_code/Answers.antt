@@ -3,4 +3,4 @@ use Rattle.ser_read.proofs.Breaking.{byte_comes}
 use Rattle.ser_read.proofs.whole.next_code.Goals as goal
 
 pub returns-in-Ok-clause-reads : goal.returns-in-Ok-clause-reads
-returns-in-Ok-clause-reads g c = byte_comes (pull_state g.S.Source.left g.S.Source.faults c.args.pull.now) (pull_state g.S.Source.left g.S.Source.faults c.byte.new.self) _ c.in-Ok.ensures.gives
+returns-in-Ok-clause-reads g c = byte_comes (pull_state g.S.Source.half c.args.pull.now) (pull_state g.S.Source.half c.byte.new.self) _ c.in-Ok.ensures.gives

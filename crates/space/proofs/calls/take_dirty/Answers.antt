@@ -1,4 +1,4 @@
-use Rattle.std.proofs.Common.{◌≡◌, ℕ, ◌∷◌, ◌⊎◌, List, arith, max, sym, subst, rules, w64, FitsSigned, Option, Some, None}
+use Rattle.std.proofs.Common.{◌≡◌, ℕ, ◌∷◌, ◌⊎◌, List, arith, max, sym, subst, rules, w64, to_z, of_z, FitsSigned, Option, Some, None}
 use Rattle.std.specs.Prelude.{ℤ}
 use Rattle.std.proofs.lemmas.Int.{to_z-of_z}
 use Rattle.object_ids.specs.declared.ids.ObjId.{ObjId}
@@ -14,29 +14,36 @@ use Rattle.space.proofs.calls.take_dirty.Goals as goal
 pub returns-in-Ok-clause-ok : goal.returns-in-Ok-clause-ok
 returns-in-Ok-clause-ok c lease moment calls s le =
     let fits : FitsSigned w64 c.args.number.now = search rules in
+    let short : FitsSigned w64 c.args.asked.now = search rules in
     let time : max c.args.now moment ≡ c.args.now = omega arith in
-    let T : ℕ → ℤ → List ObjId → Type 0 = λ t n os. StandsFor lease c.dirty.new.self t (dirty_call t c.args.client.now n os ∷ calls) in
-    let P : ℤ → Type 0 = λ n. T (max c.args.now moment) n c.args.live.now in
-    let M : ℕ → Type 0 = λ t. T t c.args.number.now c.args.live.now in
-    subst M time (subst P (to_z-of_z w64 c.args.number.now fits) (c.in-Ok.ensures.ok lease moment calls s))
+    let T : ℕ → ℤ → ℤ → List ObjId → Type 0 = λ t n a os. StandsFor lease c.dirty.new.self t (dirty_call t c.args.client.now n a os ∷ calls) in
+    let P : ℤ → Type 0 = λ n. T (max c.args.now moment) n (to_z w64 (of_z w64 c.args.asked.now)) c.args.live.now in
+    let A : ℤ → Type 0 = λ a. T (max c.args.now moment) c.args.number.now a c.args.live.now in
+    let M : ℕ → Type 0 = λ t. T t c.args.number.now c.args.asked.now c.args.live.now in
+    subst M time (subst A (to_z-of_z w64 c.args.asked.now short) (subst P (to_z-of_z w64 c.args.number.now fits) (c.in-Ok.ensures.ok lease moment calls s)))
 
 pub returns-in-Ok-clause-refusal : goal.returns-in-Ok-clause-refusal
 returns-in-Ok-clause-refusal c lease moment calls s le =
     let fits : FitsSigned w64 c.args.number.now = search rules in
+    let short : FitsSigned w64 c.args.asked.now = search rules in
     let time : max c.args.now moment ≡ c.args.now = omega arith in
-    let reported : ℕ → ℤ → List ObjId → Option Refused = λ t n os. call_refusal lease t calls (dirty_call t c.args.client.now n os) in
-    let P : ℤ → Type 0 = λ n. reported (max c.args.now moment) n c.args.live.now ≡ None in
-    let M : ℕ → Type 0 = λ t. reported t c.args.number.now c.args.live.now ≡ None in
-    subst M time (subst P (to_z-of_z w64 c.args.number.now fits) (dirty-taken _ _ _ (c.in-Ok.ensures.clients lease moment calls s) (c.in-Ok.ensures.pairs lease moment calls s)))
+    let reported : ℕ → ℤ → ℤ → List ObjId → Option Refused = λ t n a os. call_refusal lease t calls (dirty_call t c.args.client.now n a os) in
+    let P : ℤ → Type 0 = λ n. reported (max c.args.now moment) n (to_z w64 (of_z w64 c.args.asked.now)) c.args.live.now ≡ None in
+    let A : ℤ → Type 0 = λ a. reported (max c.args.now moment) c.args.number.now a c.args.live.now ≡ None in
+    let M : ℕ → Type 0 = λ t. reported t c.args.number.now c.args.asked.now c.args.live.now ≡ None in
+    subst M time (subst A (to_z-of_z w64 c.args.asked.now short) (subst P (to_z-of_z w64 c.args.number.now fits)
+    (dirty-taken _ _ _ (c.in-Ok.ensures.clients lease moment calls s) (c.in-Ok.ensures.pairs lease moment calls s))))
 
 pub returns-in-Err-clause-refusal : goal.returns-in-Err-clause-refusal
 returns-in-Err-clause-refusal c lease moment calls s le =
     let fits : FitsSigned w64 c.args.number.now = search rules in
+    let short : FitsSigned w64 c.args.asked.now = search rules in
     let time : max c.args.now moment ≡ c.args.now = omega arith in
-    let reported : ℕ → ℤ → List ObjId → Option Refused = λ t n os. call_refusal lease t calls (dirty_call t c.args.client.now n os) in
-    let A : ℕ → ℤ → List ObjId → Refused → Type 0 = λ t n os r. (reported t n os ≡ Some r) ⊎ (r ≡ OutOfMemory) in
-    let P : ℤ → Type 0 = λ n. A (max c.args.now moment) n c.args.live.now (refused_for c.in-Err.fault) in
-    let M : ℕ → Type 0 = λ t. A t c.args.number.now c.args.live.now (refused_for c.in-Err.fault) in
-    let R : Refused → Type 0 = λ r. A c.args.now c.args.number.now c.args.live.now r in
-    subst R (sym c.refused_for.ensures) (subst M time (subst P (to_z-of_z w64 c.args.number.now fits)
-    (dirty-refused _ _ c.in-Err.fault (c.in-Err.ensures.clients lease moment calls s) (c.in-Err.ensures.pairs lease moment calls s))))
+    let reported : ℕ → ℤ → ℤ → List ObjId → Option Refused = λ t n a os. call_refusal lease t calls (dirty_call t c.args.client.now n a os) in
+    let E : ℕ → ℤ → ℤ → List ObjId → Refused → Type 0 = λ t n a os r. (reported t n a os ≡ Some r) ⊎ (r ≡ OutOfMemory) in
+    let P : ℤ → Type 0 = λ n. E (max c.args.now moment) n (to_z w64 (of_z w64 c.args.asked.now)) c.args.live.now (refused_for c.in-Err.fault) in
+    let A : ℤ → Type 0 = λ a. E (max c.args.now moment) c.args.number.now a c.args.live.now (refused_for c.in-Err.fault) in
+    let M : ℕ → Type 0 = λ t. E t c.args.number.now c.args.asked.now c.args.live.now (refused_for c.in-Err.fault) in
+    let R : Refused → Type 0 = λ r. E c.args.now c.args.number.now c.args.asked.now c.args.live.now r in
+    subst R (sym c.refused_for.ensures) (subst M time (subst A (to_z-of_z w64 c.args.asked.now short) (subst P (to_z-of_z w64 c.args.number.now fits)
+    (dirty-refused _ _ c.in-Err.fault (c.in-Err.ensures.clients lease moment calls s) (c.in-Err.ensures.pairs lease moment calls s)))))

@@ -1,4 +1,4 @@
-use Rattle.std.proofs.Common.{◌≡◌, ◌<◌, ℕ, ◌∷◌, ◌++◌, [], length, ap, ◌∙◌, subst, sym, arith, None, Ok}
+use Rattle.std.proofs.Common.{◌<◌, ℕ, ◌∷◌, ◌++◌, [], length, ap, ◌∙◌, subst, sym, arith, Ok}
 use Rattle.std.specs.Prelude.{Result}
 use Rattle.history.specs.declared.asks.Ask.TheVariants.{Abandon}
 use Rattle.history.specs.declared.replies.Refused.{Refused}
@@ -10,8 +10,8 @@ use Rattle.space.specs.Acts.{event_of}
 use Rattle.space.specs.Built.{SpaceHistory}
 use Rattle.ports.specs.Balance.{AreOfOthers}
 use Rattle.turn_lock.specs.declared.view.SeatState.TheVariants.{Idle}
-use Rattle.turn_lock.specs.Rule.{Sat, in_hand, in_state, space_with, seat_after_answer}
-use Rattle.turn_lock.proofs.Turning.{runs_there, space_is, turned_at}
+use Rattle.turn_lock.specs.Rule.{Sat, in_state}
+use Rattle.turn_lock.proofs.Turning.{collected_rows, runs_there, space_is, turned_at, may_publish, has_published, may_leave}
 use Rattle.turn_lock.proofs.steps.abandon.Goals as goal
 
 pub abandon-requires-clause-running : goal.abandon-requires-clause-running
@@ -28,17 +28,12 @@ publish-requires-clause-called g c =
     let x = c.enter-space.ensures.entered in
     let v = c.args.seat.now.me.0 in
     let e = event_of c.args.by c.args.moment (Abandon c.args.object) in
+    let answer : Result Turn Refused = Ok (turn_of v.config x.1 e) in
     let s2 : SpaceHistory = c.abandon.new.self in
     let idle = c.requires.idle.2 in
     let part : 0 < v.parts = omega (arith, idle) in
-    let is = space_is s2 v.config (x.1 ++ e ∷ []) (c.abandon.ensures.config ∙ ap (λ (s : SpaceHistory). s.configuration) x.3) (c.abandon.ensures.events ∙ ap (λ (s : SpaceHistory). s.events ++ e ∷ []) x.3) in (
-      x.0,
-      x.1,
-      ap (λ (m : Sat). m.0.state) x.4,
-      subst (λ (m : Sat). 0 < m.0.parts) (sym x.4) part,
-      c.requires.number ∙ ap (λ (m : Sat). m.0.number) (sym x.4),
-      is ∙ ap (λ (m : Sat). space_with m.0.config (x.1 ++ e ∷ [])) (sym x.4),
-    )
+    let is = space_is s2 v.config (x.1 ++ e ∷ []) (collected_rows v.config x.1 c.enter-space.result s2 e x.3 c.abandon.ensures.config c.abandon.ensures.collector) (c.abandon.ensures.config ∙ ap (λ (s : SpaceHistory). s.configuration) x.3) (c.abandon.ensures.events ∙ ap (λ (s : SpaceHistory). s.events ++ e ∷ []) x.3) in
+    may_publish c.enter-space.new.seat.me v x.0 x.1 c.of-taken.result.value e answer s2 x.4 c.of-taken.ensures c.requires.number part is
 
 pub leave-requires-clause-called : goal.leave-requires-clause-called
 leave-requires-clause-called g c =
@@ -49,16 +44,9 @@ leave-requires-clause-called g c =
     let s2 : SpaceHistory = c.abandon.new.self in
     let idle = c.requires.idle.2 in
     let part : 0 < v.parts = omega (arith, idle) in
-    let is = space_is s2 v.config (x.1 ++ e ∷ []) (c.abandon.ensures.config ∙ ap (λ (s : SpaceHistory). s.configuration) x.3) (c.abandon.ensures.events ∙ ap (λ (s : SpaceHistory). s.events ++ e ∷ []) x.3) in
-    let told : c.publish.new.seat.me ≡ (seat_after_answer (in_hand v x.0 x.1) x.0 x.1 e answer, (0, None) ∷ []) =
-    c.publish.ensures.view x.0 x.1 (ap (λ (m : Sat). m.0.state) x.4) ∙ ap (λ (m : Sat). (seat_after_answer m.0 x.0 x.1 e answer, m.1)) x.4 in (
-      x.0,
-      x.1 ++ e ∷ [],
-      ap (λ (m : Sat). m.0.state) told,
-      subst (λ (m : Sat). 0 < m.0.parts) (sym told) part,
-      ap (λ (m : Sat). m.1) told,
-      is ∙ ap (λ (m : Sat). space_with m.0.config (x.1 ++ e ∷ [])) (sym told),
-    )
+    let is = space_is s2 v.config (x.1 ++ e ∷ []) (collected_rows v.config x.1 c.enter-space.result s2 e x.3 c.abandon.ensures.config c.abandon.ensures.collector) (c.abandon.ensures.config ∙ ap (λ (s : SpaceHistory). s.configuration) x.3) (c.abandon.ensures.events ∙ ap (λ (s : SpaceHistory). s.events ++ e ∷ []) x.3) in
+    let told = has_published c.enter-space.new.seat.me c.publish.new.seat.me v x.0 x.1 c.of-taken.result.value e answer x.4 c.of-taken.ensures c.publish.ensures.view in
+    may_leave c.publish.new.seat.me v x.0 x.1 e answer s2 told part is
 
 pub returns-clause-turned : goal.returns-clause-turned
 returns-clause-turned g c =
@@ -67,8 +55,7 @@ returns-clause-turned g c =
     let e = event_of c.args.by c.args.moment (Abandon c.args.object) in
     let answer : Result Turn Refused = Ok (turn_of v.config x.1 e) in
     let s2 : SpaceHistory = c.abandon.new.self in
-    let told : c.publish.new.seat.me ≡ (seat_after_answer (in_hand v x.0 x.1) x.0 x.1 e answer, (0, None) ∷ []) =
-    c.publish.ensures.view x.0 x.1 (ap (λ (m : Sat). m.0.state) x.4) ∙ ap (λ (m : Sat). (seat_after_answer m.0 x.0 x.1 e answer, m.1)) x.4 in
+    let told = has_published c.enter-space.new.seat.me c.publish.new.seat.me v x.0 x.1 c.of-taken.result.value e answer x.4 c.of-taken.ensures c.publish.ensures.view in
     let step : Step v.config x.1 e answer s2.events =
     subst (λ (s : SpaceHistory). Step s.configuration s.events e (Ok (turn_of s.configuration s.events e)) s2.events) x.3 c.abandon.ensures.step in
     let there = runs_there v.config c.args.by v.seen x.2.others x.1 c.args.object (subst (λ (n : ℕ). AreOfOthers n x.2.others) (sym c.requires.number) x.2.apart) x.2.after in

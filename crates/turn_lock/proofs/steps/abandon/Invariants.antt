@@ -1,6 +1,5 @@
-use Rattle.space.specs.Acts.{event_of}
 use Rattle.turn_lock.proofs.steps.abandon.Given as goal
 
 -- The event that is published.
 abbrev pub ghosts-publish : goal.ghosts-publish
-ghosts-publish g a = record { event = event_of a.by a.moment a.ask.now }
+ghosts-publish g a = record { event = a.event.now.value }

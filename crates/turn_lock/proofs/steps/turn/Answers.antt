@@ -1,66 +1,55 @@
-use Rattle.std.proofs.Common.{◌≡◌, ◌<◌, ◌∷◌, [], ap, ◌∙◌, subst, sym, arith, None}
-use Rattle.space.specs.Acts.{event_of}
+use Rattle.std.proofs.Common.{◌<◌, ap, ◌∙◌, subst, arith}
+use Rattle.history.specs.Running.{running_calls_by}
+use Rattle.history.specs.Steps.{Step}
+use Rattle.history.specs.Table.{places}
 use Rattle.space.specs.Built.{SpaceHistory}
+use Rattle.space.specs.TurnAnswers.{IsAnswerTo}
 use Rattle.turn_lock.specs.declared.view.SeatState.TheVariants.{Idle}
-use Rattle.turn_lock.specs.Rule.{Sat, answer_of, events_after, in_hand, in_state, space_with, seat_after_answer}
-use Rattle.turn_lock.proofs.Turning.{noted_event, noted_row, noted_step, after_step, space_is, turned_at}
+use Rattle.turn_lock.specs.Rule.{Sat, events_after, in_state}
+use Rattle.turn_lock.proofs.Turning.{after_step, space_is, answered_rows, turned_at, may_publish, has_published, may_leave}
 use Rattle.turn_lock.proofs.steps.turn.Goals as goal
 
-pub publish_noted-requires-clause-called : goal.publish_noted-requires-clause-called
-publish_noted-requires-clause-called g c =
+pub publish_answer-requires-clause-called : goal.publish_answer-requires-clause-called
+publish_answer-requires-clause-called g c =
     let x = c.enter-space.ensures.entered in
     let v = c.args.seat.now.me.0 in
-    let e = event_of c.args.by c.args.moment c.args.ask in
-    let n = c.turn_noted-noted.result in
-    let s2 : SpaceHistory = c.turn_noted-noted.new.self in
+    let e = c.args.event in
+    let answer = c.turn-answer.result in
+    let s2 : SpaceHistory = c.turn-answer.new.self in
     let idle = c.requires.idle.2 in
     let part : 0 < v.parts = omega (arith, idle) in
-    let step = noted_step n v.config x.1 c.enter-space.result s2 e x.3 c.turn_noted-noted.ensures.step c.turn_noted-noted.ensures.err in
-    let is = space_is s2 v.config (events_after x.1 e (answer_of n)) (c.turn_noted-noted.ensures.config ∙ ap (λ (s : SpaceHistory). s.configuration) x.3) (after_step v.config x.1 s2.events e (answer_of n) step) in (
-      x.0,
-      x.1,
-      e,
-      ap (λ (m : Sat). m.0.state) x.4,
-      subst (λ (m : Sat). 0 < m.0.parts) (sym x.4) part,
-      c.requires.number ∙ ap (λ (m : Sat). m.0.number) (sym x.4),
-      noted_event n c.args.by c.args.moment c.args.ask c.turn_noted-noted.ensures.noted,
-      is ∙ ap (λ (m : Sat). space_with m.0.config (events_after x.1 e (answer_of n))) (sym x.4),
-    )
+    let step : Step v.config x.1 e answer s2.events = subst (λ (s : SpaceHistory). Step s.configuration s.events e answer s2.events) x.3 c.turn-answer.ensures.step in
+    let is = space_is s2 v.config (events_after x.1 e answer)
+    (answered_rows answer v.config x.1 c.enter-space.result s2 e x.3 c.turn-answer.ensures.config c.turn-answer.ensures.collector c.turn-answer.ensures.err)
+    (c.turn-answer.ensures.config ∙ ap (λ (s : SpaceHistory). s.configuration) x.3) (after_step v.config x.1 s2.events e answer step) in
+    may_publish c.enter-space.new.seat.me v x.0 x.1 c.of-taken.result.value e answer s2 x.4 c.of-taken.ensures c.requires.number part is
 
 pub leave-requires-clause-called : goal.leave-requires-clause-called
 leave-requires-clause-called g c =
     let x = c.enter-space.ensures.entered in
     let v = c.args.seat.now.me.0 in
-    let e = event_of c.args.by c.args.moment c.args.ask in
-    let n = c.turn_noted-noted.result in
-    let s2 : SpaceHistory = c.turn_noted-noted.new.self in
+    let e = c.args.event in
+    let answer = c.turn-answer.result in
+    let s2 : SpaceHistory = c.turn-answer.new.self in
     let idle = c.requires.idle.2 in
     let part : 0 < v.parts = omega (arith, idle) in
-    let step = noted_step n v.config x.1 c.enter-space.result s2 e x.3 c.turn_noted-noted.ensures.step c.turn_noted-noted.ensures.err in
-    let is = space_is s2 v.config (events_after x.1 e (answer_of n)) (c.turn_noted-noted.ensures.config ∙ ap (λ (s : SpaceHistory). s.configuration) x.3) (after_step v.config x.1 s2.events e (answer_of n) step) in
-    let told : c.publish_noted.new.seat.me ≡ (seat_after_answer (in_hand v x.0 x.1) x.0 x.1 e (answer_of n), (0, None) ∷ []) =
-    c.publish_noted.ensures.view x.0 x.1 e (ap (λ (m : Sat). m.0.state) x.4) (noted_event n c.args.by c.args.moment c.args.ask c.turn_noted-noted.ensures.noted)
-    ∙ ap (λ (m : Sat). (seat_after_answer m.0 x.0 x.1 e (answer_of n), m.1)) x.4 in (
-      x.0,
-      events_after x.1 e (answer_of n),
-      ap (λ (m : Sat). m.0.state) told,
-      subst (λ (m : Sat). 0 < m.0.parts) (sym told) part,
-      ap (λ (m : Sat). m.1) told,
-      is ∙ ap (λ (m : Sat). space_with m.0.config (events_after x.1 e (answer_of n))) (sym told),
-    )
+    let step : Step v.config x.1 e answer s2.events = subst (λ (s : SpaceHistory). Step s.configuration s.events e answer s2.events) x.3 c.turn-answer.ensures.step in
+    let is = space_is s2 v.config (events_after x.1 e answer)
+    (answered_rows answer v.config x.1 c.enter-space.result s2 e x.3 c.turn-answer.ensures.config c.turn-answer.ensures.collector c.turn-answer.ensures.err)
+    (c.turn-answer.ensures.config ∙ ap (λ (s : SpaceHistory). s.configuration) x.3) (after_step v.config x.1 s2.events e answer step) in
+    let told = has_published c.enter-space.new.seat.me c.publish_answer.new.seat.me v x.0 x.1 c.of-taken.result.value e answer x.4 c.of-taken.ensures c.publish_answer.ensures.view in
+    may_leave c.publish_answer.new.seat.me v x.0 x.1 e answer s2 told part is
 
 pub returns-clause-turned : goal.returns-clause-turned
 returns-clause-turned g c =
     let x = c.enter-space.ensures.entered in
     let v = c.args.seat.now.me.0 in
-    let e = event_of c.args.by c.args.moment c.args.ask in
-    let n = c.turn_noted-noted.result in
-    let s2 : SpaceHistory = c.turn_noted-noted.new.self in
-    let step = noted_step n v.config x.1 c.enter-space.result s2 e x.3 c.turn_noted-noted.ensures.step c.turn_noted-noted.ensures.err in
-    let told : c.publish_noted.new.seat.me ≡ (seat_after_answer (in_hand v x.0 x.1) x.0 x.1 e (answer_of n), (0, None) ∷ []) =
-    c.publish_noted.ensures.view x.0 x.1 e (ap (λ (m : Sat). m.0.state) x.4) (noted_event n c.args.by c.args.moment c.args.ask c.turn_noted-noted.ensures.noted)
-    ∙ ap (λ (m : Sat). (seat_after_answer m.0 x.0 x.1 e (answer_of n), m.1)) x.4 in (
+    let e = c.args.event in
+    let answer = c.turn-answer.result in
+    let s2 : SpaceHistory = c.turn-answer.new.self in
+    let step : Step v.config x.1 e answer s2.events = subst (λ (s : SpaceHistory). Step s.configuration s.events e answer s2.events) x.3 c.turn-answer.ensures.step in
+    let told = has_published c.enter-space.new.seat.me c.publish_answer.new.seat.me v x.0 x.1 c.of-taken.result.value e answer x.4 c.of-taken.ensures c.publish_answer.ensures.view in (
       x.1,
-      turned_at v c.leave.new.seat.me.0 x.0 x.1 e (answer_of n) s2.events c.requires.idle.0 x.2 step (ap (λ (m : Sat). m.0) c.leave.ensures.view ∙ ap (λ (m : Sat). in_state m.0 Idle) told),
-      noted_row n v.config x.1 c.args.by c.args.ask c.enter-space.result x.3 c.turn_noted-noted.ensures.row,
+      turned_at v c.leave.new.seat.me.0 x.0 x.1 e answer s2.events c.requires.idle.0 x.2 step (ap (λ (m : Sat). m.0) c.leave.ensures.view ∙ ap (λ (m : Sat). in_state m.0 Idle) told),
+      subst (λ (s : SpaceHistory). IsAnswerTo (λ o. 0 < running_calls_by (places s.configuration s.events) e.by o) e.ask answer) x.3 c.turn-answer.ensures.row,
     )

@@ -8,5 +8,5 @@ returns-then-is_err-clause-err g c = (
   c.loop-block.bytes ++ take c.in-Ok.n c.read.new.buf,
   omega (arith, c.loop-block-test.true, c.loop-block.invariant.2, c.in-Ok.ensures.0, length-append c.loop-block.bytes (take c.in-Ok.n c.read.new.buf), length-take c.in-Ok.n c.read.new.buf),
   c.loop-block.invariant.0 ∙ ap (with_front c.loop-block.bytes) c.in-Ok.ensures.1
-      ∙ with_front-with_front c.loop-block.bytes (take c.in-Ok.n c.read.new.buf) (g.S.Source.left c.read.new.self),
+      ∙ with_front-with_front c.loop-block.bytes (take c.in-Ok.n c.read.new.buf) (g.S.Source.half c.read.new.self).left,
 )

@@ -1,5 +1,5 @@
 use Rattle.std.proofs.Common.{◌≡◌, ◌+◌, ap, sym, subst, ◌∙◌, true, refl}
-use Rattle.std.specs.Prelude.{◌&&◌, nat_lt, if◌then◌else◌}
+use Rattle.std.specs.Prelude.{◌&&◌, max, nat_lt, if◌then◌else◌}
 use Rattle.std.specs.Box.{box_value}
 use Rattle.history.specs.Leases.{is_dirty_kind}
 use Rattle.dgc_server.specs.declared.entry.Kept.{Kept}
@@ -14,7 +14,7 @@ pub returns-clause-counts : goal.returns-clause-counts
 returns-clause-counts c = λ w o.
     let call = c.args.call.now in
     let e : Entry = record { client = (box_value c.self.inside.kept).client; until = c.self.inside.until; objects = object_entries (box_value c.self.inside.kept).objects.entries } in
-    let until = if is_dirty_kind call.kind then call.time + c.args.lease else c.self.inside.until in
+    let until = if is_dirty_kind call.kind then max (call.time + c.args.lease) c.self.inside.until else c.self.inside.until in
     let after = objects_after (nat_lt call.time c.self.inside.until) call.kind call.number.now call.objects.now (object_entries (box_value c.self.inside.kept).objects.entries) in
     let P : Entry → Type 0 = λ x. each_once x.objects ≡ true in
     let before : c.make_room.new.objects.entries ≡ (box_value c.self.inside.kept).objects.entries = c.make_room.ensures.entries ∙ ap (λ (k : Kept). k.objects.entries) c.deref_mut-kept.ensures.value in

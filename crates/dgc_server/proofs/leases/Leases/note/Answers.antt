@@ -55,7 +55,7 @@ pub pass-sums-requires-clause-once : goal.pass-sums-requires-clause-once
 pass-sums-requires-clause-once c =
     let es = c.self.inside.clients.entries in
     let client = c.args.client.now in
-    let next : Entry = entry_after c.self.inside.lease c.args.kind c.args.number.now c.as_slice-named.result.now c.args.time (entry_of es client) in
+    let next : Entry = entry_after c.args.granted c.args.kind c.args.number.now c.as_slice-named.result.now c.args.time (entry_of es client) in
     let entries : c.note.new.self.entries ≡ with_entry next es = c.in_ok-noted.ensures.ok in
     ap all_objects_once entries
     ∙ each-with is_once next es (once-after (has_time_left c.args.time (entry_of es client)) c.args.kind c.args.number.now c.as_slice-named.result.now (entry_of es client).objects (once-entry es client c.self.invariant.0.once)) c.self.invariant.0.once
@@ -64,7 +64,7 @@ pub pass-sums-requires-clause-indexed : goal.pass-sums-requires-clause-indexed
 pass-sums-requires-clause-indexed c =
     let es = c.self.inside.clients.entries in
     let client = c.args.client.now in
-    let next : Entry = entry_after c.self.inside.lease c.args.kind c.args.number.now c.as_slice-named.result.now c.args.time (entry_of es client) in
+    let next : Entry = entry_after c.args.granted c.args.kind c.args.number.now c.as_slice-named.result.now c.args.time (entry_of es client) in
     let entries : c.note.new.self.entries ≡ with_entry next es = c.in_ok-noted.ensures.ok in
     let late : c.self.inside.clients.moment ≤ c.args.time = (let P : LeaseTable → Type 0 = λ t. t.moment ≤ c.args.time in subst P (sym c.self.view_is) c.requires.late) in
     let bound_is : c.note.new.self.next ≡ (if has_time_left c.args.time next then min c.self.inside.clients.next next.until else 0) =
@@ -78,9 +78,9 @@ pub pass-sums-requires-clause-numbered : goal.pass-sums-requires-clause-numbered
 pass-sums-requires-clause-numbered c =
     let es = c.self.inside.clients.entries in
     let client = c.args.client.now in
-    let next : Entry = entry_after c.self.inside.lease c.args.kind c.args.number.now c.as_slice-named.result.now c.args.time (entry_of es client) in
+    let next : Entry = entry_after c.args.granted c.args.kind c.args.number.now c.as_slice-named.result.now c.args.time (entry_of es client) in
     let entries : c.note.new.self.entries ≡ with_entry next es = c.in_ok-noted.ensures.ok in
-    ap all_numbered entries ∙ numbered-with-noted c.args.time c.self.inside.lease c.args.kind client c.args.number.now c.as_slice-named.result.now es c.self.invariant.0.noted
+    ap all_numbered entries ∙ numbered-with-noted c.args.time c.args.granted c.args.kind client c.args.number.now c.as_slice-named.result.now es c.self.invariant.0.noted
 
 pub pass-sums-requires-clause-few : goal.pass-sums-requires-clause-few
 pass-sums-requires-clause-few c =
@@ -98,7 +98,7 @@ pub pass-sums-requires-clause-sums : goal.pass-sums-requires-clause-sums
 pass-sums-requires-clause-sums c =
     let es = c.self.inside.clients.entries in
     let client = c.args.client.now in
-    let next : Entry = entry_after c.self.inside.lease c.args.kind c.args.number.now c.as_slice-named.result.now c.args.time (entry_of es client) in
+    let next : Entry = entry_after c.args.granted c.args.kind c.args.number.now c.as_slice-named.result.now c.args.time (entry_of es client) in
     let entries : c.note.new.self.entries ≡ with_entry next es = c.in_ok-noted.ensures.ok in
     let m = c.self.inside.clients.moment in
     let before : c.in_ok-noted.noted.before ≡ entry_sums m (entry_of es client) = c.in_ok-noted.ensures.noted.before in
@@ -116,7 +116,7 @@ pub invariant_of-self-2 : goal.invariant_of-self-2
 invariant_of-self-2 c =
     let es = c.self.inside.clients.entries in
     let client = c.args.client.now in
-    let next : Entry = entry_after c.self.inside.lease c.args.kind c.args.number.now c.as_slice-named.result.now c.args.time (entry_of es client) in
+    let next : Entry = entry_after c.args.granted c.args.kind c.args.number.now c.as_slice-named.result.now c.args.time (entry_of es client) in
     let noted_entries : c.note.new.self.entries ≡ with_entry next es = c.in_ok-noted.ensures.ok in
     let late : c.self.inside.clients.moment ≤ c.args.time = (let P : LeaseTable → Type 0 = λ t. t.moment ≤ c.args.time in subst P (sym c.self.view_is) c.requires.late) in
     let room : IsTrue (is_dirty_kind c.args.kind) → clients_after es c.args.client.now c.args.time ≤ MAX_CLIENTS =
@@ -129,10 +129,10 @@ invariant_of-self-2 c =
         short = c.self.invariant.0.short;
         early = c.requires.early;
         ordered = order-lapse c.args.time (with_entry next es) (order-with next es c.self.invariant.0.ordered);
-        few = few-noted c.self.inside.clients.moment c.args.time c.self.inside.lease c.args.kind c.args.client.now c.args.number.now c.as_slice-named.result.now es MAX_CLIENTS late c.self.invariant.0.ordered c.self.invariant.0.few room;
-        once = once-noted c.args.time c.self.inside.lease c.args.kind c.args.client.now c.args.number.now c.as_slice-named.result.now es c.self.invariant.0.once;
-        noted = numbered-noted c.args.time c.self.inside.lease c.args.kind c.args.client.now c.args.number.now c.as_slice-named.result.now es c.self.invariant.0.noted;
-        small = (let fewer = remembered-noted c.args.time c.self.inside.lease c.args.kind c.args.client.now c.args.number.now c.as_slice-named.result.now es c.self.invariant.0.ordered c.self.invariant.0.once in
+        few = few-noted c.self.inside.clients.moment c.args.time c.args.granted c.args.kind c.args.client.now c.args.number.now c.as_slice-named.result.now es MAX_CLIENTS late c.self.invariant.0.ordered c.self.invariant.0.few room;
+        once = once-noted c.args.time c.args.granted c.args.kind c.args.client.now c.args.number.now c.as_slice-named.result.now es c.self.invariant.0.once;
+        noted = numbered-noted c.args.time c.args.granted c.args.kind c.args.client.now c.args.number.now c.as_slice-named.result.now es c.self.invariant.0.noted;
+        small = (let fewer = remembered-noted c.args.time c.args.granted c.args.kind c.args.client.now c.args.number.now c.as_slice-named.result.now es c.self.invariant.0.ordered c.self.invariant.0.once in
             let few : pairs_after c.args.time es c.args.client.now c.args.kind c.as_slice-named.result.now ≤ MAX_PAIRS =
             no-more MAX_PAIRS _ (λ h. (let past = c.is_past_pairs.ensures.1 h in let none = c.if-is_past_pairs.false in absurd (cc))) in omega arith);
       }),

@@ -13,13 +13,13 @@ invariant_of-self g c = λ none.
     (rw c.in-Ok.ensures.table old.0, ∥∥₁_map old.1 (bytes_served (length c.args.buf.now) (stand_of c.self.inside.stand) (stand_of c.bytes_put.new.stand) c.bytes_put.new.buf c.in-Ok.ensures.reads))
 
 pub returns-in-Ok-clause-env : goal.returns-in-Ok-clause-env
-returns-in-Ok-clause-env g c = reads_env g.S.Source.left g.S.Source.faults c.args.pull.now c.bytes_put.new.pull c.in-Ok.ensures.reads c.bytes_put.new.pull.within
+returns-in-Ok-clause-env g c = reads_env g.S.Source.half c.args.pull.now c.bytes_put.new.pull c.in-Ok.ensures.reads c.bytes_put.new.pull.within
 
 pub returns-in-Ok-clause-gives : goal.returns-in-Ok-clause-gives
-returns-in-Ok-clause-gives g c = λ none told. let tie : stand_of c.self.inside.stand ≡ c.args.self.now.stand = ap (λ (r : ReaderState). r.stand) c.self.view_is in rw (← tie) (reads_gives g.S.Source.left g.S.Source.faults c.args.pull.now c.bytes_put.new.pull c.in-Ok.ensures.reads c.bytes_put.new.pull.within told)
+returns-in-Ok-clause-gives g c = λ none told. let tie : stand_of c.self.inside.stand ≡ c.args.self.now.stand = ap (λ (r : ReaderState). r.stand) c.self.view_is in rw (← tie) (reads_gives g.S.Source.half c.args.pull.now c.bytes_put.new.pull c.in-Ok.ensures.reads c.bytes_put.new.pull.within told)
 
 pub returns-in-Err-clause-cause : goal.returns-in-Err-clause-cause
 returns-in-Err-clause-cause g c = λ none. want_breaks_caused (List ℕ) c.in-Err.ensures.stops
 
 pub returns-in-Err-clause-gives : goal.returns-in-Err-clause-gives
-returns-in-Err-clause-gives g c = λ none told. let tie : stand_of c.self.inside.stand ≡ c.args.self.now.stand = ap (λ (r : ReaderState). r.stand) c.self.view_is in rw (← tie) (want_breaks_fails g.S.Source.left g.S.Source.faults c.args.pull.now c.bytes_put.new.pull c.in-Err.fault c.in-Err.ensures.stops c.bytes_put.new.pull.within told)
+returns-in-Err-clause-gives g c = λ none told. let tie : stand_of c.self.inside.stand ≡ c.args.self.now.stand = ap (λ (r : ReaderState). r.stand) c.self.view_is in rw (← tie) (want_breaks_fails g.S.Source.half c.args.pull.now c.bytes_put.new.pull c.in-Err.fault c.in-Err.ensures.stops c.bytes_put.new.pull.within told)

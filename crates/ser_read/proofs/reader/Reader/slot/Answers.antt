@@ -14,13 +14,13 @@ invariant_of-self g c = λ none.
     (c.in-Ok.ensures.read, ∥∥₁_map old.1 (slot_served (stand_of c.self.inside.stand) (stand_of c.slot_in.new.stand) c.in-Ok.slot c.in-Ok.ensures.reads))
 
 pub returns-in-Ok-clause-env : goal.returns-in-Ok-clause-env
-returns-in-Ok-clause-env g c = reads_env g.S.Source.left g.S.Source.faults c.args.pull.now c.slot_in.new.pull c.in-Ok.ensures.reads c.slot_in.new.pull.within
+returns-in-Ok-clause-env g c = reads_env g.S.Source.half c.args.pull.now c.slot_in.new.pull c.in-Ok.ensures.reads c.slot_in.new.pull.within
 
 pub returns-in-Ok-clause-gives : goal.returns-in-Ok-clause-gives
-returns-in-Ok-clause-gives g c = λ none told. let tie : stand_of c.self.inside.stand ≡ c.args.self.now.stand = ap (λ (r : ReaderState). r.stand) c.self.view_is in rw (← tie) (reads_gives g.S.Source.left g.S.Source.faults c.args.pull.now c.slot_in.new.pull c.in-Ok.ensures.reads c.slot_in.new.pull.within told)
+returns-in-Ok-clause-gives g c = λ none told. let tie : stand_of c.self.inside.stand ≡ c.args.self.now.stand = ap (λ (r : ReaderState). r.stand) c.self.view_is in rw (← tie) (reads_gives g.S.Source.half c.args.pull.now c.slot_in.new.pull c.in-Ok.ensures.reads c.slot_in.new.pull.within told)
 
 pub returns-in-Err-clause-cause : goal.returns-in-Err-clause-cause
 returns-in-Err-clause-cause g c = λ none. want_breaks_caused Slot c.in-Err.ensures.stops
 
 pub returns-in-Err-clause-gives : goal.returns-in-Err-clause-gives
-returns-in-Err-clause-gives g c = λ none told. let tie : stand_of c.self.inside.stand ≡ c.args.self.now.stand = ap (λ (r : ReaderState). r.stand) c.self.view_is in rw (← tie) (want_breaks_fails g.S.Source.left g.S.Source.faults c.args.pull.now c.slot_in.new.pull c.in-Err.fault c.in-Err.ensures.stops c.slot_in.new.pull.within told)
+returns-in-Err-clause-gives g c = λ none told. let tie : stand_of c.self.inside.stand ≡ c.args.self.now.stand = ap (λ (r : ReaderState). r.stand) c.self.view_is in rw (← tie) (want_breaks_fails g.S.Source.half c.args.pull.now c.slot_in.new.pull c.in-Err.fault c.in-Err.ensures.stops c.slot_in.new.pull.within told)

@@ -30,5 +30,8 @@ returns-in-Ok-clause-step c =
 
 pub returns-in-Ok-clause-collector : goal.returns-in-Ok-clause-collector
 returns-in-Ok-clause-collector c =
-    appended-collects c.self.inside.tables.config c.self.inside.tables.events.items c.put_event.new.events.items (event_of c.args.by c.args.moment c.args.ask) c.args.self.now c.self.view_is
-    (c.put_event.ensures.items ∙ ap (λ es. es ++ event_of c.args.by c.args.moment c.args.ask ∷ []) c.turn.ensures.events)
+    let whole = appended c.turn.new.self.config (c.turn.new.self.events.items ++ event_of c.args.by c.args.moment c.args.ask ∷ []) c.put_event.new.events.items c.turn.new.self.leases c.turn.new.self.exports c.turn.new.self.runs.items c.turn.new.self.withdrawn.items
+    c.turn.new.self.reported c.turn.new.self.added c.turn.new.self.units c.turn.new.self.moment c.turn.new.self.events.capacity c.put_event.new.events.capacity c.turn.new.self.withdrawn.room c.turn.new.self.names
+    c.in-Ok.ensures.with_event c.put_event.ensures.items c.put_event.ensures.capacity in
+    appended-collects c.self.inside.tables.config c.turn.new.self.config c.self.inside.tables.events.items c.put_event.new.events.items c.self.inside.tables.exports.rows c.turn.new.self.exports.rows (event_of c.args.by c.args.moment c.args.ask) c.args.self.now c.self.view_is
+    c.self.invariant.0.stands.rows_are whole.0.stands.rows_are c.turn.ensures.config (c.put_event.ensures.items ∙ ap (λ es. es ++ event_of c.args.by c.args.moment c.args.ask ∷ []) c.turn.ensures.events)

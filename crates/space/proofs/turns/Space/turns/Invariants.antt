@@ -7,7 +7,7 @@ use Rattle.space.proofs.turns.Space.turns.Given as goal
 
 abbrev pub invariant-loop-event : goal.invariant-loop-event
 invariant-loop-event l = record {
-  taken : HasTaken l.fn.self.configuration l.fn.self.events l.fn.events.items l.turns.items (into_iter_items l.event-iterator) l.self.events;
+  taken : HasTaken l.fn.self.configuration l.fn.self.events l.fn.self.rows l.fn.events.items l.turns.items (into_iter_items l.event-iterator) l.self.events l.self.rows;
   config : l.self.configuration ≡ l.fn.self.configuration;
   moments : AllByRecursion (λ e. e.moment < END_OF_TIME) (into_iter_items l.event-iterator);
   left : into_iter_len l.event-iterator ≡ length (into_iter_items l.event-iterator);

@@ -5,6 +5,7 @@ use Rattle.turn_lock.specs.Handles.{view_of}
 use Rattle.turn_lock.specs.Orders.{TurnCollects}
 use Rattle.turn_lock.specs.PassPorts.{PassWent}
 use Rattle.turn_lock.specs.PortLaws.{root_after}
+use Rattle.turn_lock.specs.Rule.{TurnedWithEntry}
 use Rattle.turn_lock.proofs.handles.Root.turn.Goals as goal
 
 pub returns : goal.returns
@@ -17,6 +18,7 @@ returns g c =
       went = went;
       asked = t.asked;
       room = subst (λ (p : Pass). p.room ≤ c.turn_of_pass.new.pass.room + 1) c.own.ensures.value t.room;
+      turned = subst (λ (p : Pass). TurnedWithEntry (view_of p) p.number c.args.moment c.args.ask c.turn_of_pass.result.0 (view_of c.turn_of_pass.new.pass)) c.own.ensures.value t.turned;
       ordered = t.own.ordered;
       collector = subst (λ (p : Pass). IfOk c.turn_of_pass.result.0 (λ _. TurnCollects (view_of p) c.args.moment c.args.ask (view_of c.turn_of_pass.new.pass))) c.own.ensures.value t.collector;
     }

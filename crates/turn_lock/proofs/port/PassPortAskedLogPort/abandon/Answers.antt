@@ -27,3 +27,6 @@ returns-clause-leads g c =
       refl,
       went_ended p c.abandon-place.new.self c.args.self.now.asked.items c.push_reserved.new.self.items t.0 p.number c.args.moment c.args.object c.abandon-place.result c.requires.ready.0.numbered t.1 t.2 t.3 c.push_reserved.ensures.items after.2 after.1,
     )
+
+pub returns-clause-ended : goal.returns-clause-ended
+returns-clause-ended g c = (c.abandon-place.result, c.push_reserved.ensures.items, c.abandon-place.ensures.turned)

@@ -11,5 +11,5 @@ returns-in-Ok-2-clause-gives g c = gone_on _ _ _ c.args.buf.now c.fill.new.buf _
 
 pub returns-in-Err-clause-gives : goal.returns-in-Err-clause-gives
 returns-in-Err-clause-gives g c =
-    let here = pull_state g.S.Source.left g.S.Source.faults c.args.self.now in
+    let here = pull_state g.S.Source.half c.args.self.now in
     ([], here, omega arith, λ other. omega (arith, c.if-wanted-eq0.false), takes_nothing here, c.in-Err.ensures.gives.1)

@@ -19,4 +19,4 @@ returns-in-Err-clause-gives g c =
     let part = part_length c.loop-done.buf c.fill_some.new.buf c.loop-done.done (length c.loop-done.buf - c.loop-done.done) (omega arith) c.fill_some.auto.buf in
     let front = length-take-le c.loop-done.done c.loop-done.buf c.loop-done.invariant.0 in
     let short : length (take c.loop-done.done c.loop-done.buf) < length c.args.buf.now = omega (arith, front, c.loop-done.invariant.1, c.loop-done-test.true) in
-    λ old before. (take c.loop-done.done c.loop-done.buf, pull_state g.S.Source.left g.S.Source.faults c.loop-done.self, omega (arith, short), λ other. short, c.loop-done.invariant.2 old before, c.in-Err.ensures.gives.1)
+    λ old before. (take c.loop-done.done c.loop-done.buf, pull_state g.S.Source.half c.loop-done.self, omega (arith, short), λ other. short, c.loop-done.invariant.2 old before, c.in-Err.ensures.gives.1)

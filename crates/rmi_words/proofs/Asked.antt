@@ -1,0 +1,246 @@
+-- What holds wherever words ask for a command.
+use Rattle.std.proofs.Common.{◌≡◌, ℕ, ◌≤◌, ◌<◌, ◌^◌, List, [], ◌∷◌, get_or, drop, Bool, true, false, true≢false, ◌==◌, Option, Some, None, codes, refl, ap, sym, subst, ◌∙◌, arith}
+use Rattle.std.specs.Prelude.{slice_get}
+use Rattle.std.proofs.lemmas.Bool.Decides.{Decides-eqb}
+use Rattle.std.proofs.lemmas.Fmt.{decimal_injective}
+use Rattle.std.proofs.lemmas.Bool.{and_from}
+use Rattle.object_ids.specs.Same.{same_bytes}
+use Rattle.history.specs.declared.limits.TheConstants.{MAX_DURATION_MS}
+use Rattle.rmi_words.proofs.DrillWords.{one_drill}
+use Rattle.rmi_words.specs.Command.{AskFor, IsAnswer, IsServe, IsWordOfDrill, word_of_text, words_of_topic}
+use Rattle.rmi_words.specs.Options.{AreGivenBy, IsInRange, IsServeInRange, IsBindingOf, IsDurationOf, SpellsUpTo}
+use Rattle.rmi_words.specs.declared.options.ServeWords.{ServeWords}
+use Rattle.rmi_words.specs.declared.options.LeaseOptions.{LeaseOptions}
+use Rattle.rmi_words.specs.declared.command.Command.{Command}
+use Rattle.rmi_words.specs.declared.command.Command.TheVariants.{Answer, Serve, Replay, Show, Drill, Help}
+use Rattle.rmi_words.specs.declared.command.HelpTopic.{HelpTopic}
+use Rattle.rmi_words.specs.declared.command.HelpTopic.TheVariants as topics
+use Rattle.rmi_words.specs.declared.command.DrillText.{DrillText}
+use Rattle.rmi_words.specs.declared.command.DrillText.TheVariants.{Summary, Journal}
+
+-- ---- ranges
+
+duration_in_range : (default n : ℕ) (word : Option (List ℕ)) → 1 ≤ default → default ≤ MAX_DURATION_MS → IsDurationOf default n word → (1 ≤ n) × (n ≤ MAX_DURATION_MS)
+duration_in_range default n (Some word) some short spells = (spells.0, spells.1)
+duration_in_range default n None some short is = (omega (arith, is, some), omega (arith, is, short))
+
+options_in_range : (options : LeaseOptions) (words : List (List ℕ)) → AreGivenBy options words → IsInRange options
+options_in_range options words given =
+    let lease = duration_in_range 600000 options.lease_ms (slice_get words 1) (omega arith) (omega arith) given.lease in
+    let ack = duration_in_range 300000 options.ack_ms (slice_get words 2) (omega arith) (omega arith) given.ack in
+    record { some_lease = lease.0; short_lease = lease.1; some_ack = ack.0; short_ack = ack.1 }
+
+-- The options of `answer` are in range.
+pub answer_in_range : (words : List (List ℕ)) (options : LeaseOptions) → AskFor words (Answer options) → IsInRange options
+answer_in_range words options asked = options_in_range options asked.rest asked.options_are
+
+-- So is what `serve` is told.
+pub serve_in_range : (words : List (List ℕ)) (serve : ServeWords) → AskFor words (Serve serve) → IsServeInRange serve
+serve_in_range words serve asked = record {
+  port = asked.told.port_is.0;
+  port_fits = asked.told.port_is.1;
+  count = asked.told.count_is.0;
+  count_fits = asked.told.count_is.1;
+  options = options_in_range serve.options asked.rest asked.told.options_are;
+}
+
+-- ---- one command
+
+same_binding : (a b : Bool) (word : Option (List ℕ)) → IsBindingOf a word → IsBindingOf b word → a ≡ b
+same_binding true true word x y = refl
+same_binding false false word x y = refl
+same_binding true false (Some word) x y = let both = sym x ∙ y in cc
+same_binding true false None x y = x
+same_binding false true (Some word) x y = let both = sym x ∙ y in cc
+same_binding false true None x y = sym y
+
+same_number : (most a b : ℕ) (word : List ℕ) → most < 2 ^ 64 → SpellsUpTo most a word → SpellsUpTo most b word → a ≡ b
+same_number most a b word fits x y = decimal_injective a b (omega (arith, fits, x.1)) (omega (arith, fits, y.1)) (sym x.2 ∙ y.2)
+
+same_duration : (default a b : ℕ) (word : Option (List ℕ)) → IsDurationOf default a word → IsDurationOf default b word → a ≡ b
+same_duration default a b (Some word) x y = same_number MAX_DURATION_MS a b word (omega arith) x y
+same_duration default a b None x y = x ∙ sym y
+
+abbrev options_with : Bool → ℕ → ℕ → LeaseOptions
+options_with binding lease ack = record { binding = binding; lease_ms = lease; ack_ms = ack }
+
+abbrev serve_with : ℕ → ℕ → LeaseOptions → ServeWords
+serve_with port count options = record { port = port; count = count; options = options }
+
+same_options : (words : List (List ℕ)) (a b : LeaseOptions) → AreGivenBy a words → AreGivenBy b words → a ≡ b
+same_options words a b x y =
+    let binding = same_binding a.binding b.binding (slice_get words 0) x.binding y.binding in
+    let lease = same_duration 600000 a.lease_ms b.lease_ms (slice_get words 1) x.lease y.lease in
+    let ack = same_duration 300000 a.ack_ms b.ack_ms (slice_get words 2) x.ack y.ack in
+    ap (λ x. options_with x a.lease_ms a.ack_ms) binding ∙ ap (λ n. options_with b.binding n a.ack_ms) lease ∙ ap (λ n. options_with b.binding b.lease_ms n) ack
+
+-- the word that asks for a command
+abbrev first_of : Command → List ℕ
+first_of (Answer options) = codes "answer"
+first_of (Serve serve) = codes "serve"
+first_of Replay = codes "replay"
+first_of Show = codes "show"
+first_of (Drill text seed rounds) = word_of_text text
+first_of (Help topic) = codes "help"
+
+first_is : (words : List (List ℕ)) (command : Command) → AskFor words command → get_or words 0 [] ≡ first_of command
+first_is words (Answer options) asked = ap (λ words. get_or words 0 []) asked.words_are
+first_is words (Serve serve) asked = ap (λ words. get_or words 0 []) asked.words_are
+first_is words Replay asked = ap (λ words. get_or words 0 []) asked
+first_is words Show asked = ap (λ words. get_or words 0 []) asked
+first_is words (Drill text seed rounds) asked = ap (λ words. get_or words 0 []) asked.words_are
+first_is words (Help topic) asked = ap (λ words. get_or words 0 []) asked
+
+same_bytes-self : (word : List ℕ) → same_bytes word word ≡ true
+same_bytes-self [] = refl
+same_bytes-self (x ∷ xs) = and_from (x == x) (same_bytes xs xs) ((Decides-eqb x x).1 refl) (same_bytes-self xs)
+
+-- Two commands that begin with other words are not asked for by the same ones.
+apart : (words : List (List ℕ)) (a b : Command) → AskFor words a → AskFor words b → same_bytes (first_of a) (first_of b) ≡ false → ⊥
+apart words a b x y other =
+    let same : first_of a ≡ first_of b = sym (first_is words a x) ∙ first_is words b y in
+    true≢false (sym (same_bytes-self (first_of b)) ∙ subst (λ word. same_bytes word (first_of b) ≡ false) same other)
+
+same_answer : (words : List (List ℕ)) (a b : LeaseOptions) → IsAnswer a words → IsAnswer b words → a ≡ b
+same_answer words a b x y =
+    let rest : x.rest ≡ y.rest = ap (λ words. drop 1 words) (sym x.words_are ∙ y.words_are) in
+    same_options y.rest a b (subst (λ words. AreGivenBy a words) rest x.options_are) y.options_are
+
+same_serve : (words : List (List ℕ)) (a b : ServeWords) → IsServe a words → IsServe b words → a ≡ b
+same_serve words a b x y =
+    let same = sym x.words_are ∙ y.words_are in
+    let rest : x.rest ≡ y.rest = ap (λ words. drop 3 words) same in
+    let port : a.port ≡ b.port = same_number 65535 a.port b.port y.port (omega arith) (subst (λ word. SpellsUpTo 65535 a.port word) (ap (λ words. get_or words 1 []) same) x.told.port_is) y.told.port_is in
+    let count : a.count ≡ b.count = same_number 65535 a.count b.count y.count (omega arith) (subst (λ word. SpellsUpTo 65535 a.count word) (ap (λ words. get_or words 2 []) same) x.told.count_is) y.told.count_is in
+    let options : a.options ≡ b.options = same_options y.rest a.options b.options (subst (λ words. AreGivenBy a.options words) rest x.told.options_are) y.told.options_are in
+    ap (λ n. serve_with n a.count a.options) port ∙ ap (λ n. serve_with b.port n a.options) count ∙ ap (λ x. serve_with b.port b.count x) options
+
+same_drill : (words : List (List ℕ)) (text text2 : DrillText) (seed rounds seed2 rounds2 : ℕ) → IsWordOfDrill words (word_of_text text) seed rounds
+    → IsWordOfDrill words (word_of_text text2) seed2 rounds2 → Drill text seed rounds ≡ Drill text2 seed2 rounds2
+same_drill words text text2 seed rounds seed2 rounds2 x y =
+    let same = one_drill words text text2 seed rounds seed2 rounds2 x y in
+    let text_same = same.0 in
+    let seed_same = same.1 in
+    let rounds_same = same.2 in cc
+
+differ : (a b : List ℕ) → a ≡ b → same_bytes a b ≡ false → ⊥
+differ a b e other = true≢false (sym (same_bytes-self b) ∙ subst (λ word. same_bytes word b ≡ false) e other)
+
+-- the word that a topic is asked for by, or none
+abbrev topic_word : HelpTopic → List ℕ
+topic_word topic = get_or (words_of_topic topic) 0 []
+
+same_topic : (a b : HelpTopic) → topic_word a ≡ topic_word b → a ≡ b
+same_topic topics.All topics.All e = refl
+same_topic topics.All topics.Answer e = absurd (differ _ _ e refl)
+same_topic topics.All topics.Serve e = absurd (differ _ _ e refl)
+same_topic topics.All topics.Replay e = absurd (differ _ _ e refl)
+same_topic topics.All topics.Show e = absurd (differ _ _ e refl)
+same_topic topics.All topics.Drill e = absurd (differ _ _ e refl)
+same_topic topics.All topics.Journal e = absurd (differ _ _ e refl)
+same_topic topics.All topics.Help e = absurd (differ _ _ e refl)
+same_topic topics.Answer topics.All e = absurd (differ _ _ e refl)
+same_topic topics.Answer topics.Answer e = refl
+same_topic topics.Answer topics.Serve e = absurd (differ _ _ e refl)
+same_topic topics.Answer topics.Replay e = absurd (differ _ _ e refl)
+same_topic topics.Answer topics.Show e = absurd (differ _ _ e refl)
+same_topic topics.Answer topics.Drill e = absurd (differ _ _ e refl)
+same_topic topics.Answer topics.Journal e = absurd (differ _ _ e refl)
+same_topic topics.Answer topics.Help e = absurd (differ _ _ e refl)
+same_topic topics.Serve topics.All e = absurd (differ _ _ e refl)
+same_topic topics.Serve topics.Answer e = absurd (differ _ _ e refl)
+same_topic topics.Serve topics.Serve e = refl
+same_topic topics.Serve topics.Replay e = absurd (differ _ _ e refl)
+same_topic topics.Serve topics.Show e = absurd (differ _ _ e refl)
+same_topic topics.Serve topics.Drill e = absurd (differ _ _ e refl)
+same_topic topics.Serve topics.Journal e = absurd (differ _ _ e refl)
+same_topic topics.Serve topics.Help e = absurd (differ _ _ e refl)
+same_topic topics.Replay topics.All e = absurd (differ _ _ e refl)
+same_topic topics.Replay topics.Answer e = absurd (differ _ _ e refl)
+same_topic topics.Replay topics.Serve e = absurd (differ _ _ e refl)
+same_topic topics.Replay topics.Replay e = refl
+same_topic topics.Replay topics.Show e = absurd (differ _ _ e refl)
+same_topic topics.Replay topics.Drill e = absurd (differ _ _ e refl)
+same_topic topics.Replay topics.Journal e = absurd (differ _ _ e refl)
+same_topic topics.Replay topics.Help e = absurd (differ _ _ e refl)
+same_topic topics.Show topics.All e = absurd (differ _ _ e refl)
+same_topic topics.Show topics.Answer e = absurd (differ _ _ e refl)
+same_topic topics.Show topics.Serve e = absurd (differ _ _ e refl)
+same_topic topics.Show topics.Replay e = absurd (differ _ _ e refl)
+same_topic topics.Show topics.Show e = refl
+same_topic topics.Show topics.Drill e = absurd (differ _ _ e refl)
+same_topic topics.Show topics.Journal e = absurd (differ _ _ e refl)
+same_topic topics.Show topics.Help e = absurd (differ _ _ e refl)
+same_topic topics.Drill topics.All e = absurd (differ _ _ e refl)
+same_topic topics.Drill topics.Answer e = absurd (differ _ _ e refl)
+same_topic topics.Drill topics.Serve e = absurd (differ _ _ e refl)
+same_topic topics.Drill topics.Replay e = absurd (differ _ _ e refl)
+same_topic topics.Drill topics.Show e = absurd (differ _ _ e refl)
+same_topic topics.Drill topics.Drill e = refl
+same_topic topics.Drill topics.Journal e = absurd (differ _ _ e refl)
+same_topic topics.Drill topics.Help e = absurd (differ _ _ e refl)
+same_topic topics.Journal topics.All e = absurd (differ _ _ e refl)
+same_topic topics.Journal topics.Answer e = absurd (differ _ _ e refl)
+same_topic topics.Journal topics.Serve e = absurd (differ _ _ e refl)
+same_topic topics.Journal topics.Replay e = absurd (differ _ _ e refl)
+same_topic topics.Journal topics.Show e = absurd (differ _ _ e refl)
+same_topic topics.Journal topics.Drill e = absurd (differ _ _ e refl)
+same_topic topics.Journal topics.Journal e = refl
+same_topic topics.Journal topics.Help e = absurd (differ _ _ e refl)
+same_topic topics.Help topics.All e = absurd (differ _ _ e refl)
+same_topic topics.Help topics.Answer e = absurd (differ _ _ e refl)
+same_topic topics.Help topics.Serve e = absurd (differ _ _ e refl)
+same_topic topics.Help topics.Replay e = absurd (differ _ _ e refl)
+same_topic topics.Help topics.Show e = absurd (differ _ _ e refl)
+same_topic topics.Help topics.Drill e = absurd (differ _ _ e refl)
+same_topic topics.Help topics.Journal e = absurd (differ _ _ e refl)
+same_topic topics.Help topics.Help e = refl
+
+-- Words ask for one command.
+pub asked_once : (words : List (List ℕ)) (a b : Command) → AskFor words a → AskFor words b → a ≡ b
+asked_once words (Answer options) (Answer options2) x y = ap Answer (same_answer words options options2 x y)
+asked_once words (Serve serve) (Serve serve2) x y = ap Serve (same_serve words serve serve2 x y)
+asked_once words Replay Replay x y = refl
+asked_once words Show Show x y = refl
+asked_once words (Drill text seed rounds) (Drill text2 seed2 rounds2) x y = same_drill words text text2 seed rounds seed2 rounds2 x y
+asked_once words (Answer options) (Serve serve2) x y = absurd (apart words (Answer options) (Serve serve2) x y refl)
+asked_once words (Answer options) Replay x y = absurd (apart words (Answer options) Replay x y refl)
+asked_once words (Answer options) Show x y = absurd (apart words (Answer options) Show x y refl)
+asked_once words (Answer options) (Drill Summary seed2 rounds2) x y = absurd (apart words (Answer options) (Drill Summary seed2 rounds2) x y refl)
+asked_once words (Answer options) (Drill Journal seed2 rounds2) x y = absurd (apart words (Answer options) (Drill Journal seed2 rounds2) x y refl)
+asked_once words (Serve serve) (Answer options2) x y = absurd (apart words (Serve serve) (Answer options2) x y refl)
+asked_once words (Serve serve) Replay x y = absurd (apart words (Serve serve) Replay x y refl)
+asked_once words (Serve serve) Show x y = absurd (apart words (Serve serve) Show x y refl)
+asked_once words (Serve serve) (Drill Summary seed2 rounds2) x y = absurd (apart words (Serve serve) (Drill Summary seed2 rounds2) x y refl)
+asked_once words (Serve serve) (Drill Journal seed2 rounds2) x y = absurd (apart words (Serve serve) (Drill Journal seed2 rounds2) x y refl)
+asked_once words Replay (Answer options2) x y = absurd (apart words Replay (Answer options2) x y refl)
+asked_once words Replay (Serve serve2) x y = absurd (apart words Replay (Serve serve2) x y refl)
+asked_once words Replay Show x y = absurd (apart words Replay Show x y refl)
+asked_once words Replay (Drill Summary seed2 rounds2) x y = absurd (apart words Replay (Drill Summary seed2 rounds2) x y refl)
+asked_once words Replay (Drill Journal seed2 rounds2) x y = absurd (apart words Replay (Drill Journal seed2 rounds2) x y refl)
+asked_once words Show (Answer options2) x y = absurd (apart words Show (Answer options2) x y refl)
+asked_once words Show (Serve serve2) x y = absurd (apart words Show (Serve serve2) x y refl)
+asked_once words Show Replay x y = absurd (apart words Show Replay x y refl)
+asked_once words Show (Drill Summary seed2 rounds2) x y = absurd (apart words Show (Drill Summary seed2 rounds2) x y refl)
+asked_once words Show (Drill Journal seed2 rounds2) x y = absurd (apart words Show (Drill Journal seed2 rounds2) x y refl)
+asked_once words (Drill Summary seed rounds) (Answer options2) x y = absurd (apart words (Drill Summary seed rounds) (Answer options2) x y refl)
+asked_once words (Drill Summary seed rounds) (Serve serve2) x y = absurd (apart words (Drill Summary seed rounds) (Serve serve2) x y refl)
+asked_once words (Drill Summary seed rounds) Replay x y = absurd (apart words (Drill Summary seed rounds) Replay x y refl)
+asked_once words (Drill Summary seed rounds) Show x y = absurd (apart words (Drill Summary seed rounds) Show x y refl)
+asked_once words (Drill Journal seed rounds) (Answer options2) x y = absurd (apart words (Drill Journal seed rounds) (Answer options2) x y refl)
+asked_once words (Drill Journal seed rounds) (Serve serve2) x y = absurd (apart words (Drill Journal seed rounds) (Serve serve2) x y refl)
+asked_once words (Drill Journal seed rounds) Replay x y = absurd (apart words (Drill Journal seed rounds) Replay x y refl)
+asked_once words (Drill Journal seed rounds) Show x y = absurd (apart words (Drill Journal seed rounds) Show x y refl)
+asked_once words (Help topic) (Help topic2) x y = ap Help (same_topic topic topic2 (ap (λ words. get_or words 1 []) (sym x ∙ y)))
+asked_once words (Answer options) (Help topic2) x y = absurd (apart words (Answer options) (Help topic2) x y refl)
+asked_once words (Help topic) (Answer options) x y = absurd (apart words (Help topic) (Answer options) x y refl)
+asked_once words (Serve serve) (Help topic2) x y = absurd (apart words (Serve serve) (Help topic2) x y refl)
+asked_once words (Help topic) (Serve serve) x y = absurd (apart words (Help topic) (Serve serve) x y refl)
+asked_once words Replay (Help topic2) x y = absurd (apart words Replay (Help topic2) x y refl)
+asked_once words (Help topic) Replay x y = absurd (apart words (Help topic) Replay x y refl)
+asked_once words Show (Help topic2) x y = absurd (apart words Show (Help topic2) x y refl)
+asked_once words (Help topic) Show x y = absurd (apart words (Help topic) Show x y refl)
+asked_once words (Drill Summary seed rounds) (Help topic2) x y = absurd (apart words (Drill Summary seed rounds) (Help topic2) x y refl)
+asked_once words (Help topic) (Drill Summary seed rounds) x y = absurd (apart words (Help topic) (Drill Summary seed rounds) x y refl)
+asked_once words (Drill Journal seed rounds) (Help topic2) x y = absurd (apart words (Drill Journal seed rounds) (Help topic2) x y refl)
+asked_once words (Help topic) (Drill Journal seed rounds) x y = absurd (apart words (Help topic) (Drill Journal seed rounds) x y refl)

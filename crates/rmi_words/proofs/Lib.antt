@@ -1,0 +1,12 @@
+pub mod Asked
+pub mod Asking
+pub mod Declaring
+mod DrillWords
+pub mod Found
+pub mod Levels
+mod NotFound
+pub mod OneName
+pub mod Places
+pub mod Subcommands
+pub mod Taking
+pub mod Walking

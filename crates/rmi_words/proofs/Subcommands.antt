@@ -1,0 +1,39 @@
+-- What `clap` found as a command, by what its matches answer.
+use Rattle.std.proofs.Common.{◌≡◌, ap₂, List, Option, Some, None, sym, subst}
+use Rattle.std.specs.Prelude.{option_map}
+use Rattle.clap.proofs.WalkLemmas.{first_value-rows}
+use Rattle.clap.specs.Words.{Row, Text, first_of, found_of, rows_of, subcommand_name_of, subcommand_rows_of}
+use Rattle.clap.specs.declared.ArgMatches.{ArgMatches}
+use Rattle.journal.specs.Reading.{Finds}
+use Rattle.rmi_words.specs.Values.{IsCommandIn, IsCommandOf, Values, values_of}
+use Rattle.rmi_words.specs.declared.command.Command.{Command}
+
+some_same : {A : Type 0} (a b : A) → Some a ≡ Some b → a ≡ b
+some_same a b e = cc
+
+some_never : {A : Type 0} (a : A) → Some a ≡ None → ⊥
+some_never a e = cc
+
+pair_is : {B R : Type 0} (f : B → Text) (g : B → R) (o : Option B) (n : Text) (rows : R) → Some n ≡ option_map f o → Some rows ≡ option_map {T = Text × R} (λ p. p.1) (option_map {T = B} {U = Text × R} (λ b. (f b, g b)) o)
+    → option_map {T = B} {U = Text × R} (λ b. (f b, g b)) o ≡ Some (n, rows)
+pair_is f g None n rows e d = absurd (some_never _ e)
+pair_is f g (Some b) n rows e d =
+    let name : n ≡ f b = some_same _ _ e in
+    let found : rows ≡ g b = some_same _ _ d in
+    ap₂ (λ x y. Some (x, y)) (sym name) (sym found)
+
+values_are : (m : ArgMatches) → values_of m ≡ (λ name. first_of name (rows_of (found_of m)))
+values_are m i name = first_value-rows (found_of m) name i
+
+in_some : (name : Text) (rows : List Row) (result : Option Command) → Finds (IsCommandOf name) result (λ id. first_of id rows) → Finds IsCommandIn result (Some (name, rows))
+in_some name rows (Some c) finds = finds
+in_some name rows None finds = finds
+
+-- What is found by the name and the values is found in the matches.
+pub found_in_matches : (m values : ArgMatches) (name : Text) (result : Option Command) → Some name ≡ subcommand_name_of m → Some (rows_of (found_of values)) ≡ option_map {T = Text × List Row} (λ p. p.1) (subcommand_rows_of m)
+    → Finds (IsCommandOf name) result (values_of values) → Finds IsCommandIn result (subcommand_rows_of m)
+found_in_matches m values name result is rows_are finds =
+    let rows = rows_of (found_of values) in
+    let sub : subcommand_rows_of m ≡ Some (name, rows) = pair_is _ _ _ name rows is rows_are in
+    subst (λ (o : Option (Text × List Row)). Finds IsCommandIn result o) (sym sub)
+    (in_some name rows result (subst (λ (v : Values). Finds (IsCommandOf name) result v) (values_are values) finds))

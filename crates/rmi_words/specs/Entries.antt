@@ -1,0 +1,122 @@
+-- The commands of the program: the words that each takes, and what `help` says of them.
+use Rattle.std.specs.Prelude.{ℕ, Bool, true, false, List, [], ◌∷◌, map, codes}
+use Rattle.rmi_words.specs.declared.table.WordEntry.{WordEntry}
+use Rattle.rmi_words.specs.declared.table.CommandEntry.{CommandEntry}
+
+-- A word that a command takes: what `help` calls it, whether it has to be there, and what it says.
+pub record Word : Type 0 where
+  pub name : List ℕ
+  pub required : Bool
+  pub says : List ℕ
+
+-- A command: the word that names it, the words that it takes, what it does, and a line that calls it.
+pub record Entry : Type 0 where
+  pub name : List ℕ
+  pub words : List Word
+  pub does : List ℕ
+  pub example : List ℕ
+
+abbrev pub word_of : WordEntry → Word
+word_of word = record { name = word.name.now; required = word.required; says = word.says.now }
+
+abbrev pub entry_of : CommandEntry → Entry
+entry_of entry = record {
+  name = entry.name.now;
+  words = map word_of entry.words.now;
+  does = entry.does.now;
+  example = entry.example.now;
+}
+
+-- ---- the words
+
+abbrev pub needed : List ℕ → List ℕ → Word
+needed name says = record { name = name; required = true; says = says }
+
+abbrev pub free : List ℕ → List ℕ → Word
+free name says = record { name = name; required = false; says = says }
+
+abbrev pub binding_word : Word
+binding_word = free (codes "BINDING") (codes "whether clients may bind names: open or closed (closed)")
+
+abbrev pub lease_word : Word
+lease_word = free (codes "LEASE") (codes "how long a lease lasts, in milliseconds: 1 to 1099511627776 (600000)")
+
+abbrev pub ack_word : Word
+ack_word = free (codes "ACK") (codes "how long a returned reference waits for its acknowledgement, in milliseconds: 1 to 1099511627776 (300000)")
+
+abbrev pub port_word : Word
+port_word = needed (codes "PORT") (codes "the port to listen on: 1 to 65535")
+
+abbrev pub count_word : Word
+count_word = needed (codes "COUNT") (codes "how many connections to serve: 1 to 65535")
+
+abbrev pub seed_word : Word
+seed_word = needed (codes "SEED") (codes "the seed of the drill: 0 to 9223372036854775807")
+
+abbrev pub rounds_word : Word
+rounds_word = needed (codes "N") (codes "how many rounds the drill has: 1 to 1000000")
+
+abbrev pub command_word : Word
+command_word = free (codes "COMMAND") (codes "the command to explain (all commands)")
+
+-- ---- the commands
+
+abbrev pub answer_entry : Entry
+answer_entry = record {
+  name = codes "answer";
+  words = binding_word ∷ lease_word ∷ ack_word ∷ [];
+  does = codes "serves the standard input and output as one connection";
+  example = codes "rmi answer open 600000 300000";
+}
+
+abbrev pub serve_entry : Entry
+serve_entry = record {
+  name = codes "serve";
+  words = port_word ∷ count_word ∷ binding_word ∷ lease_word ∷ ack_word ∷ [];
+  does = codes "listens on 127.0.0.1:PORT, serves COUNT connections over one object table, and prints the outline of its history";
+  example = codes "rmi serve 1099 10 open";
+}
+
+abbrev pub replay_entry : Entry
+replay_entry = record {
+  name = codes "replay";
+  words = [];
+  does = codes "prints the outline of the history that the journal on the standard input spells";
+  example = codes "rmi replay < journal.txt";
+}
+
+abbrev pub show_entry : Entry
+show_entry = record {
+  name = codes "show";
+  words = [];
+  does = codes "prints the graph of the serialization stream on the standard input as text";
+  example = codes "rmi show < stream.bin";
+}
+
+abbrev pub drill_entry : Entry
+drill_entry = record {
+  name = codes "drill";
+  words = seed_word ∷ rounds_word ∷ [];
+  does = codes "makes generated events on a new object table, and prints the summary of its history";
+  example = codes "rmi drill 1 1000";
+}
+
+abbrev pub journal_entry : Entry
+journal_entry = record {
+  name = codes "journal";
+  words = seed_word ∷ rounds_word ∷ [];
+  does = codes "makes generated events on a new object table, and prints its journal";
+  example = codes "rmi journal 1 1000 > journal.txt";
+}
+
+abbrev pub help_entry : Entry
+help_entry = record {
+  name = codes "help";
+  words = command_word ∷ [];
+  does = codes "prints all commands, or one";
+  example = codes "rmi help serve";
+}
+
+-- All commands.
+abbrev pub entries : List Entry
+entries = answer_entry ∷ serve_entry ∷ replay_entry ∷ show_entry ∷ drill_entry ∷ journal_entry ∷ help_entry ∷ []

@@ -1,0 +1,56 @@
+//! The commands that words may ask for.
+use crate::options::{LeaseOptions, ServeWords};
+
+/// A command, with what the words say of it.
+#[derive(Clone, Copy, Debug, PartialEq, Eq)]
+pub enum Command {
+    /// `answer [BINDING] [LEASE] [ACK]`: serve the input and the output as one connection, on these options.
+    Answer(LeaseOptions),
+    /// `serve PORT COUNT [BINDING] [LEASE] [ACK]`: serve this many links at this port, on these options.
+    Serve(ServeWords),
+    /// `replay`: print the outline of the history that the input spells as a journal.
+    Replay,
+    /// `show`: print the text of the graph that the input spells as a stream.
+    Show,
+    /// `drill SEED N` or `journal SEED N`: print this text of the space that takes the events of a drill, which has a seed below 2^63 and
+    /// 1 to 1,000,000 rounds.
+    Drill {
+        text: DrillText,
+        seed: u64,
+        rounds: u64,
+    },
+    /// `help [COMMAND]`: print what the commands are, or one of them.
+    Help(HelpTopic),
+}
+
+/// Which text of a drill's space is printed.
+#[derive(Clone, Copy, Debug, PartialEq, Eq)]
+pub enum DrillText {
+    /// `drill`: its summary.
+    Summary,
+    /// `journal`: its journal.
+    Journal,
+}
+
+/// Which commands `help` explains.
+#[derive(Clone, Copy, Debug, PartialEq, Eq)]
+pub enum HelpTopic {
+    /// All commands.
+    All,
+    Answer,
+    Serve,
+    Replay,
+    Show,
+    Drill,
+    Journal,
+    Help,
+}
+
+/// Why words give no command.
+#[derive(Clone, Copy, Debug, PartialEq, Eq)]
+pub enum WordsFault {
+    /// They are no command line.
+    Usage,
+    /// There was no memory to read them.
+    OutOfMemory,
+}

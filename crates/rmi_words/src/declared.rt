@@ -1,0 +1,37 @@
+//! The table's commands as `clap` declares them.
+ghost use Rattle.std.specs.Prelude.{◌≡◌, IfOk, false};
+ghost use Rattle.clap.specs.Words.{app_of};
+ghost use Rattle.clap.specs.declared.builder.command.Command.TheViews.{out-Command as fields_of};
+ghost use Rattle.rmi_words.specs.Entries.{entry_of};
+ghost use Rattle.rmi_words.specs.Program.{program, app_of_entry};
+
+use crate::table::{CommandEntry, commands};
+use clap::{Arg, Command};
+use std::alloc::{AllocError, Global};
+
+/// The program with all its commands. It has no help and no version of clap's own, and its first word is no name of a program.
+pub(crate) fn declared_program<'a>(alloc: Global) -> Result<Command<'a>, AllocError>
+    ensures { IfOk result (λ declared. app_of declared ≡ program) }
+{
+    let mut declared = Command::new(alloc, "rmi")
+        .no_binary_name(true)
+        .disable_help_flag(true)
+        .disable_help_subcommand(true)
+        .subcommand_required(true);
+    for entry in commands() {
+        declared = declared.subcommand(declared_command(alloc, entry)?)?;
+    }
+    Ok(declared)
+}
+
+/// A command with its words, each of which stands at its place.
+fn declared_command<'a>(alloc: Global, entry: &CommandEntry) -> Result<Command<'a>, AllocError>
+    ensures app { IfOk result (λ command. app_of command ≡ app_of_entry (entry_of entry.now)) }
+    ensures local { IfOk result (λ command. (fields_of command).has_globals ≡ false) }
+{
+    let mut command = Command::new(alloc, entry.name);
+    for word in entry.words {
+        command = command.arg(Arg::new(alloc, word.name).required(word.required))?;
+    }
+    Ok(command)
+}

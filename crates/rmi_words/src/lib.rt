@@ -1,0 +1,17 @@
+//! The words of the program's command line, and the text that `help` prints.
+#![tactic(auto)]
+
+mod command;
+mod declared;
+mod help;
+mod numbers;
+mod options;
+mod table;
+mod words;
+
+pub use command::{Command, DrillText, HelpTopic, WordsFault};
+pub use help::help_text;
+pub use numbers::MAX_ROUNDS;
+pub use options::{LeaseOptions, ServeWords};
+pub use table::{CommandEntry, WordEntry, commands, commands_of};
+pub use words::Words;

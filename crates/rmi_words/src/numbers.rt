@@ -1,0 +1,85 @@
+//! Decimal numbers on the command line, without needless zeros or signs.
+ghost use Rattle.std.specs.Prelude.{◌≡◌, ◌↔◌, ◌^◌, ℕ, decimal, IsTrue, IfSome, IfNone};
+ghost use Rattle.history.specs.declared.limits.TheConstants.{MAX_DURATION_MS};
+ghost use Rattle.journal.specs.Numbers.{BeginsPlainly};
+ghost use Rattle.journal.specs.Reading.{Finds};
+ghost use Rattle.journal.specs.Grammar.{SpellsBelow};
+ghost use Rattle.rmi_words.specs.Command.{AreInRange};
+ghost use Rattle.rmi_words.specs.Options.{SpellsUpTo};
+
+use history::limits::MAX_DURATION_MS;
+
+/// How many rounds a drill has at most.
+pub const MAX_ROUNDS: u64 = 1_000_000;
+
+/// Whether there is a first byte that is no plus sign, and no zero before further bytes.
+fn begins_plainly(word: &[u8]) -> bool
+    ensures { IsTrue result ↔ BeginsPlainly word.now }
+{
+    !word.is_empty() && word[0] != b'+' && (word[0] != b'0' || word.len() == 1)
+}
+
+/// The number below 2^64 that a word spells.
+fn read_number(word: &str) -> Option<u64>
+    ensures { Finds (SpellsBelow (2 ^ 64)) result word.now }
+{
+    if !begins_plainly(word.as_bytes()) {
+        return None;
+    }
+    match word.parse::<u64>() {
+        Ok(n) => Some(n),
+        Err(_) => None,
+    }
+}
+
+/// Whether these are the numbers of a drill.
+fn are_in_range(seed: u64, rounds: u64) -> bool
+    ensures { IsTrue result ↔ AreInRange seed rounds }
+{
+    seed < 1 << 63 && 1 <= rounds && rounds <= MAX_ROUNDS
+}
+
+/// Returns the seed and the number of rounds of a drill that two words spell, or None where they spell none.
+pub(crate) fn read_drill(seed: &str, rounds: &str) -> Option<(u64, u64)>
+    ensures range { IfSome result (λ p. AreInRange p.0 p.1) }
+    ensures seed { IfSome result (λ p. seed.now ≡ decimal p.0) }
+    ensures rounds { IfSome result (λ p. rounds.now ≡ decimal p.1) }
+    ensures none { IfNone result ((a b : ℕ) → AreInRange a b → seed.now ≡ decimal a → rounds.now ≡ decimal b → ⊥) }
+{
+    let first = read_number(seed)?;
+    let second = read_number(rounds)?;
+    if are_in_range(first, second) {
+        Some((first, second))
+    } else {
+        None
+    }
+}
+
+/// The number, 1 to this one, that a word spells.
+fn read_up_to(word: &str, most: u64) -> Option<u64>
+    ensures { Finds (SpellsUpTo most) result word.now }
+{
+    let number = read_number(word)?;
+    if 1 <= number && number <= most {
+        Some(number)
+    } else {
+        None
+    }
+}
+
+/// The number of milliseconds, 1 to 2^40, that a word spells.
+pub(crate) fn read_duration(word: &str) -> Option<u64>
+    ensures { Finds (SpellsUpTo MAX_DURATION_MS) result word.now }
+{
+    read_up_to(word, MAX_DURATION_MS)
+}
+
+/// The number, 1 to 65535, that a word spells.
+pub(crate) fn read_small(word: &str) -> Option<u16>
+    ensures { Finds (SpellsUpTo 65535) result word.now }
+{
+    match read_up_to(word, 65_535) {
+        Some(number) => Some(number as u16),
+        None => None,
+    }
+}

@@ -1,0 +1,5 @@
+//! Tests of the vector kernels.
+#![tactic(auto)]
+
+#[cfg(test)]
+mod rows;
