@@ -192,7 +192,7 @@ fn freed_numbers(alloc: Global, leases: &Leases, moment: u64) -> Result<Vec<i64>
     Ok(numbers)
 }
 
-const LEASE_OF_100: &str = "1 70 dirty 00@3/4/5 1 1 16
+const LEASE_OF_100: &str = "1 70 dirty 00@3/4/5 1 100 16
 > granted 100
 ? 0
 > pairs 1

@@ -4,7 +4,9 @@ use Rattle.rmi_cli.proofs.serve_input.serve_on.Goals as goal
 
 pub returns-clause-fault : goal.returns-clause-fault
 returns-clause-fault g c =
-    accept_failed _ _ _ _ _ _ _ _ _ _ (_, c.print_outline-printed.ensures, c.end_after.ensures) (listened _ _ _ _ _ c.listen.ensures.listens) c.serve_links-report.ensures.fault
+    let before = g.L.Listener.listening c.args.listener.now in
+    let heard = g.L.Listener.listening c.listen.new.self in
+    accept_failed _ _ _ _ _ _ _ _ _ _ (_, c.print_outline-printed.ensures, c.end_after.ensures) (listened before heard _ _ _ c.listen.ensures.listens) c.serve_links-report.ensures.fault
 
 pub returns-clause-write_fault : goal.returns-clause-write_fault
 returns-clause-write_fault g c = print_failed _ _ _ _ _ _ _ (_, c.print_outline-printed.ensures, c.end_after.ensures)
@@ -17,4 +19,6 @@ returns-clause-ends g c = (_, c.print_outline-printed.ensures, c.end_after.ensur
 
 pub returns-clause-alone : goal.returns-clause-alone
 returns-clause-alone g c =
-    c.serve_links-report.ensures.ports ∙ added _ _ _ _ _ (sym c.is_err.ensures.value ∙ c.if-is_err.false) c.listen.ensures.listens
+    let before = g.L.Listener.listening c.args.listener.now in
+    let heard = g.L.Listener.listening c.listen.new.self in
+    c.serve_links-report.ensures.ports ∙ added before heard _ _ _ (sym c.is_err.ensures.value ∙ c.if-is_err.false) c.listen.ensures.listens
