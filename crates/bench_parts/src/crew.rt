@@ -2,7 +2,6 @@
 ghost use Rattle.std.specs.Prelude.{◌≡◌, ◌+◌, ◌≤◌, ◌<◌, ◌^◌};
 ghost use Rattle.std.specs.Thread.{IsSync};
 ghost use Rattle.turn_lock.specs.Handles.{IsBranchOf, IsRootOf};
-ghost use Rattle.turn_lock.specs.Rule.{most_turns};
 
 use history::{Ask, SpaceConfig};
 use object_ids::Uid;
@@ -23,6 +22,7 @@ pub(crate) fn fresh(alloc: Global) -> Space {
             time: 0,
             count: 0,
         },
+        stored: true,
     };
     Space::fresh(alloc, &config)
 }
@@ -30,7 +30,7 @@ pub(crate) fn fresh(alloc: Global) -> Space {
 /// Notes so many times that time has passed.
 fn ticks<P: Port>(port: &mut P, turns: u64)
     requires ready { P.ready port.old }
-    requires room { turns ≤ P.room_of port.old }
+    requires room { turns ≤ (P.shown port.old).room }
     requires few { turns < 2 ^ 62 }
     ensures ready { P.ready port.new }
     ensures leads { P.leads port.old port.new }
@@ -43,7 +43,6 @@ fn ticks<P: Port>(port: &mut P, turns: u64)
 /// A pass after so many turns.
 fn work<R: Wait>(rt: &R, alloc: Global, lock: &TurnLock, mut pass: Pass, turns: u64) -> Pass
     requires own { IsBranchOf lock.now pass }
-    requires room { pass.room ≡ most_turns }
     requires few { turns ≤ 100000 }
     ensures { IsBranchOf lock.now result }
 {
@@ -85,7 +84,7 @@ pub(crate) fn crew<R: Threads + Wait + Sync>(
             crew(rt, alloc, lock, root, left, turns)
         },
         move || -> Pass
-            requires { IsSync R.row × IsBranchOf lock.now pass × (pass.room ≡ most_turns) × (turns ≤ 100000) }
+            requires { IsSync R.row × IsBranchOf lock.now pass × (turns ≤ 100000) }
             ensures { IsBranchOf lock.entry.now result }
         { work(rt, alloc, lock, pass, turns) },
     );

@@ -1,5 +1,5 @@
 -- An acknowledgement in its dialogue.
-use Rattle.std.proofs.Common.{ℕ, ◌+◌, ◌<◌, ◌≤◌, inl, inr, List, [], ◌∷◌, ◌++◌, length, Option, Result, Ok, Err, IfOk, refl, ap, sym, subst, ◌∙◌, arith, add-zero}
+use Rattle.std.proofs.Common.{ℕ, ◌+◌, ◌<◌, ◌≤◌, max, inl, inr, List, [], ◌∷◌, ◌++◌, length, Option, Result, Ok, Err, IfOk, refl, ap, sym, subst, ◌∙◌, arith, add-zero}
 use Rattle.wire_io.specs.Wire.{Rose, with_end-nothing}
 use Rattle.wire_io.specs.Pulled.{PullState, Takes}
 use Rattle.wire_io.specs.declared.pull.PullEnd.TheVariants as pulled
@@ -34,7 +34,7 @@ use Rattle.call_dispatch.proofs.Balancing.{balanced_quiet}
 use Rattle.call_dispatch.proofs.Blaming.{counts, blameless, rose_after}
 use Rattle.call_dispatch.proofs.MessageSteps.{limit_left}
 use Rattle.call_dispatch.proofs.Steps.{spot_at, talks_on, talks_in, stands_more}
-use Rattle.call_dispatch.specs.declared.messages.TheConstants.{MAX_MESSAGES}
+use Rattle.call_dispatch.specs.declared.messages.TheConstants.{MAX_MESSAGES, MAX_BYTES}
 use Rattle.system_objects.specs.declared.returns.TheConstants.{RETURN_BYTES}
 
 -- The input stopped behind some bytes.
@@ -115,7 +115,7 @@ pub ack_most : (may : Invocation → Outcome → Type 0) (moves : States → Cal
 ack_most may moves first now a b sent (Ok sent2) (same, (uid, moment, answer, fits, noted, takes, led)) = (omega (arith, same), omega (arith, takes.at))
 ack_most may moves first now a b sent (Err end) how = tt
 
-pub most_of_ack : (result : Result ℕ ConnEnd) (sent first mid now : ℕ) → mid ≤ first + 1 → IfOk result (λ after. (after ≤ sent) × (now ≤ mid + 14)) → IfOk result (λ after. (after ≤ sent + RETURN_BYTES) × (now ≤ first + MESSAGE_BYTES))
+pub most_of_ack : (result : Result ℕ ConnEnd) (sent first mid now : ℕ) → mid ≤ first + 1 → IfOk result (λ after. (after ≤ sent) × (now ≤ mid + 14)) → IfOk result (λ after. (after ≤ max (sent + 1) (MAX_BYTES + RETURN_BYTES)) × (now ≤ max (first + 15) (MAX_BYTES + MESSAGE_BYTES)))
 most_of_ack (Ok after) sent first mid now coded h = (omega (arith, h.0), omega (arith, h.1, coded))
 most_of_ack (Err end) sent first mid now coded h = tt
 

@@ -7,7 +7,9 @@ use Rattle.object_ids.specs.Draw.{uid_drawn}
 use Rattle.history.specs.declared.asks.Ask.TheVariants.{Begin}
 use Rattle.history.specs.declared.replies.Reply.TheVariants.{Started}
 use Rattle.history.specs.declared.replies.Turn.{Turn}
-use Rattle.ser_read.specs.Wants.{Stand, WantFault, serve_to_close}
+use Rattle.stream_grammar.specs.Reading.{short}
+use Rattle.ser_read.specs.Here.{NeedsAll}
+use Rattle.ser_read.specs.Wants.{Stand, WantFault, inside, serve_to_close}
 use Rattle.ser_read.specs.Heading.{inside_block}
 use Rattle.jrmp_frames.specs.declared.code.Code.TheVariants.{Call as CallCode}
 use Rattle.jrmp_frames.specs.declared.fault.FrameFault.{FrameFault}
@@ -100,6 +102,19 @@ head_breaks may moves terms start first p q held side drawn sent opening exchang
     let (more, left, here) = breaks_at head_at p q fault within broken in
     breaks_talk head_at may moves terms start first (spot_at p held side drawn) (spot_at q held side drawn) p.at p.stop sent opening exchanges more [] p.at p.stop more q.left (end_from fault)
     h left refl (led_nothing may moves side) refl here (inl (more, refl, moved head_at p.at (h.place + 1) p.stop (h.place + MESSAGE_BYTES) more q.left (end_from fault) h.position h.limit here))
+
+nothing_left_out : {Y : Type 0} (at : ℕ) (read : ℕ → List ℕ → Result Y WantFault) → NeedsAll (inside short) at [] read
+nothing_left_out at read [] next others is = absurd (cc)
+nothing_left_out at read (byte ∷ front) next others is = absurd (cc)
+
+-- Nothing of the Call was read behind its code.
+pub head_unread : (may : Invocation → Outcome → Type 0) (moves : States → Call → States → Type 0) (terms : Terms) (start first : ConnectionState) (p : PullState) (held : Option (List ℕ)) (side : Observed) (drawn sent : ℕ) (opening : Opening) (exchanges : List Exchange)
+    → IsCoded may moves terms start first (spot_at p held side drawn) p.at p.stop sent opening exchanges → p.at ≤ p.stop
+    → Talked may moves terms start (spot_at p held side drawn) ends.OutOfMemory
+head_unread may moves terms start first p held side drawn sent opening exchanges h within =
+    let here : BreaksAt head_at p.at p.stop [] p.left ends.OutOfMemory = (nothing_left_out p.at head_at, omega (arith, within)) in
+    breaks_talk head_at may moves terms start first (spot_at p held side drawn) (spot_at p held side drawn) p.at p.stop sent opening exchanges [] [] p.at p.stop [] p.left ends.OutOfMemory
+    h (sym (with_front-nothing p.left)) refl (led_nothing may moves side) refl here (inl ([], refl, moved head_at p.at (h.place + 1) p.stop (h.place + MESSAGE_BYTES) [] p.left ends.OutOfMemory h.position h.limit here))
 
 -- Reading ended in the arguments.
 pub arguments_break : (may : Invocation → Outcome → Type 0) (moves : States → Call → States → Type 0) (terms : Terms) (start first : ConnectionState) (p q : PullState) (held : Option (List ℕ)) (side side2 : Observed) (drawn drew sent : ℕ) (opening : Opening) (exchanges : List Exchange)

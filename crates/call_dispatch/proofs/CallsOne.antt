@@ -121,12 +121,12 @@ no_place : (a : ℕ) → some_place a ≡ None → ⊥
 no_place a e = cc
 
 -- A kind doesn't have the method that it doesn't have.
-none_known : (kinds : List Kind) (kind : ℕ) (head : CallHead) (place : ℕ) → IsMethodOf kinds kind head place → HasNoMethod kinds kind head → ⊥
+pub none_known : (kinds : List Kind) (kind : ℕ) (head : CallHead) (place : ℕ) → IsMethodOf kinds kind head place → HasNoMethod kinds kind head → ⊥
 none_known kinds kind head place known (inl other) = other known.0
 none_known kinds kind head place known (inr none) = no_place place (sym known.1 ∙ none)
 
 -- One place has one method.
-known_same : (kinds : List Kind) (kind : ℕ) (head : CallHead) (place place2 : ℕ) (method method2 : Method) → IsMethodOf kinds kind head place → IsMethodOf kinds kind head place2
+pub known_same : (kinds : List Kind) (kind : ℕ) (head : CallHead) (place place2 : ℕ) (method method2 : Method) → IsMethodOf kinds kind head place → IsMethodOf kinds kind head place2
     → slice_get (methods_of kinds kind) place ≡ Some method → slice_get (methods_of kinds kind) place2 ≡ Some method2 → (place ≡ place2) × (method ≡ method2)
 known_same kinds kind head place place2 method method2 known known2 is is2 =
     let places : place ≡ place2 = place_same place place2 (sym known.1 ∙ known2.1) in

@@ -46,6 +46,7 @@ led_nothing may moves a = record {
   may_all = tt;
   seen = tells_nothing a.seen;
   state = leads_nothing moves a.state;
+  number = refl;
 }
 
 -- Some acts, and then others.
@@ -65,6 +66,7 @@ led_more may moves a b c xs ys first then =
       may_all = rw cs (may_more may (flat_map calls xs) (flat_map calls ys) first.may_all then.may_all);
       seen = rw cs (tells_more a.seen b.seen c.seen (flat_map calls xs) (flat_map calls ys) first.seen then.seen);
       state = rw cs (leads_more moves a.state b.state c.state (flat_map calls xs) (flat_map calls ys) first.state then.state);
+      number = then.number ∙ first.number;
     }
 
 -- Nothing was done yet.

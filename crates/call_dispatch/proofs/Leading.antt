@@ -1,5 +1,5 @@
 -- Turns and calls of the worker, one act after another.
-use Rattle.std.proofs.Common.{◌≡◌, ℕ, ◌+◌, ◌<◌, List, [], ◌∷◌, ◌++◌, length, take, get_or, Option, Result, Ok, Err, ap, sym, subst, ◌∙◌, append-nil, add-zero}
+use Rattle.std.proofs.Common.{◌≡◌, ℕ, ◌+◌, ◌<◌, List, [], ◌∷◌, ◌++◌, length, take, get_or, Option, Result, Ok, Err, refl, ap, sym, subst, ◌∙◌, append-nil, add-zero}
 use Rattle.std.proofs.lemmas.List.{take_more, map-append}
 use Rattle.wire_io.specs.Wire.{Gave, Gave-nothing}
 use Rattle.object_ids.specs.declared.ids.ObjId.{ObjId}
@@ -28,6 +28,7 @@ led_made may moves a asked given entry is gave = record {
   may_all = tt;
   seen = tells_nothing a.seen;
   state = leads_nothing moves a.state;
+  number = refl;
 }
 
 -- a turn for which there was no memory
@@ -40,34 +41,37 @@ led_lost may moves a asked given moment is gave = record {
   may_all = tt;
   seen = tells_nothing a.seen;
   state = leads_nothing moves a.state;
+  number = refl;
 }
 
 -- The worker was told of an object.
-pub led_told : (may : Invocation → Outcome → Type 0) (moves : States → Call → States → Type 0) (asked : List Asked) (given : Option (List ℕ)) (object : ObjId) (invoked invoked2 : ℕ) (seen seen2 : Option (List Call)) (state state2 : Option States)
-    → invoked2 ≡ invoked → TellsMore seen (unreferenced object ∷ []) seen2 → LeadsStates moves state (unreferenced object ∷ []) state2
-    → Led may moves (record { asked = asked; given = given; invoked = invoked; seen = seen; state = state }) (record { asked = asked; given = given; invoked = invoked2; seen = seen2; state = state2 })
+pub led_told : (may : Invocation → Outcome → Type 0) (moves : States → Call → States → Type 0) (asked : List Asked) (given : Option (List ℕ)) (object : ObjId) (invoked invoked2 : ℕ) (seen seen2 : Option (List Call)) (state state2 : Option States) (number number2 : ℕ)
+    → number2 ≡ number → invoked2 ≡ invoked → TellsMore seen (unreferenced object ∷ []) seen2 → LeadsStates moves state (unreferenced object ∷ []) state2
+    → Led may moves (record { asked = asked; given = given; invoked = invoked; seen = seen; state = state; number = number }) (record { asked = asked; given = given; invoked = invoked2; seen = seen2; state = state2; number = number2 })
     (called (unreferenced object) ∷ [])
-led_told may moves asked given object invoked invoked2 seen seen2 state state2 same tells leads = record {
+led_told may moves asked given object invoked invoked2 seen seen2 state state2 number number2 stays same tells leads = record {
   asked = sym (append-nil asked);
   given = Gave-nothing given;
   invoked = same ∙ sym (add-zero invoked);
   may_all = tt;
   seen = tells;
   state = leads;
+  number = stays;
 }
 
 -- The worker was invoked.
-pub led_invoked : (may : Invocation → Outcome → Type 0) (moves : States → Call → States → Type 0) (asked : List Asked) (given : Option (List ℕ)) (call : Invocation) (outcome : Outcome) (invoked invoked2 : ℕ) (seen seen2 : Option (List Call)) (state state2 : Option States)
-    → invoked2 ≡ invoked + 1 → may call outcome → TellsMore seen (invokes call outcome ∷ []) seen2 → LeadsStates moves state (invokes call outcome ∷ []) state2
-    → Led may moves (record { asked = asked; given = given; invoked = invoked; seen = seen; state = state }) (record { asked = asked; given = given; invoked = invoked2; seen = seen2; state = state2 })
+pub led_invoked : (may : Invocation → Outcome → Type 0) (moves : States → Call → States → Type 0) (asked : List Asked) (given : Option (List ℕ)) (call : Invocation) (outcome : Outcome) (invoked invoked2 : ℕ) (seen seen2 : Option (List Call)) (state state2 : Option States) (number number2 : ℕ)
+    → number2 ≡ number → invoked2 ≡ invoked + 1 → may call outcome → TellsMore seen (invokes call outcome ∷ []) seen2 → LeadsStates moves state (invokes call outcome ∷ []) state2
+    → Led may moves (record { asked = asked; given = given; invoked = invoked; seen = seen; state = state; number = number }) (record { asked = asked; given = given; invoked = invoked2; seen = seen2; state = state2; number = number2 })
     (called (invokes call outcome) ∷ [])
-led_invoked may moves asked given call outcome invoked invoked2 seen seen2 state state2 same allowed tells leads = record {
+led_invoked may moves asked given call outcome invoked invoked2 seen seen2 state state2 number number2 stays same allowed tells leads = record {
   asked = sym (append-nil asked);
   given = Gave-nothing given;
   invoked = same;
   may_all = (allowed, tt);
   seen = tells;
   state = leads;
+  number = stays;
 }
 
 -- The worker was told of one more object.

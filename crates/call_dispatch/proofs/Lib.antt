@@ -13,6 +13,7 @@ pub mod OpeningSteps
 pub mod MessageSteps
 pub mod CallSteps
 pub mod Blaming
+pub mod Shutting
 pub mod SystemTurns
 pub mod SystemSteps
 pub mod AckSteps
@@ -24,3 +25,5 @@ pub mod CallsOne
 pub mod SystemOne
 pub mod OpeningReading
 pub mod OneReading
+pub mod WholeCalls
+pub mod Completing

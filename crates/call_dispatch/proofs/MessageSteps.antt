@@ -1,5 +1,5 @@
 -- The messages of a dialogue, over plain lists.
-use Rattle.std.proofs.Common.{◌≡◌, ℕ, ◌+◌, ◌<◌, ◌≤◌, List, [], ◌∷◌, length, take, Option, Result, Ok, Err, IfOk, refl, sym, ap, ◌∙◌, inr, arith}
+use Rattle.std.proofs.Common.{◌≡◌, ℕ, ◌+◌, ◌<◌, ◌≤◌, max, List, [], ◌∷◌, length, take, Option, Result, Ok, Err, IfOk, refl, sym, ap, ◌∙◌, inr, arith}
 use Rattle.wire_io.specs.Wire.{with_front-nothing, with_front}
 use Rattle.wire_io.specs.Pulled.{PullState}
 use Rattle.jrmp_frames.specs.declared.header.Protocol.TheVariants.{Stream, SingleOp}
@@ -19,7 +19,9 @@ use Rattle.call_dispatch.specs.Dialogue.{Opening, stream, single_op, protocol_of
 use Rattle.call_dispatch.specs.Progress.{StandsWhole, Talked, StepsTo, Writes, end_from}
 use Rattle.call_dispatch.proofs.Going.{goes_exchanged}
 use Rattle.call_dispatch.proofs.Steps.{spot_at, talks_took, talks_in, talks_cut, stands_more}
-use Rattle.call_dispatch.specs.declared.messages.TheConstants.{MAX_MESSAGES}
+use Rattle.call_dispatch.specs.declared.messages.TheConstants.{MAX_MESSAGES, MAX_BYTES}
+use Rattle.ser_values.specs.declared.limits.TheConstants.{MESSAGE_BYTES}
+use Rattle.system_objects.specs.declared.returns.TheConstants.{RETURN_BYTES}
 
 -- The connection ends in a code's place.
 pub code_ends : (may : Invocation → Outcome → Type 0) (moves : States → Call → States → Type 0) (terms : Terms) (start : ConnectionState) (old new : PullState) (held : Option (List ℕ)) (side : Observed) (drawn sent : ℕ) (w : Completed) (fault : FrameFault)
@@ -79,6 +81,9 @@ pub most_of : (result : Result ℕ ConnEnd) (x a b : ℕ) → a ≤ b → IfOk r
 most_of (Ok after) x a b le h = (h, le)
 most_of (Err end) x a b le h = tt
 
-pub most_on : (result : Result ℕ ConnEnd) (x a b c : ℕ) → b ≤ c → IfOk result (λ after. (after ≤ x) × (a ≤ b)) → IfOk result (λ after. (after ≤ x) × (a ≤ c))
-most_on (Ok after) x a b c le h = (h.0, omega (arith, h.1, le))
-most_on (Err end) x a b c le h = tt
+-- A Call behind few bytes.
+pub most_of_call : (result : Result ℕ ConnEnd) (sent first mid stop now : ℕ) → stop ≤ first + MESSAGE_BYTES → first ≤ mid → IfOk result (λ after. (after ≤ sent + RETURN_BYTES) × (now ≤ stop))
+    → IfOk result (λ after. (sent ≤ MAX_BYTES) × (mid ≤ MAX_BYTES))
+    → IfOk result (λ after. (after ≤ max (sent + 1) (MAX_BYTES + RETURN_BYTES)) × (now ≤ max (first + 15) (MAX_BYTES + MESSAGE_BYTES)))
+most_of_call (Ok after) sent first mid stop now le low h early = (omega (arith, h.0, early.0), omega (arith, h.1, le, low, early.1))
+most_of_call (Err end) sent first mid stop now le low h early = tt

@@ -44,17 +44,17 @@ first_byte [] = 0
 first_byte (b ∷ bytes) = b
 
 -- A Call doesn't begin as a Ping does, nor as an acknowledgement, and these two neither.
-no_call : (xs ys : List ℕ) → code_byte Call ∷ xs ≡ code_byte Ping ∷ ys → ⊥
+pub no_call : (xs ys : List ℕ) → code_byte Call ∷ xs ≡ code_byte Ping ∷ ys → ⊥
 no_call xs ys same = true≢false (ap (λ (l : List ℕ). eqb (first_byte l) 0x50) same)
 
-no_ack : (xs ys : List ℕ) → code_byte Call ∷ xs ≡ code_byte DgcAck ∷ ys → ⊥
+pub no_ack : (xs ys : List ℕ) → code_byte Call ∷ xs ≡ code_byte DgcAck ∷ ys → ⊥
 no_ack xs ys same = true≢false (ap (λ (l : List ℕ). eqb (first_byte l) 0x50) same)
 
-no_ping : (xs ys : List ℕ) → code_byte Ping ∷ xs ≡ code_byte DgcAck ∷ ys → ⊥
+pub no_ping : (xs ys : List ℕ) → code_byte Ping ∷ xs ≡ code_byte DgcAck ∷ ys → ⊥
 no_ping xs ys same = true≢false (ap (λ (l : List ℕ). eqb (first_byte l) 0x52) same)
 
 -- The identifier of an acknowledgement, and what comes behind it.
-uid_same : (uid uid2 : Uid) (xs ys : List ℕ) → FitsUid uid → FitsUid uid2 → bytes_of_uid uid ++ xs ≡ bytes_of_uid uid2 ++ ys → (uid ≡ uid2) × (xs ≡ ys)
+pub uid_same : (uid uid2 : Uid) (xs ys : List ℕ) → FitsUid uid → FitsUid uid2 → bytes_of_uid uid ++ xs ≡ bytes_of_uid uid2 ++ ys → (uid ≡ uid2) × (xs ≡ ys)
 uid_same uid uid2 xs ys fits fits2 same =
     let uids : uid ≡ uid2 = sym (uid-spelled uid xs fits.unique fits.time fits.count) ∙ ap uid_from_bytes same ∙ uid-spelled uid2 ys fits2.unique fits2.time fits2.count in
     (uids, same_behind (bytes_of_uid uid) (bytes_of_uid uid2) xs ys (ap bytes_of_uid uids) same)
@@ -124,18 +124,18 @@ next_is_one terms drawn (system bytes head uid s) (system bytes2 head2 uid2 s2) 
 -- ---- what comes next
 
 -- after an opening and some exchanges: a Ping, an acknowledgement or a Call, with the input behind its code; or an end, with what is left
-data Next : Type 0 where
+pub data Next : Type 0 where
   pinged : List ℕ → Next
   acking : List ℕ → Next
   calling : List ℕ → Next
   stopped : ConnEnd → List ℕ → Next
 
 -- behind the code of an acknowledgement that stands at `at`
-abbrev ack_next : ℕ → List ℕ → Next
+abbrev pub ack_next : ℕ → List ℕ → Next
 ack_next at xs = cond (nat_lt (length xs) 14) (stopped (Truncated (at + 1 + length xs)) []) (acking xs)
 
 -- at a code's place at `at`, where n messages were served
-abbrev code_next : ℕ → ℕ → List ℕ → Next
+abbrev pub code_next : ℕ → ℕ → List ℕ → Next
 code_next n at [] = stopped Ended []
 code_next n at (b ∷ xs) =
     cond (eqb b 0x50 || (eqb b 0x52 || eqb b 0x54))
@@ -144,20 +144,20 @@ code_next n at (b ∷ xs) =
     (stopped (BadMessage b at) xs)
 
 -- where the connection wasn't closed
-abbrev open_next : Opening → List Exchange → ℕ → List ℕ → Next
+abbrev pub open_next : Opening → List Exchange → ℕ → List ℕ → Next
 open_next (stream endpoint) es at xs = code_next (length es) at xs
 open_next single_op [] at xs = code_next 0 at xs
 open_next single_op (e ∷ es) at xs = stopped Ended xs
 
-abbrev unless_closed : List ℕ → Next → Option ConnEnd → Next
+abbrev pub unless_closed : List ℕ → Next → Option ConnEnd → Next
 unless_closed xs goes None = goes
 unless_closed xs goes (Some end) = stopped end xs
 
-abbrev next : Opening → List Exchange → List ℕ → Next
+abbrev pub next : Opening → List Exchange → List ℕ → Next
 next opening es xs = unless_closed xs (open_next opening es (length (taken_in (opened opening es))) xs) (closed_by es)
 
 -- an exchange that comes next
-abbrev went : Exchange → List ℕ → Next
+abbrev pub went : Exchange → List ℕ → Next
 went ping xs = pinged xs
 went (acknowledged uid moment answer) xs = acking (bytes_of_uid uid ++ xs)
 went (served bytes head uid s) xs = calling (bytes ++ xs)
@@ -179,7 +179,7 @@ open_reads single_op [] at e rest few = code_reads 0 at e rest (omega arith)
 open_reads single_op (f ∷ es) at e rest few = absurd (omega (arith, few))
 
 -- A whole exchange is what comes next.
-next_reads : (opening : Opening) (es : List Exchange) (e : Exchange) (rest : List ℕ) → length es < most_messages opening → StaysOpen es → next opening es (taken_by e ++ rest) ≡ went e rest
+pub next_reads : (opening : Opening) (es : List Exchange) (e : Exchange) (rest : List ℕ) → length es < most_messages opening → StaysOpen es → next opening es (taken_by e ++ rest) ≡ went e rest
 next_reads opening es e rest few goes =
     ap (unless_closed (taken_by e ++ rest) (open_next opening es (length (taken_in (opened opening es))) (taken_by e ++ rest))) goes
     ∙ open_reads opening es (length (taken_in (opened opening es))) e rest few
@@ -235,15 +235,15 @@ after_code : (a b : ℕ) → a + suc b ≡ a + 1 + b
 after_code a b = omega arith
 
 -- After these exchanges came these bytes and this end, and nothing else was done.
-abbrev Stops : Opening → List Exchange → Transcript → List ℕ → ConnEnd → Type 0
+abbrev pub Stops : Opening → List Exchange → Transcript → List ℕ → ConnEnd → Type 0
 Stops opening es tail rest end = (more : List ℕ) × (tail ≡ bytes_taken more) × (next opening es (more ++ rest) ≡ stopped end rest)
 
 -- After these exchanges a Call began, and reading ended in it.
-abbrev StopsInCall : Terms → Opening → List Exchange → Transcript → List ℕ → ConnEnd → Type 0
+abbrev pub StopsInCall : Terms → Opening → List Exchange → Transcript → List ℕ → ConnEnd → Type 0
 StopsInCall terms opening es tail rest end = (more : List ℕ) × (tail.taken ≡ code_byte Call ∷ more) × (next opening es (code_byte Call ∷ (more ++ rest)) ≡ calling (more ++ rest))
     × InAnyCall terms.kinds (length (taken_in (opened opening es))) tail rest end
 
-abbrev StopsAt : Terms → Opening → List Exchange → Transcript → List ℕ → ConnEnd → Type 0
+abbrev pub StopsAt : Terms → Opening → List Exchange → Transcript → List ℕ → ConnEnd → Type 0
 StopsAt terms opening es tail rest end = Stops opening es tail rest end ⊎ StopsInCall terms opening es tail rest end
 
 -- what was taken of the Call
@@ -258,7 +258,7 @@ call_stops terms opening es tail rest end (code, room, inside) =
     let (more, taken) = taken_of terms at tail rest end inside in
     inr (more, taken, at_code_next opening es (code_byte Call ∷ (more ++ rest)) code ∙ call_next (length es) at (more ++ rest) room, inside)
 
-opened_stops : (terms : Terms) (drawn : ℕ) (opening : Opening) (es : List Exchange) (tail : Transcript) (rest : List ℕ) (end : ConnEnd)
+pub opened_stops : (terms : Terms) (drawn : ℕ) (opening : Opening) (es : List Exchange) (tail : Transcript) (rest : List ℕ) (end : ConnEnd)
     → Ends terms drawn (opened opening es) tail (Some rest) end → IsSettled end → StopsAt terms opening es tail rest end
 opened_stops terms drawn opening es tail rest Ended (inl (code, left), is) settled =
     let at : ℕ = length (taken_in (opened opening es)) in
@@ -294,7 +294,7 @@ next_same : (opening : Opening) (es : List Exchange) (xs ys : List ℕ) (a b : N
 next_same opening es xs ys a b same one two = sym one ∙ ap (next opening es) same ∙ two
 
 -- the input of a Call in which reading ended
-call_input : (tail : Transcript) (more rest : List ℕ) → tail.taken ≡ code_byte Call ∷ more → tail.taken ++ rest ≡ code_byte Call ∷ (more ++ rest)
+pub call_input : (tail : Transcript) (more rest : List ℕ) → tail.taken ≡ code_byte Call ∷ more → tail.taken ++ rest ≡ code_byte Call ∷ (more ++ rest)
 call_input tail more rest taken = ap (λ (l : List ℕ). l ++ rest) taken
 
 -- After some exchanges one end stands.
@@ -317,7 +317,7 @@ ends_one terms opening es tail tail2 rest rest2 end end2 t t2 (inr (more, taken,
 ends_one terms opening es tail tail2 rest rest2 end end2 t t2 (inr (more, taken, calls, inside)) settled (inr (more2, taken2, calls2, inside2)) settled2 input ticking =
     in_any_one terms.kinds (length (taken_in (opened opening es))) tail tail2 rest rest2 end end2 t t2 inside settled inside2 settled2 input ticking
 
-stopped_went : (end : ConnEnd) (rest : List ℕ) (f : Exchange) (xs : List ℕ) → stopped end rest ≡ went f xs → ⊥
+pub stopped_went : (end : ConnEnd) (rest : List ℕ) (f : Exchange) (xs : List ℕ) → stopped end rest ≡ went f xs → ⊥
 stopped_went end rest ping xs same = cc
 stopped_went end rest (acknowledged uid moment answer) xs same = cc
 stopped_went end rest (served bytes head uid s) xs same = cc
@@ -349,7 +349,7 @@ chain_rest terms drawn e [] chain = tt
 chain_rest terms drawn e (f ∷ es) chain = chain.2
 
 -- The first of some exchanges, and then the rest.
-first_taken : (e : Exchange) (es : List Exchange) (xs : List ℕ) → flat_map taken_by (e ∷ es) ++ xs ≡ taken_by e ++ (flat_map taken_by es ++ xs)
+pub first_taken : (e : Exchange) (es : List Exchange) (xs : List ℕ) → flat_map taken_by (e ∷ es) ++ xs ≡ taken_by e ++ (flat_map taken_by es ++ xs)
 first_taken e es xs = append_assoc (taken_by e) (flat_map taken_by es) xs
 
 -- one list of acts, and then another
@@ -381,7 +381,7 @@ chain_open terms drawn f [] es one others chain is =
     absurd (omega (arith, long))
 chain_open terms drawn f (g ∷ fs) es one others chain is = chain.1
 
-goes_more : (e : Exchange) (es : List Exchange) → IsOpen e → StaysOpen es → StaysOpen (e ∷ es)
+pub goes_more : (e : Exchange) (es : List Exchange) → IsOpen e → StaysOpen es → StaysOpen (e ∷ es)
 goes_more e [] still goes = still
 goes_more e (f ∷ es) still goes = goes
 
@@ -574,7 +574,7 @@ one_dialogue terms drawn c c2 rest rest2 end end2 t t2 first settled second sett
     ]
 
 -- What was taken is a front of what was told.
-front_told : (input taken : List ℕ) (left : Option (List ℕ)) → Some input ≡ with_front taken left → (rest : List ℕ) × (left ≡ Some rest) × (input ≡ taken ++ rest)
+pub front_told : (input taken : List ℕ) (left : Option (List ℕ)) → Some input ≡ with_front taken left → (rest : List ℕ) × (left ≡ Some rest) × (input ≡ taken ++ rest)
 front_told input taken None same = cc
 front_told input taken (Some rest) same = (rest, refl, (cc))
 

@@ -166,7 +166,7 @@ system_exchange_one terms drawn head head2 bytes bytes2 uid uid2 s s2 rest rest2
     (heads, system_one terms drawn head bytes bytes2 uid uid2 s s2 rest rest2 t t2 is (subst P (sym heads) is2) input ticking)
 
 -- One head isn't of the two objects and of another.
-heads_differ : (head head2 : CallHead) → head ≡ head2 → is_system head.id ≡ true → is_system head2.id ≡ false → ⊥
+pub heads_differ : (head head2 : CallHead) → head ≡ head2 → is_system head.id ≡ true → is_system head2.id ≡ false → ⊥
 heads_differ head head2 same own other = true≢false (sym own ∙ ap (λ (h : CallHead). is_system h.id) same ∙ other)
 
 -- A Call that is served is none of the two objects.
@@ -186,7 +186,7 @@ unfolding wants_at magic_at
 behind_magic n ws bytes = refl
 
 -- The arguments of a Call are read behind its head, whatever comes behind them.
-arguments_read : (head : CallHead) (params : List TypeCode) (arguments : Arguments) (bytes : List ℕ) (b : Begins head bytes) (n : ℕ) (r : List ℕ) → CallBytes head params arguments (0x50 ∷ bytes)
+pub arguments_read : (head : CallHead) (params : List TypeCode) (arguments : Arguments) (bytes : List ℕ) (b : Begins head bytes) (n : ℕ) (r : List ℕ) → CallBytes head params arguments (0x50 ∷ bytes)
     → (y : Whole) × (serve_to_close n (wants_of params) (inside_block (head_bytes head) b.left) (b.more ++ r) ≡ Ok y)
 arguments_read head params arguments bytes b n r call =
     let y : Whole = (items.Bytes (head_bytes head) ∷ call.answers, arguments.graph.nodes, joined (items.Bytes (head_bytes head) ∷ call.answers), r) in
@@ -211,10 +211,10 @@ SystemBreak at rest end head front left method more =
     BreaksAt (λ last. serve_to_close last (wants_of (params_of method)) (inside_block (head_bytes head) left)) (at + 1 + length front) (at + MESSAGE_BYTES) more (Some rest) end
 
 -- what comes behind the code
-system_behind : (at : ℕ) (tail : Transcript) (rest more2 rest2 : List ℕ) (end : ConnEnd) (a : EndsInSystem at tail (Some rest) end) → tail.taken ++ rest ≡ code_byte Call ∷ (more2 ++ rest2) → (a.front ++ a.more) ++ rest ≡ more2 ++ rest2
+pub system_behind : (at : ℕ) (tail : Transcript) (rest more2 rest2 : List ℕ) (end : ConnEnd) (a : EndsInSystem at tail (Some rest) end) → tail.taken ++ rest ≡ code_byte Call ∷ (more2 ++ rest2) → (a.front ++ a.more) ++ rest ≡ more2 ++ rest2
 system_behind at tail rest more2 rest2 end a input = ap (drop 1) (sym (ap (λ (c : Transcript). c.taken ++ rest) a.tail_is) ∙ input)
 
-begins_so : (at : ℕ) (tail : Transcript) (rest : List ℕ) (end : ConnEnd) (a : EndsInSystem at tail (Some rest) end) → Begins a.head (a.front ++ a.more)
+pub begins_so : (at : ℕ) (tail : Transcript) (rest : List ℕ) (end : ConnEnd) (a : EndsInSystem at tail (Some rest) end) → Begins a.head (a.front ++ a.more)
 begins_so at tail rest end a = record { front = a.front; left = a.left; more = a.more; is = refl; heading = a.heading }
 
 -- Reading ends in a head or behind it, not both.
@@ -245,7 +245,7 @@ system_ends_one at tail tail2 rest rest2 end end2 a settled b settled2 input =
     (one.0, a.tail_is ∙ ap (λ (l : List ℕ). bytes_taken (code_byte Call ∷ l ++ a.more)) same.2 ∙ ap (λ (l : List ℕ). bytes_taken (code_byte Call ∷ b.front ++ l)) one.1 ∙ sym b.tail_is)
 
 -- Reading doesn't end in the arguments of a Call that was read whole.
-system_not_read : (at : ℕ) (tail : Transcript) (rest : List ℕ) (end : ConnEnd) (method : SystemMethod) (arguments : Arguments) (bytes xs : List ℕ) → (a : EndsInSystem at tail (Some rest) end) → IsSettled end
+pub system_not_read : (at : ℕ) (tail : Transcript) (rest : List ℕ) (end : ConnEnd) (method : SystemMethod) (arguments : Arguments) (bytes xs : List ℕ) → (a : EndsInSystem at tail (Some rest) end) → IsSettled end
     → 1 + length bytes ≤ MESSAGE_BYTES → system_method a.head ≡ Some method → CallBytes a.head (params_of method) arguments (0x50 ∷ bytes) → (a.front ++ a.more) ++ rest ≡ bytes ++ xs → ⊥
 system_not_read at tail rest end method arguments bytes xs a settled few known call input =
     let methods : method ≡ a.method = method_same method a.method (sym known ∙ a.known) in

@@ -87,13 +87,26 @@ MayAll may [] = Unit {0}
 MayAll may (invokes call outcome ∷ more) = may call outcome × MayAll may more
 MayAll may (unreferenced object ∷ more) = MayAll may more
 
--- what is shown beside the bytes and the draw: a port's entries, a clock's moments, and a worker's count, calls and state
+-- what a worker shows: how many invocations it was given; its calls, in their order, where it tells them, which it may cease to do; the
+-- numbers that it keeps of objects, where it tells them; and the number of the connection that it was made for, which stays
+pub record WorkerState : Type 0 where
+  pub calls : ℕ
+  pub seen : Option (List Call)
+  pub state : Option States
+  pub number : ℕ
+
+-- what is shown beside the bytes and the draw: a port's entries, a clock's moments, and a worker's count, calls, state and number
 pub record Observed : Type 0 where
   pub asked : List Asked
   pub given : Option (List ℕ)
   pub invoked : ℕ
   pub seen : Option (List Call)
   pub state : Option States
+  pub number : ℕ
+
+-- the entries of a port, the moments of a clock and what a worker shows
+abbrev pub observed : List Asked → Option (List ℕ) → WorkerState → Observed
+observed asked given worker = record { asked = asked; given = given; invoked = worker.calls; seen = worker.seen; state = worker.state; number = worker.number }
 
 -- These acts lead from what was shown to what is shown. Nothing shows in which order entries and calls came among each other.
 pub record Led (may : Invocation → Outcome → Type 0) (moves : States → Call → States → Type 0) (before after : Observed) (acts : List Act) : Type 0 where
@@ -103,6 +116,7 @@ pub record Led (may : Invocation → Outcome → Type 0) (moves : States → Cal
   pub may_all : MayAll may (flat_map calls acts)
   pub seen : TellsMore before.seen (flat_map calls acts) after.seen
   pub state : LeadsStates moves before.state (flat_map calls acts) after.state
+  pub number : after.number ≡ before.number
 
 -- A turn was made at some moment, and the worker told what is gone.
 abbrev pub TakesTurn : (Invocation → Outcome → Type 0) → (States → Call → States → Type 0) → Observed → Observed → Ask → Result Turn Refused → Type 0

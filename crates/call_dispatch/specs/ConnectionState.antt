@@ -1,13 +1,13 @@
 -- The state of a connection, and what leads from one to another.
 use Rattle.std.specs.Prelude.{◌≡◌, ℕ, ◌+◌, List, [], ◌++◌, Option}
 use Rattle.wire_io.specs.Wire.{ReadHalf, WriteHalf, Wires, with_front, with_end}
-use Rattle.space.specs.declared.asked.Asked.{Asked}
+use Rattle.ports.specs.Ports.{PortState}
 use Rattle.system_objects.specs.declared.setup.Setup.{Setup}
 use Rattle.call_dispatch.specs.declared.connection.Connection.{Connection}
 use Rattle.call_dispatch.specs.declared.outcome.Invocation.{Invocation}
 use Rattle.call_dispatch.specs.declared.outcome.Outcome.{Outcome}
-use Rattle.system_objects.specs.Terms.{terms_of}
-use Rattle.call_dispatch.specs.Acts.{Act, Call, States, Observed, Led}
+use Rattle.system_objects.specs.Terms.{Terms, terms_of}
+use Rattle.call_dispatch.specs.Acts.{Act, Call, States, WorkerState, Observed, observed, Led}
 
 -- the state of a connection: its wires, what its port, clock and worker show, and how many identifiers were drawn
 pub record ConnectionState : Type 0 where
@@ -16,25 +16,26 @@ pub record ConnectionState : Type 0 where
   pub drawn : ℕ
 
 -- what the port, the clock and the worker of a connection show
-abbrev pub observed_of : {S K C P W : Type 0} → (C → Option (List ℕ)) → (P → List Asked)
-    → (W → ℕ) → (W → Option (List Call)) → (W → Option States) → Connection S K C P W → Observed
-observed_of given asked invoked seen state c =
-    record { asked = asked c.port.now; given = given c.clock.now; invoked = invoked c.worker.now; seen = seen c.worker.now; state = state c.worker.now }
+abbrev pub observed_of : {S K C P W : Type 0} → (C → Option (List ℕ)) → (P → PortState) → (W → WorkerState) → Connection S K C P W → Observed
+observed_of given port worker c = observed (port c.port.now).asked (given c.clock.now) (worker c.worker.now)
 
--- the state of what a connection is served with, by what each part shows
-abbrev pub state_of_parts : {S K C P W : Type 0} → (S → ReadHalf) → (K → WriteHalf) → (C → Option (List ℕ)) → (P → List Asked)
-    → (W → ℕ) → (W → Option (List Call)) → (W → Option States) → S → K → C → P → W → Setup → ConnectionState
-state_of_parts read_half write_half given asked invoked seen state source sink clock port worker setup = record {
-  wires = record { left = (read_half source).left; held = (write_half sink).held };
-  side = record { asked = asked port; given = given clock; invoked = invoked worker; seen = seen worker; state = state worker };
+-- the state of a connection by what its halves, its clock, its port and its worker show, and its setup
+abbrev pub state_of : ReadHalf → WriteHalf → Option (List ℕ) → PortState → WorkerState → Setup → ConnectionState
+state_of read write given port worker setup = record {
+  wires = record { left = read.left; held = write.held };
+  side = observed port.asked given worker;
   drawn = setup.draw.drawn;
 }
 
 -- the state of a connection
-abbrev pub state_of_connection : {S K C P W : Type 0} → (S → ReadHalf) → (K → WriteHalf) → (C → Option (List ℕ)) → (P → List Asked)
-    → (W → ℕ) → (W → Option (List Call)) → (W → Option States) → Connection S K C P W → ConnectionState
-state_of_connection read_half write_half given asked invoked seen state c =
-    state_of_parts read_half write_half given asked invoked seen state c.pull.source.now c.sink.now c.clock.now c.port.now c.worker.now c.setup.now
+abbrev pub state_of_connection : {S K C P W : Type 0} → (S → ReadHalf) → (K → WriteHalf) → (C → Option (List ℕ)) → (P → PortState)
+    → (W → WorkerState) → Connection S K C P W → ConnectionState
+state_of_connection read write given port worker c =
+    state_of (read c.pull.source.now) (write c.sink.now) (given c.clock.now) (port c.port.now) (worker c.worker.now) c.setup.now
+
+-- the terms of a connection
+abbrev pub terms_in : {S K C P W : Type 0} → Connection S K C P W → Terms
+terms_in c = terms_of c.book.now c.setup.now
 
 -- what a connection took, did, drew and wrote
 pub record Transcript : Type 0 where

@@ -230,7 +230,7 @@ EndsInCall terms w tail rest end = IsAtCode w × (count_of w < MAX_MESSAGES)
 --   MessageLimit: as many messages as a connection may have were served, and the code of another was taken.
 --   ReadFault: the source failed inside the opening, an acknowledgement or a Call, or where a code was to come.
 --   WriteFault: the sink failed inside an answer, of which a front was written.
---   OutOfMemory: there was no memory for the acknowledgement of the opening, for the next exchange, or inside a Call.
+--   OutOfMemory: there was no memory for the acknowledgement of the opening, for the next exchange, or inside a Call; or a Call came behind too many bytes.
 abbrev pub Ends : Terms → ℕ → Completed → Transcript → Option (List ℕ) → ConnEnd → Type 0
 Ends terms drawn w tail rest Ended = ((IsAtCode w × NothingLeft rest) ⊎ IsDone w) × (tail ≡ bytes_taken [])
 Ends terms drawn w tail rest (BadHeader at) = (w ≡ nothing) × ((more : List ℕ) × BreaksHeader at more × (tail ≡ bytes_taken more))

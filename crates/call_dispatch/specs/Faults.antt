@@ -1,4 +1,4 @@
--- What a connection's steps say of the outside's failures.
+-- What a connection's steps say of the outside's failures, and of its halves' ends.
 use Rattle.std.specs.Prelude.{◌≡◌, ℕ, ◌≤◌, Result, Ok, Err}
 use Rattle.wire_io.specs.Wire.{ReadHalf, WriteHalf, Rose}
 use Rattle.call_dispatch.specs.declared.connection.Connection.{Connection}
@@ -31,3 +31,8 @@ pub record Blames (before after : FaultCounts) (end : ConnEnd) : Type 0 where
 abbrev pub BlamesIn : {T : Type 0} → FaultCounts → FaultCounts → Result T ConnEnd → Type 0
 BlamesIn before after (Ok x) = Grew before after
 BlamesIn before after (Err end) = Blames before after end
+
+-- Neither half of a connection was shut in a step: what each had when it was first shut is what it was before.
+abbrev pub KeepsShut : {S K C P W : Type 0} → (S → ReadHalf) → (K → WriteHalf) → Connection S K C P W → Connection S K C P W → Type 0
+KeepsShut read_half write_half old new =
+    ((read_half new.pull.source.now).shut ≡ (read_half old.pull.source.now).shut) × ((write_half new.sink.now).shut ≡ (write_half old.sink.now).shut)

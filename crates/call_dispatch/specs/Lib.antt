@@ -2,6 +2,7 @@ pub mod Acts
 pub mod Hands
 pub mod Recording
 pub mod ConnectionState
+pub mod Conditions
 pub mod Faults
 pub mod Rows
 pub mod End
@@ -13,6 +14,7 @@ pub mod Returns
 pub mod Served
 pub mod Systems
 pub mod Invoked
+pub mod Complete
 pub mod Inside
 pub mod Progress
 pub mod Serving

@@ -27,6 +27,7 @@ use Rattle.jrmp_frames.specs.Gives.{StopsIn}
 use Rattle.jrmp_frames.specs.Messages.{wants_of}
 use Rattle.jrmp_frames.specs.Calls.{ReadsHead, BreaksIn}
 use Rattle.system_objects.specs.declared.book.Kind.{Kind}
+use Rattle.call_dispatch.specs.declared.connection.Connection.{Connection}
 use Rattle.call_dispatch.specs.declared.end.ConnEnd.{ConnEnd}
 use Rattle.call_dispatch.specs.declared.end.ConnEnd.TheVariants as ends
 use Rattle.call_dispatch.specs.declared.outcome.Invocation.{Invocation}
@@ -38,7 +39,7 @@ use Rattle.call_dispatch.specs.declared.returns.Prepared.{Prepared}
 use Rattle.call_dispatch.specs.declared.returns.Prepared.TheVariants.{Normal, Exceptional}
 use Rattle.call_dispatch.specs.declared.results.Sent.{Sent}
 use Rattle.call_dispatch.specs.declared.results.Sent.TheVariants.{Whole, New}
-use Rattle.system_objects.specs.Terms.{Terms}
+use Rattle.system_objects.specs.Terms.{Terms, terms_of}
 use Rattle.call_dispatch.specs.Acts.{Act, Call, States, Observed, Led, acts_of, abandon_act, GivesUp}
 use Rattle.system_objects.specs.Book.{methods_of}
 use Rattle.call_dispatch.specs.Results.{made_by, listed_by, interface_of, plain_return, normal_return}
@@ -52,6 +53,10 @@ use Rattle.system_objects.specs.declared.returns.TheConstants.{RETURN_BYTES}
 -- the identifier that is drawn next
 abbrev pub next_of : Terms → ℕ → Uid
 next_of terms drawn = uid_drawn terms.unique terms.time drawn
+
+-- the identifier that a connection draws next
+abbrev pub next_in : {S K C P W : Type 0} → Connection S K C P W → Uid
+next_in c = next_of (terms_of c.book.now c.setup.now) c.setup.now.draw.drawn
 
 -- The entries show one call running, of this object.
 abbrev pub RunsOne : ObjId → List Asked → Type 0

@@ -1,5 +1,5 @@
 //! Writing an answer.
-ghost use Rattle.std.specs.Prelude.{◌≤◌, ◌<◌, ◌+◌, ◌^◌, length, OnErr};
+ghost use Rattle.std.specs.Prelude.{◌≡◌, ◌≤◌, ◌<◌, ◌+◌, ◌^◌, length, OnErr};
 ghost use Rattle.wire_io.specs.Wire.{Rose};
 ghost use Rattle.call_dispatch.specs.Progress.{Writes};
 
@@ -13,6 +13,7 @@ pub fn write_answer<K: Sink>(sink: &mut K, bytes: &[u8], sent: u64) -> Result<u6
     ensures writes { Writes (K.half sink.old).held (K.half sink.new).held sent bytes.now result }
     ensures write_fault { OnErr result (Rose (K.half sink.old).faults (K.half sink.new).faults) }
     ensures sink_faults { (K.half sink.old).faults ≤ (K.half sink.new).faults }
+    ensures sink_shut { (K.half sink.new).shut ≡ (K.half sink.old).shut }
 {
     match put_all(sink, bytes) {
         Ok(()) => Ok(sent + bytes.len() as u64),

@@ -4,13 +4,14 @@ ghost use Rattle.history.specs.declared.replies.Reply.TheVariants.{Finished};
 ghost use Rattle.wire_io.specs.Pulled.{PullState, pull_state};
 ghost use Rattle.ports.specs.Balance.{Balanced};
 ghost use Rattle.jrmp_frames.specs.Calls.{ReadsHead, HasHead};
-ghost use Rattle.call_dispatch.specs.ConnectionState.{observed_of, IsLent};
+ghost use Rattle.call_dispatch.specs.Conditions.{Keeps, OnlyTurns};
+ghost use Rattle.call_dispatch.specs.ConnectionState.{observed_of, terms_in};
 ghost use Rattle.system_objects.specs.declared.book.Kind.{Kind};
 ghost use Rattle.call_dispatch.specs.declared.outcome.Outcome.{Outcome};
 ghost use Rattle.call_dispatch.specs.Results.{normal_return};
 ghost use Rattle.system_objects.specs.ReturnBytes.{fault_return};
 ghost use Rattle.call_dispatch.specs.Served.{IsMethodOf, HasNoMethod};
-ghost use Rattle.call_dispatch.specs.Serving.{next_of, RunsOne, IsReady, IsReadyFor, MakesOne, IsSent, IsPending, Finishes, Concludes, IsDenied, IsPrepared, RunsOn, Answers};
+ghost use Rattle.call_dispatch.specs.Serving.{next_of, RunsOne, IsReady, IsReadyFor, MakesOne, IsSent, IsPending, Finishes, Concludes, IsDenied, IsPrepared, RunsOn, Answers, next_in};
 ghost use Rattle.system_objects.specs.Terms.{terms_of};
 ghost use Rattle.system_objects.specs.declared.returns.TheConstants.{RETURN_BYTES};
 ghost use Rattle.system_objects.specs.declared.setup.TheConstants.{DRAWS_BEGIN_BELOW};
@@ -69,9 +70,12 @@ pub fn refuse(
 ) -> Result<Answer, ConnEnd>
     requires time { setup.old.draw.time <ℤ pos DRAWS_BEGIN_BELOW }
     requires drawn { setup.old.draw.drawn < 2 ^ 65 }
-    ensures prepared { IsPrepared (fault_return (next_of (terms_of [] setup.old) setup.old.draw.drawn) message.now) (Some end) result }
+    ensures prepared { IsPrepared
+        (fault_return (next_of (terms_of [] setup.old) setup.old.draw.drawn) message.now) (Some end)
+        result }
     ensures short { IfOk result (λ answer. length answer.bytes ≤ RETURN_BYTES) }
-    ensures drawn { setup.new ≡ record setup.old { draw = record setup.old.draw { drawn = setup.old.draw.drawn + 1 } } }
+    ensures drawn { setup.new ≡ record setup.old
+        { draw = record setup.old.draw { drawn = setup.old.draw.drawn + 1 } } }
 {
     let uid = next_uid(setup);
     fault_answer(alloc, uid, message, Some(end))
@@ -86,8 +90,9 @@ fn finished(
     reply: &Reply,
 ) -> Result<Answer, ConnEnd>
     requires ready { IsReadyFor reply.now sent }
-    ensures sends { (kinds : List Kind) (outcome : Outcome) → IsSent (terms_of kinds setup.now) uid outcome sent →
-        IsPrepared (normal_return (terms_of kinds setup.now) uid outcome reply.now) None result }
+    ensures sends { (kinds : List Kind) (outcome : Outcome)
+        → IsSent (terms_of kinds setup.now) uid outcome sent
+        → IsPrepared (normal_return (terms_of kinds setup.now) uid outcome reply.now) None result }
     ensures short { IfOk result (λ answer. length answer.bytes ≤ RETURN_BYTES) }
 {
     match sent {
@@ -125,23 +130,17 @@ fn finish<S: Source, K: Sink, C: Clock, P: Port, W: Worker>(
     pending: Pending,
 ) -> Result<Answer, ConnEnd>
     requires ready { P.ready connection.old.port.now }
-    requires room { 1 < P.room_of connection.old.port.now }
-    requires runs { RunsOne object (P.asked connection.old.port.now) }
+    requires room { 1 < (P.shown connection.old.port.now).room }
+    requires runs { RunsOne object (P.shown connection.old.port.now).asked }
     requires pending { IsReady pending }
-    ensures finishes { (outcome : Outcome) → IsPending (terms_of connection.old.book.now connection.old.setup.now) uid outcome pending →
-        Finishes W.may W.moves (terms_of connection.old.book.now connection.old.setup.now) object uid outcome
-        (observed_of C.given P.asked W.calls W.seen W.state connection.old)
-        (observed_of C.given P.asked W.calls W.seen W.state connection.new) result }
+    ensures finishes { (outcome : Outcome)
+        → IsPending (terms_in connection.old) uid outcome pending
+        → Finishes W.may W.moves (terms_in connection.old) object uid outcome
+        (observed_of C.given P.shown W.shown connection.old)
+        (observed_of C.given P.shown W.shown connection.new) result }
     ensures short { IfOk result (λ answer. length answer.bytes ≤ RETURN_BYTES) }
-    ensures balanced { Balanced (P.asked connection.new.port.now) }
-    ensures pull { connection.new.pull ≡ connection.old.pull }
-    ensures sink { connection.new.sink ≡ connection.old.sink }
-    ensures setup { connection.new.setup ≡ connection.old.setup }
-    ensures calls { W.calls connection.new.worker.now ≡ W.calls connection.old.worker.now }
-    ensures room { P.room_of connection.old.port.now ≤ P.room_of connection.new.port.now + 2 }
-    ensures ready { P.ready connection.new.port.now }
-    ensures leads { P.leads connection.old.port.now connection.new.port.now }
-    ensures lent { IsLent connection.old connection.new }
+    ensures balanced { Balanced (P.shown connection.new.port.now).asked }
+    ensures frame { OnlyTurns P.ready P.shown P.leads W.shown 2 connection.old connection.new }
 {
     let Pending { made, listed, sent } = pending;
     let ask = Ask::Finish {
@@ -170,21 +169,20 @@ fn conclude<S: Source, K: Sink, C: Clock, P: Port, W: Worker>(
     requires time { connection.old.setup.now.draw.time <ℤ pos DRAWS_BEGIN_BELOW }
     requires drawn { connection.old.setup.now.draw.drawn < 2 ^ 65 }
     requires ready { P.ready connection.old.port.now }
-    requires room { 1 < P.room_of connection.old.port.now }
-    requires runs { RunsOne object (P.asked connection.old.port.now) }
-    ensures concludes { Concludes W.may W.moves (terms_of connection.old.book.now connection.old.setup.now) object (next_of (terms_of connection.old.book.now connection.old.setup.now) connection.old.setup.now.draw.drawn) result_type outcome
-        (observed_of C.given P.asked W.calls W.seen W.state connection.old)
-        (observed_of C.given P.asked W.calls W.seen W.state connection.new) result }
+    requires room { 1 < (P.shown connection.old.port.now).room }
+    requires runs { RunsOne object (P.shown connection.old.port.now).asked }
+    ensures concludes { Concludes W.may W.moves (terms_in connection.old) object
+        (next_in connection.old) result_type outcome
+        (observed_of C.given P.shown W.shown connection.old)
+        (observed_of C.given P.shown W.shown connection.new) result }
     ensures short { IfOk result (λ answer. length answer.bytes ≤ RETURN_BYTES) }
-    ensures balanced { Balanced (P.asked connection.new.port.now) }
+    ensures balanced { Balanced (P.shown connection.new.port.now).asked }
     ensures pull { connection.new.pull ≡ connection.old.pull }
     ensures sink { connection.new.sink ≡ connection.old.sink }
     ensures drawn { connection.new.setup.now.draw.drawn ≡ connection.old.setup.now.draw.drawn + 1 }
-    ensures calls { W.calls connection.new.worker.now ≡ W.calls connection.old.worker.now }
-    ensures room { P.room_of connection.old.port.now ≤ P.room_of connection.new.port.now + 2 }
-    ensures ready { P.ready connection.new.port.now }
-    ensures leads { P.leads connection.old.port.now connection.new.port.now }
-    ensures lent { IsLent connection.old connection.new }
+    ensures calls { (W.shown connection.new.worker.now).calls
+        ≡ (W.shown connection.old.worker.now).calls }
+    ensures frame { Keeps P.ready P.shown P.leads 2 connection.old connection.new }
 {
     let uid = next_uid(connection.setup);
     match prepare(
@@ -240,25 +238,25 @@ fn run_call<S: Source, K: Sink, C: Clock, P: Port, W: Worker>(
     requires time { connection.old.setup.now.draw.time <ℤ pos DRAWS_BEGIN_BELOW }
     requires drawn { connection.old.setup.now.draw.drawn < 2 ^ 65 }
     requires ready { P.ready connection.old.port.now }
-    requires room { 1 < P.room_of connection.old.port.now }
-    requires calls { W.calls connection.old.worker.now < 2 ^ 62 }
-    requires runs { RunsOne head.id (P.asked connection.old.port.now) }
-    ensures runs_on { (first : PullState) → ReadsHead first (pull_state S.half connection.old.pull) head reader.stand → RunsOn W.may W.moves (terms_of connection.old.book.now connection.old.setup.now)
-        (next_of (terms_of connection.old.book.now connection.old.setup.now) connection.old.setup.now.draw.drawn) head kind
-        first (pull_state S.half connection.new.pull)
-        (observed_of C.given P.asked W.calls W.seen W.state connection.old)
-        (observed_of C.given P.asked W.calls W.seen W.state connection.new)
-        connection.old.setup.now.draw.drawn connection.new.setup.now.draw.drawn result }
+    requires room { 1 < (P.shown connection.old.port.now).room }
+    requires calls { (W.shown connection.old.worker.now).calls < 2 ^ 62 }
+    requires runs { RunsOne head.id (P.shown connection.old.port.now).asked }
+    ensures runs_on { (first : PullState)
+        → ReadsHead first (pull_state S.half connection.old.pull) head reader.stand
+        → RunsOn W.may W.moves (terms_in connection.old) (next_in connection.old) head kind first
+        (pull_state S.half connection.new.pull) (observed_of C.given P.shown W.shown connection.old)
+        (observed_of C.given P.shown W.shown connection.new) connection.old.setup.now.draw.drawn
+        connection.new.setup.now.draw.drawn result }
     ensures short { IfOk result (λ answer. length answer.bytes ≤ RETURN_BYTES) }
-    ensures balanced { Balanced (P.asked connection.new.port.now) }
+    ensures balanced { Balanced (P.shown connection.new.port.now).asked }
     ensures sink { connection.new.sink ≡ connection.old.sink }
-    ensures drawn { (connection.old.setup.now.draw.drawn ≤ connection.new.setup.now.draw.drawn) × (connection.new.setup.now.draw.drawn ≤ connection.old.setup.now.draw.drawn + 1) }
-    ensures drew { OnOk result (connection.new.setup.now.draw.drawn ≡ connection.old.setup.now.draw.drawn + 1) }
-    ensures calls { W.calls connection.new.worker.now ≤ W.calls connection.old.worker.now + 1 }
-    ensures room { P.room_of connection.old.port.now ≤ P.room_of connection.new.port.now + 2 }
-    ensures ready { P.ready connection.new.port.now }
-    ensures leads { P.leads connection.old.port.now connection.new.port.now }
-    ensures lent { IsLent connection.old connection.new }
+    ensures drawn { (connection.old.setup.now.draw.drawn ≤ connection.new.setup.now.draw.drawn)
+        × (connection.new.setup.now.draw.drawn ≤ connection.old.setup.now.draw.drawn + 1) }
+    ensures drew { OnOk result
+        (connection.new.setup.now.draw.drawn ≡ connection.old.setup.now.draw.drawn + 1) }
+    ensures calls { (W.shown connection.new.worker.now).calls
+        ≤ (W.shown connection.old.worker.now).calls + 1 }
+    ensures frame { Keeps P.ready P.shown P.leads 2 connection.old connection.new }
 {
     let book = connection.book;
     let Some(method_place) = method_of(book, kind, &head) else {
@@ -301,25 +299,25 @@ pub fn call_object<S: Source, K: Sink, C: Clock, P: Port, W: Worker>(
     requires time { connection.old.setup.now.draw.time <ℤ pos DRAWS_BEGIN_BELOW }
     requires drawn { connection.old.setup.now.draw.drawn < 2 ^ 65 }
     requires ready { P.ready connection.old.port.now }
-    requires room { 2 < P.room_of connection.old.port.now }
-    requires calls { W.calls connection.old.worker.now < 2 ^ 62 }
-    requires balanced { Balanced (P.asked connection.old.port.now) }
-    ensures answers { (first : PullState) → ReadsHead first (pull_state S.half connection.old.pull) head reader.stand → Answers W.may W.moves (terms_of connection.old.book.now connection.old.setup.now)
-        (next_of (terms_of connection.old.book.now connection.old.setup.now) connection.old.setup.now.draw.drawn) head
-        first (pull_state S.half connection.new.pull)
-        (observed_of C.given P.asked W.calls W.seen W.state connection.old)
-        (observed_of C.given P.asked W.calls W.seen W.state connection.new)
-        connection.old.setup.now.draw.drawn connection.new.setup.now.draw.drawn result }
+    requires room { 2 < (P.shown connection.old.port.now).room }
+    requires calls { (W.shown connection.old.worker.now).calls < 2 ^ 62 }
+    requires balanced { Balanced (P.shown connection.old.port.now).asked }
+    ensures answers { (first : PullState)
+        → ReadsHead first (pull_state S.half connection.old.pull) head reader.stand
+        → Answers W.may W.moves (terms_in connection.old) (next_in connection.old) head first
+        (pull_state S.half connection.new.pull) (observed_of C.given P.shown W.shown connection.old)
+        (observed_of C.given P.shown W.shown connection.new) connection.old.setup.now.draw.drawn
+        connection.new.setup.now.draw.drawn result }
     ensures short { IfOk result (λ answer. length answer.bytes ≤ RETURN_BYTES) }
-    ensures balanced { Balanced (P.asked connection.new.port.now) }
+    ensures balanced { Balanced (P.shown connection.new.port.now).asked }
     ensures sink { connection.new.sink ≡ connection.old.sink }
-    ensures drawn { (connection.old.setup.now.draw.drawn ≤ connection.new.setup.now.draw.drawn) × (connection.new.setup.now.draw.drawn ≤ connection.old.setup.now.draw.drawn + 1) }
-    ensures drew { OnOk result (connection.new.setup.now.draw.drawn ≡ connection.old.setup.now.draw.drawn + 1) }
-    ensures calls { W.calls connection.new.worker.now ≤ W.calls connection.old.worker.now + 1 }
-    ensures room { P.room_of connection.old.port.now ≤ P.room_of connection.new.port.now + 3 }
-    ensures ready { P.ready connection.new.port.now }
-    ensures leads { P.leads connection.old.port.now connection.new.port.now }
-    ensures lent { IsLent connection.old connection.new }
+    ensures drawn { (connection.old.setup.now.draw.drawn ≤ connection.new.setup.now.draw.drawn)
+        × (connection.new.setup.now.draw.drawn ≤ connection.old.setup.now.draw.drawn + 1) }
+    ensures drew { OnOk result
+        (connection.new.setup.now.draw.drawn ≡ connection.old.setup.now.draw.drawn + 1) }
+    ensures calls { (W.shown connection.new.worker.now).calls
+        ≤ (W.shown connection.old.worker.now).calls + 1 }
+    ensures frame { Keeps P.ready P.shown P.leads 3 connection.old connection.new }
 {
     match take_turn(connection, Ask::Begin { object: head.id }) {
         Ok(turn) => match turn.reply {

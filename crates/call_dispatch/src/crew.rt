@@ -1,6 +1,6 @@
 //! Who does what the calls of all connections ask for.
 ghost use Rattle.std.specs.Prelude.{◌≡◌, IfOk};
-ghost use Rattle.call_dispatch.specs.Hands.{IsUntold};
+ghost use Rattle.call_dispatch.specs.Hands.{IsUntold, IsUncounted};
 
 use crate::worker::Worker;
 use std::alloc::AllocError;
@@ -9,8 +9,11 @@ use std::alloc::AllocError;
 pub trait Crew: Sync {
     type Hand: Worker + Send + Drop;
 
-    /// The hand of connection `by`, which was given no invocation yet and told of no object. It is refused only for want of memory.
+    /// The hand of connection `by`, which has its number, was given no invocation yet and told of no object, and tells no object's number yet.
+    /// It is refused only for want of memory.
     fn hand(&self, by: u32) -> Result<Self::Hand, AllocError>
-        ensures calls { IfOk result (λ hand. Self.Hand.calls hand ≡ 0) }
-        ensures untold { IfOk result (λ hand. IsUntold (Self.Hand.seen hand)) };
+        ensures calls { IfOk result (λ hand. (Self.Hand.shown hand).calls ≡ 0) }
+        ensures untold { IfOk result (λ hand. IsUntold (Self.Hand.shown hand).seen) }
+        ensures uncounted { IfOk result (λ hand. IsUncounted (Self.Hand.shown hand).state) }
+        ensures number { IfOk result (λ hand. (Self.Hand.shown hand).number ≡ by) };
 }

@@ -36,7 +36,7 @@ pub enum ConnEnd {
     ReadFault,
     /// The sink failed after so many bytes of the connection, and its count of faults rose.
     WriteFault { sent: u64 },
-    /// There was no memory.
+    /// There was no memory, or a Call came behind more than 2^60 bytes that were taken or sent.
     OutOfMemory,
 }
 

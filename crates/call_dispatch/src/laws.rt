@@ -1,4 +1,5 @@
 //! Laws of dialogues.
+ghost use Rattle.call_dispatch.specs.Complete.{UnfailedIsSettled, WholeInputIsAnswered};
 ghost use Rattle.call_dispatch.specs.Invoked.{CallIsInvokedOnce, DialogueInvokesEachOnce};
 ghost use Rattle.call_dispatch.specs.Laws.{NextIsOne, OneDialogue};
 
@@ -23,4 +24,14 @@ pub fn call_is_invoked_once()
 /// stand on it.
 pub fn dialogue_invokes_each_once()
     ensures { DialogueInvokesEachOnce }
+{}
+
+/// In a dialogue in which neither the source nor the sink failed, the end is one that the bytes show, or there was no memory.
+pub fn unfailed_is_settled()
+    ensures { UnfailedIsSettled }
+{}
+
+/// An input of whole messages whose calls all found their objects has a dialogue that answers each and then ends, unless something outside failed or there was no memory.
+pub fn whole_input_is_answered()
+    ensures { WholeInputIsAnswered }
 {}

@@ -1,19 +1,16 @@
 //! The messages of a connection, after its opening.
-ghost use Rattle.std.specs.Prelude.{◌≡◌, ◌<◌, ◌≤◌, ◌+◌, ◌^◌, pos, ◌<ℤ◌, length, IfOk, OnOk};
-ghost use Rattle.mod_utf.specs.Utf.{utf};
+ghost use Rattle.std.specs.Prelude.{◌≡◌, ◌<◌, ◌≤◌, ◌+◌, ◌^◌, length, max, IfOk, OnOk};
 ghost use Rattle.ser_values.specs.declared.limits.TheConstants.{MESSAGE_BYTES};
 ghost use Rattle.ports.specs.Balance.{Balanced};
 ghost use Rattle.jrmp_frames.specs.declared.header.Protocol.TheVariants.{Stream, SingleOp};
-ghost use Rattle.call_dispatch.specs.Faults.{counts_of, Blames, BlamesIn};
+ghost use Rattle.call_dispatch.specs.Conditions.{CanGoOn, CanServeMessage, Keeps, OnlyTurns, OneMessage, IsOver};
+ghost use Rattle.call_dispatch.specs.Faults.{counts_of, Blames, BlamesIn, KeepsShut};
 ghost use Rattle.wire_io.specs.Pulled.{pull_state};
-ghost use Rattle.wire_io.specs.declared.limits.TheConstants.{MAX_HOST_BYTES};
-ghost use Rattle.call_dispatch.specs.ConnectionState.{state_of_connection, observed_of, IsLent};
-ghost use Rattle.system_objects.specs.Terms.{terms_of};
+ghost use Rattle.call_dispatch.specs.ConnectionState.{state_of_connection, observed_of, terms_in};
 ghost use Rattle.call_dispatch.specs.Progress.{FinishesDialogue, Steps, ServesCall};
 ghost use Rattle.call_dispatch.specs.Serving.{Sends, Notes, Acknowledges};
 ghost use Rattle.system_objects.specs.declared.returns.TheConstants.{RETURN_BYTES};
-ghost use Rattle.call_dispatch.specs.declared.messages.TheConstants.{MAX_MESSAGES};
-ghost use Rattle.system_objects.specs.declared.setup.TheConstants.{DRAWS_BEGIN_BELOW};
+ghost use Rattle.call_dispatch.specs.declared.messages.TheConstants.{MAX_MESSAGES, MAX_BYTES};
 
 use crate::answer::write_answer;
 use crate::connection::Connection;
@@ -34,10 +31,14 @@ use wire_io::{Clock, Sink, Source};
 // How many bytes a message has at most, and how many messages a connection, is what the README says.
 const _: () = prove!(MESSAGE_BYTES == 16_777_216);
 
-const _: () = prove!(MAX_MESSAGES == 268_435_456);
+const _: () = prove!(MAX_MESSAGES == 72_057_594_037_927_936);
 
-/// How many messages a connection has at most.
-pub const MAX_MESSAGES: u32 = 1 << 28;
+/// The most messages of a connection: at 100,000 a second they last for 22,000 years.
+pub const MAX_MESSAGES: u64 = 1 << 56;
+
+/// The most bytes that were taken, and that were sent, before a Call: at a billion a second they last for 36 years. A Call behind more of them
+/// ends the connection as one for which there is no memory.
+const MAX_BYTES: u64 = 1 << 60;
 
 /// Serves the messages after an opening, until the connection ends.
 pub fn serve_messages<S: Source, K: Sink, C: Clock, P: Port, W: Worker>(
@@ -47,21 +48,15 @@ pub fn serve_messages<S: Source, K: Sink, C: Clock, P: Port, W: Worker>(
 ) -> ConnEnd
     requires at { connection.old.pull.at < 2 ^ 17 }
     requires sent { opened.sent < 2 ^ 17 }
-    requires host { length (utf connection.old.setup.now.host) ≤ MAX_HOST_BYTES }
-    requires time { connection.old.setup.now.draw.time <ℤ pos DRAWS_BEGIN_BELOW }
-    requires drawn { connection.old.setup.now.draw.drawn < 2 ^ 64 }
-    requires ready { P.ready connection.old.port.now }
-    requires room { 2 ^ 30 ≤ P.room_of connection.old.port.now }
-    requires balanced { Balanced (P.asked connection.old.port.now) }
-    requires calls { W.calls connection.old.worker.now < 2 ^ 61 }
-    ensures goes_on { FinishesDialogue W.may W.moves (terms_of connection.old.book.now connection.old.setup.now) opened.protocol
-        (state_of_connection S.half K.half C.given P.asked W.calls W.seen W.state connection.old)
-        (state_of_connection S.half K.half C.given P.asked W.calls W.seen W.state connection.new) connection.old.pull.at opened.sent result }
-    ensures lent { IsLent connection.old connection.new }
-    ensures balanced { Balanced (P.asked connection.new.port.now) }
-    ensures ready { P.ready connection.new.port.now }
-    ensures leads { P.leads connection.old.port.now connection.new.port.now }
-    ensures blames { Blames (counts_of S.half K.half connection.old) (counts_of S.half K.half connection.new) result }
+    requires can { CanGoOn P.ready P.shown W.shown connection.old }
+    ensures goes_on { FinishesDialogue W.may W.moves (terms_in connection.old) opened.protocol
+        (state_of_connection S.half K.half C.given P.shown W.shown connection.old)
+        (state_of_connection S.half K.half C.given P.shown W.shown connection.new)
+        connection.old.pull.at opened.sent result }
+    ensures frame { IsOver P.ready P.shown P.leads connection.old connection.new }
+    ensures blames { Blames (counts_of S.half K.half connection.old)
+        (counts_of S.half K.half connection.new) result }
+    ensures shut { KeepsShut S.half K.half connection.old connection.new }
 {
     match opened.protocol {
         Protocol::Stream => serve_many(alloc, connection, opened.sent),
@@ -77,21 +72,15 @@ fn serve_one<S: Source, K: Sink, C: Clock, P: Port, W: Worker>(
 ) -> ConnEnd
     requires at { connection.old.pull.at < 2 ^ 17 }
     requires sent { before < 2 ^ 17 }
-    requires host { length (utf connection.old.setup.now.host) ≤ MAX_HOST_BYTES }
-    requires time { connection.old.setup.now.draw.time <ℤ pos DRAWS_BEGIN_BELOW }
-    requires drawn { connection.old.setup.now.draw.drawn < 2 ^ 64 }
-    requires ready { P.ready connection.old.port.now }
-    requires room { 2 ^ 30 ≤ P.room_of connection.old.port.now }
-    requires balanced { Balanced (P.asked connection.old.port.now) }
-    requires calls { W.calls connection.old.worker.now < 2 ^ 61 }
-    ensures goes_on { FinishesDialogue W.may W.moves (terms_of connection.old.book.now connection.old.setup.now) SingleOp
-        (state_of_connection S.half K.half C.given P.asked W.calls W.seen W.state connection.old)
-        (state_of_connection S.half K.half C.given P.asked W.calls W.seen W.state connection.new) connection.old.pull.at before result }
-    ensures lent { IsLent connection.old connection.new }
-    ensures balanced { Balanced (P.asked connection.new.port.now) }
-    ensures ready { P.ready connection.new.port.now }
-    ensures leads { P.leads connection.old.port.now connection.new.port.now }
-    ensures blames { Blames (counts_of S.half K.half connection.old) (counts_of S.half K.half connection.new) result }
+    requires can { CanGoOn P.ready P.shown W.shown connection.old }
+    ensures goes_on { FinishesDialogue W.may W.moves (terms_in connection.old) SingleOp
+        (state_of_connection S.half K.half C.given P.shown W.shown connection.old)
+        (state_of_connection S.half K.half C.given P.shown W.shown connection.new)
+        connection.old.pull.at before result }
+    ensures frame { IsOver P.ready P.shown P.leads connection.old connection.new }
+    ensures blames { Blames (counts_of S.half K.half connection.old)
+        (counts_of S.half K.half connection.new) result }
+    ensures shut { KeepsShut S.half K.half connection.old connection.new }
 {
     match serve_message(alloc, connection, 0, before) {
         Ok(_sent) => ConnEnd::Ended,
@@ -107,24 +96,18 @@ fn serve_many<S: Source, K: Sink, C: Clock, P: Port, W: Worker>(
 ) -> ConnEnd
     requires at { connection.old.pull.at < 2 ^ 17 }
     requires sent { before < 2 ^ 17 }
-    requires host { length (utf connection.old.setup.now.host) ≤ MAX_HOST_BYTES }
-    requires time { connection.old.setup.now.draw.time <ℤ pos DRAWS_BEGIN_BELOW }
-    requires drawn { connection.old.setup.now.draw.drawn < 2 ^ 64 }
-    requires ready { P.ready connection.old.port.now }
-    requires room { 2 ^ 30 ≤ P.room_of connection.old.port.now }
-    requires balanced { Balanced (P.asked connection.old.port.now) }
-    requires calls { W.calls connection.old.worker.now < 2 ^ 61 }
-    ensures goes_on { FinishesDialogue W.may W.moves (terms_of connection.old.book.now connection.old.setup.now) Stream
-        (state_of_connection S.half K.half C.given P.asked W.calls W.seen W.state connection.old)
-        (state_of_connection S.half K.half C.given P.asked W.calls W.seen W.state connection.new) connection.old.pull.at before result }
-    ensures lent { IsLent connection.old connection.new }
-    ensures balanced { Balanced (P.asked connection.new.port.now) }
-    ensures ready { P.ready connection.new.port.now }
-    ensures leads { P.leads connection.old.port.now connection.new.port.now }
-    ensures blames { Blames (counts_of S.half K.half connection.old) (counts_of S.half K.half connection.new) result }
+    requires can { CanGoOn P.ready P.shown W.shown connection.old }
+    ensures goes_on { FinishesDialogue W.may W.moves (terms_in connection.old) Stream
+        (state_of_connection S.half K.half C.given P.shown W.shown connection.old)
+        (state_of_connection S.half K.half C.given P.shown W.shown connection.new)
+        connection.old.pull.at before result }
+    ensures frame { IsOver P.ready P.shown P.leads connection.old connection.new }
+    ensures blames { Blames (counts_of S.half K.half connection.old)
+        (counts_of S.half K.half connection.new) result }
+    ensures shut { KeepsShut S.half K.half connection.old connection.new }
 {
     let mut sent = before;
-    let mut served: u32 = 0;
+    let mut served: u64 = 0;
     loop {
         match serve_message(alloc, connection, served, sent) {
             Ok(after) => sent = after,
@@ -139,32 +122,25 @@ fn serve_many<S: Source, K: Sink, C: Clock, P: Port, W: Worker>(
 fn serve_message<S: Source, K: Sink, C: Clock, P: Port, W: Worker>(
     alloc: Global,
     connection: &mut Connection<S, K, C, P, W>,
-    served: u32,
+    served: u64,
     sent: u64,
 ) -> Result<u64, ConnEnd>
     requires at { connection.old.pull.at < 2 ^ 61 }
     requires sent { sent < 2 ^ 61 }
     requires served { served ≤ MAX_MESSAGES }
-    requires host { length (utf connection.old.setup.now.host) ≤ MAX_HOST_BYTES }
-    requires time { connection.old.setup.now.draw.time <ℤ pos DRAWS_BEGIN_BELOW }
-    requires drawn { connection.old.setup.now.draw.drawn + 1 < 2 ^ 65 }
-    requires ready { P.ready connection.old.port.now }
-    requires room { 2 < P.room_of connection.old.port.now }
-    requires balanced { Balanced (P.asked connection.old.port.now) }
-    requires calls { W.calls connection.old.worker.now < 2 ^ 62 }
-    ensures steps { Steps W.may W.moves (terms_of connection.old.book.now connection.old.setup.now)
-        (state_of_connection S.half K.half C.given P.asked W.calls W.seen W.state connection.old)
-        (state_of_connection S.half K.half C.given P.asked W.calls W.seen W.state connection.new) connection.old.pull.at sent served connection.new.pull.at result }
+    requires can { CanServeMessage P.ready P.shown W.shown connection.old }
+    ensures steps { Steps W.may W.moves (terms_in connection.old)
+        (state_of_connection S.half K.half C.given P.shown W.shown connection.old)
+        (state_of_connection S.half K.half C.given P.shown W.shown connection.new)
+        connection.old.pull.at sent served connection.new.pull.at result }
     ensures going { OnOk result (served < MAX_MESSAGES) }
-    ensures most { IfOk result (λ after. (after ≤ sent + RETURN_BYTES) × (connection.new.pull.at ≤ connection.old.pull.at + MESSAGE_BYTES)) }
-    ensures lent { IsLent connection.old connection.new }
-    ensures balanced { Balanced (P.asked connection.new.port.now) }
-    ensures ready { P.ready connection.new.port.now }
-    ensures leads { P.leads connection.old.port.now connection.new.port.now }
-    ensures room { P.room_of connection.old.port.now ≤ P.room_of connection.new.port.now + 3 }
-    ensures calls { W.calls connection.new.worker.now ≤ W.calls connection.old.worker.now + 1 }
-    ensures drawn { connection.new.setup.now.draw.drawn ≤ connection.old.setup.now.draw.drawn + 2 }
-    ensures blames { BlamesIn (counts_of S.half K.half connection.old) (counts_of S.half K.half connection.new) result }
+    ensures most { IfOk result
+        (λ after. (after ≤ max (sent + 1) (MAX_BYTES + RETURN_BYTES)) ×
+        (connection.new.pull.at ≤ max (connection.old.pull.at + 15) (MAX_BYTES + MESSAGE_BYTES))) }
+    ensures frame { OneMessage P.ready P.shown P.leads W.shown connection.old connection.new }
+    ensures blames { BlamesIn (counts_of S.half K.half connection.old)
+        (counts_of S.half K.half connection.new) result }
+    ensures shut { KeepsShut S.half K.half connection.old connection.new }
 {
     connection.pull.mark(MESSAGE_BYTES);
     let code = match read_code(&mut connection.pull) {
@@ -189,20 +165,13 @@ fn note<S: Source, K: Sink, C: Clock, P: Port, W: Worker>(
     sent: u64,
 ) -> Result<u64, ConnEnd>
     requires ready { P.ready connection.old.port.now }
-    requires room { 0 < P.room_of connection.old.port.now }
-    requires balanced { Balanced (P.asked connection.old.port.now) }
+    requires room { 0 < (P.shown connection.old.port.now).room }
+    requires balanced { Balanced (P.shown connection.old.port.now).asked }
     ensures notes { Notes W.may W.moves uid
-        (observed_of C.given P.asked W.calls W.seen W.state connection.old)
-        (observed_of C.given P.asked W.calls W.seen W.state connection.new) sent result }
-    ensures pull { connection.new.pull ≡ connection.old.pull }
-    ensures sink { connection.new.sink ≡ connection.old.sink }
-    ensures setup { connection.new.setup ≡ connection.old.setup }
-    ensures lent { IsLent connection.old connection.new }
-    ensures balanced { Balanced (P.asked connection.new.port.now) }
-    ensures ready { P.ready connection.new.port.now }
-    ensures leads { P.leads connection.old.port.now connection.new.port.now }
-    ensures room { P.room_of connection.old.port.now ≤ P.room_of connection.new.port.now + 1 }
-    ensures calls { W.calls connection.new.worker.now ≡ W.calls connection.old.worker.now }
+        (observed_of C.given P.shown W.shown connection.old)
+        (observed_of C.given P.shown W.shown connection.new) sent result }
+    ensures frame { OnlyTurns P.ready P.shown P.leads W.shown 1 connection.old connection.new }
+    ensures balanced { Balanced (P.shown connection.new.port.now).asked }
 {
     match take_turn(connection, Ask::Ack { uid }) {
         Ok(_turn) => Ok(sent),
@@ -218,20 +187,18 @@ fn acknowledge<S: Source, K: Sink, C: Clock, P: Port, W: Worker>(
     sent: u64,
 ) -> Result<u64, ConnEnd>
     requires ready { P.ready connection.old.port.now }
-    requires room { 0 < P.room_of connection.old.port.now }
-    requires balanced { Balanced (P.asked connection.old.port.now) }
+    requires room { 0 < (P.shown connection.old.port.now).room }
+    requires balanced { Balanced (P.shown connection.old.port.now).asked }
     ensures acknowledges { Acknowledges W.may W.moves
         (pull_state S.half connection.old.pull) (pull_state S.half connection.new.pull)
-        (observed_of C.given P.asked W.calls W.seen W.state connection.old)
-        (observed_of C.given P.asked W.calls W.seen W.state connection.new) sent result }
+        (observed_of C.given P.shown W.shown connection.old)
+        (observed_of C.given P.shown W.shown connection.new) sent result }
     ensures sink { connection.new.sink ≡ connection.old.sink }
     ensures setup { connection.new.setup ≡ connection.old.setup }
-    ensures lent { IsLent connection.old connection.new }
-    ensures balanced { Balanced (P.asked connection.new.port.now) }
-    ensures ready { P.ready connection.new.port.now }
-    ensures leads { P.leads connection.old.port.now connection.new.port.now }
-    ensures room { P.room_of connection.old.port.now ≤ P.room_of connection.new.port.now + 1 }
-    ensures calls { W.calls connection.new.worker.now ≡ W.calls connection.old.worker.now }
+    ensures frame { Keeps P.ready P.shown P.leads 1 connection.old connection.new }
+    ensures balanced { Balanced (P.shown connection.new.port.now).asked }
+    ensures calls { (W.shown connection.new.worker.now).calls
+        ≡ (W.shown connection.old.worker.now).calls }
 {
     match read_uid(&mut connection.pull) {
         Ok(uid) => note(connection, uid, sent),
@@ -247,26 +214,24 @@ fn serve_call<S: Source, K: Sink, C: Clock, P: Port, W: Worker>(
     sent: u64,
 ) -> Result<u64, ConnEnd>
     requires sent { sent < 2 ^ 61 }
-    requires host { length (utf connection.old.setup.now.host) ≤ MAX_HOST_BYTES }
-    requires time { connection.old.setup.now.draw.time <ℤ pos DRAWS_BEGIN_BELOW }
-    requires drawn { connection.old.setup.now.draw.drawn + 1 < 2 ^ 65 }
-    requires ready { P.ready connection.old.port.now }
-    requires room { 2 < P.room_of connection.old.port.now }
-    requires balanced { Balanced (P.asked connection.old.port.now) }
-    requires calls { W.calls connection.old.worker.now < 2 ^ 62 }
-    ensures serves { ServesCall W.may W.moves (terms_of connection.old.book.now connection.old.setup.now)
-        (state_of_connection S.half K.half C.given P.asked W.calls W.seen W.state connection.old)
-        (state_of_connection S.half K.half C.given P.asked W.calls W.seen W.state connection.new) connection.old.pull.at connection.old.pull.stop sent connection.new.pull.at result }
-    ensures most { IfOk result (λ after. (after ≤ sent + RETURN_BYTES) × (connection.new.pull.at ≤ connection.old.pull.stop)) }
-    ensures lent { IsLent connection.old connection.new }
-    ensures balanced { Balanced (P.asked connection.new.port.now) }
-    ensures ready { P.ready connection.new.port.now }
-    ensures leads { P.leads connection.old.port.now connection.new.port.now }
-    ensures room { P.room_of connection.old.port.now ≤ P.room_of connection.new.port.now + 3 }
-    ensures calls { W.calls connection.new.worker.now ≤ W.calls connection.old.worker.now + 1 }
-    ensures drawn { connection.new.setup.now.draw.drawn ≤ connection.old.setup.now.draw.drawn + 2 }
-    ensures blames { BlamesIn (counts_of S.half K.half connection.old) (counts_of S.half K.half connection.new) result }
+    requires can { CanServeMessage P.ready P.shown W.shown connection.old }
+    ensures serves { ServesCall W.may W.moves (terms_in connection.old)
+        (state_of_connection S.half K.half C.given P.shown W.shown connection.old)
+        (state_of_connection S.half K.half C.given P.shown W.shown connection.new)
+        connection.old.pull.at connection.old.pull.stop sent connection.new.pull.at result }
+    ensures most { IfOk result
+        (λ after. (after ≤ sent + RETURN_BYTES)
+        × (connection.new.pull.at ≤ connection.old.pull.stop)) }
+    ensures early { IfOk result
+        (λ after. (sent ≤ MAX_BYTES) × (connection.old.pull.at ≤ MAX_BYTES)) }
+    ensures frame { OneMessage P.ready P.shown P.leads W.shown connection.old connection.new }
+    ensures blames { BlamesIn (counts_of S.half K.half connection.old)
+        (counts_of S.half K.half connection.new) result }
+    ensures shut { KeepsShut S.half K.half connection.old connection.new }
 {
+    if sent > MAX_BYTES || connection.pull.at > MAX_BYTES {
+        return Err(ConnEnd::OutOfMemory);
+    }
     match read_head(alloc, &mut connection.pull) {
         Ok((head, reader)) => {
             let answer = dispatch_call(alloc, connection, head, reader)?;
@@ -280,7 +245,9 @@ fn serve_call<S: Source, K: Sink, C: Clock, P: Port, W: Worker>(
 fn send<K: Sink>(sink: &mut K, answer: Answer, sent: u64) -> Result<u64, ConnEnd>
     requires sent { sent < 2 ^ 61 }
     requires short { length answer.bytes ≤ RETURN_BYTES }
-    ensures sends { Sends (K.half sink.old).held (K.half sink.new).held (K.half sink.old).faults (K.half sink.new).faults sent answer result }
+    ensures sends { Sends (K.half sink.old).held (K.half sink.new).held (K.half sink.old).faults
+        (K.half sink.new).faults sent answer result }
+    ensures sink_shut { (K.half sink.new).shut ≡ (K.half sink.old).shut }
     ensures most { IfOk result (λ after. after ≤ sent + RETURN_BYTES) }
 {
     let after = write_answer(sink, answer.bytes.as_slice(), sent)?;

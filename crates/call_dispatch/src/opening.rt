@@ -5,9 +5,8 @@ ghost use Rattle.wire_io.specs.declared.limits.TheConstants.{MAX_HOST_BYTES, LAS
 ghost use Rattle.mod_utf.specs.Utf.{utf};
 ghost use Rattle.jrmp_frames.specs.Frames.{protocol_ack};
 ghost use Rattle.call_dispatch.specs.End.{IsWriteFault};
-ghost use Rattle.call_dispatch.specs.Faults.{counts_of, BlamesIn};
-ghost use Rattle.call_dispatch.specs.ConnectionState.{state_of_connection, Stays};
-ghost use Rattle.system_objects.specs.Terms.{terms_of};
+ghost use Rattle.call_dispatch.specs.Faults.{counts_of, BlamesIn, KeepsShut};
+ghost use Rattle.call_dispatch.specs.ConnectionState.{state_of_connection, Stays, terms_in};
 ghost use Rattle.call_dispatch.specs.Progress.{StandsOpened, OpensStream, Refuses};
 
 use crate::answer::write_answer;
@@ -39,11 +38,14 @@ pub fn open_connection<S: Source, K: Sink, C: Clock, P: Port, W: Worker>(
     requires host { length (utf connection.old.setup.now.peer_host) ≤ MAX_HOST_BYTES }
     requires at { connection.old.pull.at ≡ 0 }
     requires stop { connection.old.pull.stop ≡ LAST_POSITION }
-    ensures opens { StandsOpened W.may W.moves (terms_of connection.old.book.now connection.old.setup.now)
-        (state_of_connection S.half K.half C.given P.asked W.calls W.seen W.state connection.old)
-        (state_of_connection S.half K.half C.given P.asked W.calls W.seen W.state connection.new) connection.new.pull.at result }
+    ensures opens { StandsOpened W.may W.moves (terms_in connection.old)
+        (state_of_connection S.half K.half C.given P.shown W.shown connection.old)
+        (state_of_connection S.half K.half C.given P.shown W.shown connection.new)
+        connection.new.pull.at result }
     ensures stays { Stays connection.old connection.new }
-    ensures blames { BlamesIn (counts_of S.half K.half connection.old) (counts_of S.half K.half connection.new) result }
+    ensures blames { BlamesIn (counts_of S.half K.half connection.old)
+        (counts_of S.half K.half connection.new) result }
+    ensures shut { KeepsShut S.half K.half connection.old connection.new }
 {
     match read_header(&mut connection.pull) {
         Ok(Protocol::Stream) => open_stream(alloc, connection),
@@ -66,11 +68,14 @@ fn open_stream<S: Source, K: Sink, C: Clock, P: Port, W: Worker>(
     requires host { length (utf connection.old.setup.now.peer_host) ≤ MAX_HOST_BYTES }
     requires at { connection.old.pull.at ≡ 7 }
     requires stop { connection.old.pull.stop ≡ LAST_POSITION }
-    ensures opens { OpensStream W.may W.moves (terms_of connection.old.book.now connection.old.setup.now)
-        (state_of_connection S.half K.half C.given P.asked W.calls W.seen W.state connection.old)
-        (state_of_connection S.half K.half C.given P.asked W.calls W.seen W.state connection.new) connection.new.pull.at result }
+    ensures opens { OpensStream W.may W.moves (terms_in connection.old)
+        (state_of_connection S.half K.half C.given P.shown W.shown connection.old)
+        (state_of_connection S.half K.half C.given P.shown W.shown connection.new)
+        connection.new.pull.at result }
     ensures stays { Stays connection.old connection.new }
-    ensures blames { BlamesIn (counts_of S.half K.half connection.old) (counts_of S.half K.half connection.new) result }
+    ensures blames { BlamesIn (counts_of S.half K.half connection.old)
+        (counts_of S.half K.half connection.new) result }
+    ensures shut { KeepsShut S.half K.half connection.old connection.new }
 {
     let ack = acknowledgement(alloc, connection.setup)?;
     let sent = write_answer(connection.sink, ack.as_slice(), 0)?;
@@ -94,8 +99,10 @@ fn acknowledgement(alloc: Global, setup: &Setup) -> Result<ByteList, AllocError>
 /// Tells the client that no protocol with this byte is served, and answers how the connection ended.
 fn refuse<K: Sink>(sink: &mut K, byte: u8) -> ConnEnd
     ensures refuses { Refuses byte (K.half sink.old).held (K.half sink.new).held result }
-    ensures write_fault { IsWriteFault result → Rose (K.half sink.old).faults (K.half sink.new).faults }
+    ensures write_fault { IsWriteFault result
+        → Rose (K.half sink.old).faults (K.half sink.new).faults }
     ensures sink_faults { (K.half sink.old).faults ≤ (K.half sink.new).faults }
+    ensures sink_shut { (K.half sink.new).shut ≡ (K.half sink.old).shut }
 {
     match write_answer(sink, &[0x4F], 0) {
         Ok(_sent) => ConnEnd::UnknownProtocol { byte },

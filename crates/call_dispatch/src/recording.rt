@@ -29,6 +29,8 @@ pub struct RecordingWorker {
     whole: bool,
     /// How many invocations it was given.
     pub calls: u64,
+    /// The number of the connection that it was made for, 0 where for none.
+    number: u32,
 }
 
 // Written out, so that whoever owns one has one call at each exit, and not the drop of each field.
@@ -40,6 +42,7 @@ impl Drop for RecordingWorker {
             recorded,
             whole: _,
             calls: _,
+            number: _,
         } = self;
         drop(outcomes);
         drop(recorded);
@@ -54,18 +57,31 @@ impl RecordingWorker {
         ensures recorded { result.recorded.items ≡ [] }
         ensures outcomes { result.outcomes.items ≡ outcomes }
     {
+        RecordingWorker::of_connection(alloc, outcomes, 0)
+    }
+
+    /// The same, made for connection `by`.
+    pub fn of_connection(alloc: Global, outcomes: OutcomeList, by: u32) -> RecordingWorker
+        ensures calls { result.calls ≡ 0 }
+        ensures whole { result.whole ≡ true }
+        ensures recorded { result.recorded.items ≡ [] }
+        ensures outcomes { result.outcomes.items ≡ outcomes }
+        ensures number { result.number ≡ by }
+    {
         RecordingWorker {
             alloc,
             outcomes: outcomes.into_vec(),
             recorded: Vec::new(alloc),
             whole: true,
             calls: 0,
+            number: by,
         }
     }
 
     /// The next outcome.
     fn next_outcome(&mut self) -> Outcome
         ensures calls { self.new.calls ≡ self.old.calls }
+        ensures number { self.new.number ≡ self.old.number }
         ensures whole { self.new.whole ≡ self.old.whole }
         ensures recorded { self.new.recorded ≡ self.old.recorded }
         ensures next { result ≡ head_or Outcome.Void self.old.outcomes.items }
@@ -85,6 +101,7 @@ impl RecordingWorker {
         ensures next { (result ≡ head_or Outcome.Void self.old.outcomes.items) ⊎ ((result ≡ Outcome.OutOfMemory) × (self.new.whole ≡ false)) }
         ensures rest { self.new.outcomes.items ≡ drop 1 self.old.outcomes.items }
         ensures calls { self.new.calls ≡ self.old.calls + 1 }
+        ensures number { self.new.number ≡ self.old.number }
         ensures kept { TellsMore (if self.old.whole then Some (map call_of self.old.recorded.items) else None) (invokes call result ∷ [])
             (if self.new.whole then Some (map call_of self.new.recorded.items) else None) }
     {
@@ -110,11 +127,7 @@ impl RecordingWorker {
 }
 
 impl Worker for RecordingWorker {
-    ghost calls = { λ w. w.calls };
-
-    ghost seen = { λ w. if w.whole then Some (map call_of w.recorded.items) else None };
-
-    ghost state = { λ w. None };
+    ghost shown = { λ w. record { calls = w.calls; seen = if w.whole then Some (map call_of w.recorded.items) else None; state = None; number = w.number } };
 
     ghost may = { λ call outcome. Unit {0} };
 

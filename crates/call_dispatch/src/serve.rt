@@ -1,17 +1,18 @@
 //! Serving a connection from its opening to its end.
-ghost use Rattle.std.specs.Prelude.{◌≡◌, ◌≤◌, ◌<◌, ◌^◌, pos, ◌<ℤ◌, ◌++◌, List, length};
+ghost use Rattle.std.specs.Prelude.{◌≡◌, ◌≤◌, ◌<◌, ◌++◌, ◌⊎◌, List, length};
 ghost use Rattle.wire_io.specs.Wire.{Rose};
 ghost use Rattle.wire_io.specs.declared.limits.TheConstants.{MAX_HOST_BYTES, LAST_POSITION};
 ghost use Rattle.mod_utf.specs.Utf.{utf};
 ghost use Rattle.ports.specs.Balance.{Balanced};
 ghost use Rattle.space.specs.declared.asked.Asked.{Asked};
-ghost use Rattle.call_dispatch.specs.End.{IsWriteFault};
-ghost use Rattle.call_dispatch.specs.Faults.{counts_of, Blames};
-ghost use Rattle.call_dispatch.specs.ConnectionState.{state_of_parts, state_of_connection, IsLent};
+ghost use Rattle.call_dispatch.specs.Conditions.{CanServe, CanGoOn, IsOver};
+ghost use Rattle.call_dispatch.specs.Complete.{NoFault, Completes};
+ghost use Rattle.call_dispatch.specs.End.{IsSettled, IsWriteFault};
+ghost use Rattle.call_dispatch.specs.Faults.{counts_of, Blames, KeepsShut};
+ghost use Rattle.call_dispatch.specs.ConnectionState.{state_of, state_of_connection, terms_in};
 ghost use Rattle.system_objects.specs.Terms.{terms_of};
 ghost use Rattle.call_dispatch.specs.Progress.{Talked, IsServedFrom};
 ghost use Rattle.call_dispatch.specs.Invoked.{InvokesEachOnce};
-ghost use Rattle.system_objects.specs.declared.setup.TheConstants.{DRAWS_BEGIN_BELOW};
 
 use crate::connection::Connection;
 use crate::end::ConnEnd;
@@ -27,7 +28,7 @@ use wire_io::{Clock, Pull, Sink, Source};
 /// `port` at the moments of `clock`, and calls are done by `worker`, of the kinds of objects in `book`.
 ///
 /// Its conditions are those under which calls can be served: both hosts take at most 255 bytes as modified UTF, the port is between two
-/// calls, has room for 2^30 of them and shows no call running, the worker was invoked fewer than 2^61 times, and fewer than 2^64 identifiers
+/// calls, has room for 2^62 of them and shows no call running, the worker was invoked fewer than 2^61 times, and fewer than 2^64 identifiers
 /// were drawn, from a moment below 2^61 on.
 ///
 /// No byte is taken but those of the dialogue. Each answer is written before the next message is taken: where a write fails, no byte behind the message that
@@ -44,37 +45,54 @@ pub fn serve_connection<S: Source, K: Sink, C: Clock, P: Port, W: Worker>(
     setup: &mut Setup,
 ) -> ConnEnd
     requires peer_host { length (utf setup.old.peer_host) ≤ MAX_HOST_BYTES }
-    requires host { length (utf setup.old.host) ≤ MAX_HOST_BYTES }
-    requires time { setup.old.draw.time <ℤ pos DRAWS_BEGIN_BELOW }
-    requires drawn { setup.old.draw.drawn < 2 ^ 64 }
-    requires ready { P.ready port.old }
-    requires room { 2 ^ 30 ≤ P.room_of port.old }
-    requires balanced { Balanced (P.asked port.old) }
-    requires calls { W.calls worker.old < 2 ^ 61 }
+    requires can { CanServe (P.ready port.old) (P.shown port.old) (W.shown worker.old) setup.old }
 
     // What was taken, done, drawn and written is a dialogue with the end, and the only one of the input and of what the outside
     // answered, unless something outside failed.
     ensures dialogue { IsServedFrom W.may W.moves (terms_of book.now setup.old)
-        (state_of_parts S.half K.half C.given P.asked W.calls W.seen W.state source.old sink.old clock.old port.old worker.old setup.old)
-        (state_of_parts S.half K.half C.given P.asked W.calls W.seen W.state source.new sink.new clock.new port.new worker.new setup.new) result }
+        (state_of (S.half source.old) (K.half sink.old) (C.given clock.old)
+        (P.shown port.old) (W.shown worker.old) setup.old)
+        (state_of (S.half source.new) (K.half sink.new) (C.given clock.new)
+        (P.shown port.new) (W.shown worker.new) setup.new) result }
 
     // The worker's invocations are those of the Calls that were taken, in their order: of each Call one at most, of the object and the method
     // that it names, with the graph that its bytes spell. This holds of the message, too, in which the connection ended.
     ensures invoked { InvokesEachOnce (terms_of book.now setup.old)
-        (state_of_parts S.half K.half C.given P.asked W.calls W.seen W.state source.old sink.old clock.old port.old worker.old setup.old)
-        (state_of_parts S.half K.half C.given P.asked W.calls W.seen W.state source.new sink.new clock.new port.new worker.new setup.new) }
+        (state_of (S.half source.old) (K.half sink.old) (C.given clock.old)
+        (P.shown port.old) (W.shown worker.old) setup.old)
+        (state_of (S.half source.new) (K.half sink.new) (C.given clock.new)
+        (P.shown port.new) (W.shown worker.new) setup.new) }
 
     // No call runs afterwards, and the port can be used on.
-    ensures balanced { (more : List Asked) × (P.asked port.new ≡ P.asked port.old ++ more) × Balanced more }
+    ensures balanced { (more : List Asked)
+        × ((P.shown port.new).asked ≡ (P.shown port.old).asked ++ more) × Balanced more }
     ensures ready { P.ready port.new }
     ensures leads { P.leads port.old port.new }
     ensures terms { terms_of book.now setup.new ≡ terms_of book.now setup.old }
 
     // The outside's failures.
-    ensures read_fault { result ≡ ConnEnd.ReadFault → Rose (S.half source.old).faults (S.half source.new).faults }
-    ensures write_fault { IsWriteFault result → Rose (K.half sink.old).faults (K.half sink.new).faults }
+    ensures read_fault { result ≡ ConnEnd.ReadFault
+        → Rose (S.half source.old).faults (S.half source.new).faults }
+    ensures write_fault { IsWriteFault result
+        → Rose (K.half sink.old).faults (K.half sink.new).faults }
     ensures source_faults { (S.half source.old).faults ≤ (S.half source.new).faults }
     ensures sink_faults { (K.half sink.old).faults ≤ (K.half sink.new).faults }
+
+    // Neither half is shut.
+    ensures source_shut { (S.half source.new).shut ≡ (S.half source.old).shut }
+    ensures sink_shut { (K.half sink.new).shut ≡ (K.half sink.old).shut }
+
+    // Where neither half failed, the end is one that the bytes and the outside's answers show, or there was no memory.
+    ensures settled { NoFault (S.half source.old) (S.half source.new) (K.half sink.old) (K.half sink.new)
+        → IsSettled result ⊎ (result ≡ ConnEnd.OutOfMemory) }
+
+    // Where neither half failed, an input of whole messages whose calls all found their objects is answered to its end, or there was no memory.
+    ensures complete { NoFault (S.half source.old) (S.half source.new) (K.half sink.old) (K.half sink.new)
+        → Completes W.may W.moves (terms_of book.now setup.old)
+        (state_of (S.half source.old) (K.half sink.old) (C.given clock.old)
+        (P.shown port.old) (W.shown worker.old) setup.old)
+        (state_of (S.half source.new) (K.half sink.new) (C.given clock.new)
+        (P.shown port.new) (W.shown worker.new) setup.new) result }
 {
     let pull = Pull::new(source);
     let mut connection = Connection {
@@ -95,23 +113,16 @@ fn talk<S: Source, K: Sink, C: Clock, P: Port, W: Worker>(
     connection: &mut Connection<S, K, C, P, W>,
 ) -> ConnEnd
     requires peer_host { length (utf connection.old.setup.now.peer_host) ≤ MAX_HOST_BYTES }
-    requires host { length (utf connection.old.setup.now.host) ≤ MAX_HOST_BYTES }
+    requires can { CanGoOn P.ready P.shown W.shown connection.old }
     requires at { connection.old.pull.at ≡ 0 }
     requires stop { connection.old.pull.stop ≡ LAST_POSITION }
-    requires time { connection.old.setup.now.draw.time <ℤ pos DRAWS_BEGIN_BELOW }
-    requires drawn { connection.old.setup.now.draw.drawn < 2 ^ 64 }
-    requires ready { P.ready connection.old.port.now }
-    requires room { 2 ^ 30 ≤ P.room_of connection.old.port.now }
-    requires balanced { Balanced (P.asked connection.old.port.now) }
-    requires calls { W.calls connection.old.worker.now < 2 ^ 61 }
-    ensures dialogue { Talked W.may W.moves (terms_of connection.old.book.now connection.old.setup.now)
-        (state_of_connection S.half K.half C.given P.asked W.calls W.seen W.state connection.old)
-        (state_of_connection S.half K.half C.given P.asked W.calls W.seen W.state connection.new) result }
-    ensures lent { IsLent connection.old connection.new }
-    ensures balanced { Balanced (P.asked connection.new.port.now) }
-    ensures ready { P.ready connection.new.port.now }
-    ensures leads { P.leads connection.old.port.now connection.new.port.now }
-    ensures blames { Blames (counts_of S.half K.half connection.old) (counts_of S.half K.half connection.new) result }
+    ensures dialogue { Talked W.may W.moves (terms_in connection.old)
+        (state_of_connection S.half K.half C.given P.shown W.shown connection.old)
+        (state_of_connection S.half K.half C.given P.shown W.shown connection.new) result }
+    ensures frame { IsOver P.ready P.shown P.leads connection.old connection.new }
+    ensures blames { Blames (counts_of S.half K.half connection.old)
+        (counts_of S.half K.half connection.new) result }
+    ensures shut { KeepsShut S.half K.half connection.old connection.new }
 {
     match open_connection(alloc, connection) {
         Ok(opened) => serve_messages(alloc, connection, opened),

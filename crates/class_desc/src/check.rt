@@ -12,7 +12,7 @@ use sequence::Units;
 use std::cmp::Ordering;
 use thiserror::Error;
 
-/// Why a description or a type text is refused.
+/// The reason why a description or a type text is refused.
 #[derive(Clone, Copy, Debug, PartialEq, Eq, Error)]
 pub enum DescFault {
     /// The flags contradict each other, the fields or the serialVersionUID, or one is unknown.
@@ -26,14 +26,14 @@ pub enum DescFault {
     BadTypeText,
 }
 
-/// Whether the sum of a class's flags has a flag.
+/// True where the sum of a class's flags has a flag.
 pub fn has_flag(flags: u8, flag: u8) -> bool
     ensures { result ≡ has_flag flags flag }
 {
     flags & flag == flag
 }
 
-/// Whether the sum of a class's flags lacks a flag.
+/// True where the sum of a class's flags lacks a flag.
 pub fn lacks_flag(flags: u8, flag: u8) -> bool
     ensures { result ≡ lacks_flag flags flag }
 {

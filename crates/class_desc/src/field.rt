@@ -56,7 +56,7 @@ impl Drop for FieldDesc {
 /// A list of fields.
 pub type FieldList = Sequence<FieldDesc>;
 
-/// Whether values of the type are primitive, and no references.
+/// True where values of the type are primitive, and no references.
 pub fn is_primitive(code: TypeCode) -> bool
     ensures { result ≡ is_primitive code }
 {

@@ -55,7 +55,7 @@ pub struct PartField {
 /// A list of fields of a known class.
 pub type PartFields = Sequence<PartField>;
 
-/// What the description of a known class holds, but for its annotation and its superclass.
+/// The contents of a known class's description, but for its annotation and its superclass.
 #[derive(Debug, Drop)]
 pub struct ClassParts {
     /// The class's name.
@@ -203,7 +203,7 @@ fn put_fields(alloc: Global, fields: &mut PartFields, which: KnownClass) -> Resu
     }
 }
 
-/// What the description of a known class holds. It is refused only for want of memory.
+/// The contents of a known class's description. It is refused only for want of memory.
 pub fn known(alloc: Global, which: KnownClass) -> Result<ClassParts, AllocError>
     ensures { IfOk result (λ parts. parts ≡ parts_of which) }
 {

@@ -1,6 +1,6 @@
 -- What closing the lock shows.
 use Rattle.wire_io.specs.Wire.{ReadHalf, WriteHalf}
-use Rattle.std.proofs.Common.{◌≡◌, ℕ, suc, ◌<◌, List, [], ◌∷◌, ◌++◌, length, drop, ap, ◌∙◌, sym, subst, arith, Option}
+use Rattle.std.proofs.Common.{◌≡◌, ℕ, suc, ◌<◌, ◌≤◌, List, [], ◌∷◌, ◌++◌, length, drop, ap, ◌∙◌, sym, subst, arith, Option}
 use Rattle.std.specs.Prelude.{Contains}
 use Rattle.std.proofs.Math.Seq.{drop-append_seam}
 use Rattle.wire_io.specs.Links.{Accepted}
@@ -13,6 +13,7 @@ use Rattle.turn_lock.specs.Handles.{opening_of, view_of}
 use Rattle.turn_lock.specs.Rule.{Events, Settled, events_by}
 use Rattle.turn_lock.specs.declared.handles.TurnLock.{TurnLock}
 use Rattle.turn_lock.specs.declared.view.View.{View}
+use Rattle.call_dispatch.specs.Acts.{WorkerState}
 use Rattle.conn_server.specs.Accepts.{shown_all}
 use Rattle.conn_server.specs.Joins.{IsJoined}
 use Rattle.conn_server.specs.Made.{shown_admitted}
@@ -23,14 +24,14 @@ use Rattle.conn_server.specs.declared.link_task.AdmittedLink.{AdmittedLink}
 use Rattle.conn_server.specs.declared.link_task.LinkReport.{LinkReport}
 use Rattle.conn_server.specs.declared.server.AllJoined.{AllJoined}
 use Rattle.conn_server.specs.declared.link_thread.StartedLink.{StartedLink}
-use Rattle.conn_server.proofs.Histories.{starts_on, others_by, went_before, turns_closed}
+use Rattle.conn_server.proofs.Histories.{starts_on, others_by, taken_from, went_before, turns_closed}
 use Rattle.conn_server.proofs.Rows.{paired_map}
 
 module _ {I O T H : Type 0} (IsLink : ℕ → Accepted × Asked → LinkReport I O T H → Type 0) (lock : TurnLock) where
-  module _ (read_half : I → ReadHalf) (write_half : O → WriteHalf) (given : T → Option (List ℕ)) (Talked : AdmittedLink I O T H → LinkReport I O T H → Type 0) (Made : ℕ → AdmittedLink I O T H → Type 0) (calls : H → ℕ)
+  module _ (read_half : I → ReadHalf) (write_half : O → WriteHalf) (given : T → Option (List ℕ)) (Talked : AdmittedLink I O T H → LinkReport I O T H → Type 0) (Made : ℕ → AdmittedLink I O T H → Type 0) (shown : H → WorkerState)
       (link : (k : ℕ) (g : AdmittedLink I O T H) (r : LinkReport I O T H) → Made k g → Talked g r → r.by ≡ k → IsLink k (shown_admitted read_half write_half given g) r) where
-    -- What the pass of a link that was begun had seen was the opening, and other connections' events.
-    joined_known : (v : View) (k : ℕ) (s : StartedLink I O T H) (r : LinkReport I O T H) → IsJoined Talked Made calls lock v k s r
+    -- What the pass of a link that was begun had seen was the opening, and other connections' events, the turn before the link among them.
+    joined_known : (v : View) (k : ℕ) (s : StartedLink I O T H) (r : LinkReport I O T H) → IsJoined Talked Made shown lock v k s r
         → IsKnown IsLink (opening_of lock) v k (shown_admitted read_half write_half given (task_of s).admitted) r
     joined_known v k s r j =
         let p = view_of (task_of s).pass in
@@ -39,15 +40,17 @@ module _ {I O T H : Type 0} (IsLink : ℕ → Accepted × Asked → LinkReport I
         let number = j.task.number in
         let none : events_by k order.tail ≡ [] = subst (λ (n : ℕ). events_by n order.tail ≡ []) number (order.own ∙ j.task.own) in
         let there = subst (λ (x : SpaceConfig × ℕ × Events). WentAmong x.0 x.1 x.2 r.asked j.ended.last) (λ i. (pass.configured i, number i, order.begins i)) j.ended.went in
+        let least : length p.seen ≤ length p.seen = omega arith in
         record {
           link = link k (task_of s).admitted r j.task.made j.ended.talked (j.ended.by ∙ j.task.by);
+          later = (length p.seen, j.task.after_tick, taken_from p.config p.number (length p.seen) p.seen j.ended.last r.asked least j.ended.went);
           listed = subst (λ (x : ℕ × Events). Contains v.ended (x.0, x.1 ++ events_of x.0 r.asked)) (λ i. (number i, j.task.own i)) j.ended.listed;
           last = j.ended.last;
           went = went_before (opening_of lock).configuration k (opening_of lock).events order.tail j.ended.last r.asked (others_by k order.tail none) there;
           seen = j.ended.seen;
         }
 
-    pub paired_known : (v : View) (n : ℕ) (all : List (StartedLink I O T H)) (reports : List (LinkReport I O T H)) → Paired (IsJoined Talked Made calls lock v) n all reports
+    pub paired_known : (v : View) (n : ℕ) (all : List (StartedLink I O T H)) (reports : List (LinkReport I O T H)) → Paired (IsJoined Talked Made shown lock v) n all reports
         → Paired (IsKnown IsLink (opening_of lock) v) n (shown_all read_half write_half given all) reports
     paired_known v n [] [] p = tt
     paired_known v n (s ∷ all) (r ∷ reports) p = (joined_known v n s r p.0, paired_known v (suc n) all reports p.1)
@@ -58,6 +61,7 @@ module _ {I O T H : Type 0} (IsLink : ℕ → Accepted × Asked → LinkReport I
     known_reported : (k : ℕ) (p : Accepted × Asked) (r : LinkReport I O T H) → IsKnown IsLink (opening_of lock) (view_of o.root.pass) k p r → IsReportOf IsLink (opening_of lock) h k p r
     known_reported k p r known = record {
       link = known.link;
+      later = known.later;
       turns = turns_closed (opening_of lock) h k r.asked known.last done.tail known.went (starts_on h.events (view_of o.root.pass).seen known.last done.seen known.seen) done.begins (done.joined (k, events_of k r.asked) known.listed);
     }
 

@@ -1,5 +1,5 @@
 -- Histories to which a connection's entries lead, with other connections' events before and behind.
-use Rattle.std.proofs.Common.{◌≡◌, ◌≢◌, ℕ, suc, Bool, true, false, true≢false, arith, ◌==◌, List, [], ◌∷◌, ◌++◌, length, drop, sym, refl, ap, ◌∙◌, subst, cond, ne_eqb, eq-eqb, append_assoc, append-nil}
+use Rattle.std.proofs.Common.{◌≡◌, ◌≢◌, ℕ, suc, ◌+◌, ◌≤◌, Bool, true, false, true≢false, arith, ◌==◌, List, [], ◌∷◌, ◌++◌, length, drop, sym, refl, ap, ◌∙◌, subst, cond, ne_eqb, eq-eqb, append_assoc, append-nil, length-append}
 use Rattle.std.proofs.lemmas.List.{append_cancel_left}
 use Rattle.std.proofs.lemmas.List.Elements.{filter-append}
 use Rattle.std.proofs.Math.Seq.{drop-append_seam}
@@ -14,10 +14,12 @@ use Rattle.space.specs.declared.asked.Asked.{Asked}
 use Rattle.space.specs.declared.asked.AskedEnd.{AskedEnd}
 use Rattle.space.specs.declared.asked.AskedEnd.TheVariants.{Turned, Abandoned, Refused as Denied}
 use Rattle.history.specs.declared.asks.Ask.{Ask}
+use Rattle.history.specs.declared.replies.Turn.{Turn}
 use Rattle.space.proofs.NotedLaws.{taken-turn, refused-turn}
 use Rattle.turn_lock.specs.Answers.{events_of, taken_with}
 use Rattle.turn_lock.specs.PortLaws.{among_on}
 use Rattle.turn_lock.specs.Rule.{Events, StartsWith, events_by}
+use Rattle.conn_server.specs.Made.{AreTakenFrom, IsTakenFrom}
 use Rattle.conn_server.specs.Reports.{AreTurnsOf, events_after}
 
 pub starts_self : (h : Events) → StartsWith h h
@@ -69,6 +71,31 @@ went_events config k h last (x ∷ xs) w =
       by_on k others (here ++ rest.0) ∙ (ap (λ l. l ++ events_by k (here ++ rest.0)) (none_by k others w.2)
           ∙ (by_on k here rest.0 ∙ (ap (λ l. l ++ events_by k rest.0) (own_taken k x.moment x.ask x.end) ∙ ap (λ l. here ++ l) rest.2))),
     )
+
+-- ---- where entries were taken
+
+goes_from : (config : SpaceConfig) (k n : ℕ) (h : Events) (m : ℕ) (a : Ask) (end : AskedEnd) (next : Events) → n ≤ length h → GoesBy config k h m a end next → IsTakenFrom n end × (n ≤ length next)
+goes_from config k n h m a (Turned turn) next le g =
+    let took = taken-turn config h next (event_of k m a) turn g in
+    let at_end : turn.place ≡ length h = ap (λ (x : Turn). x.place) took.0 in
+    let longer : length next ≡ length h + 1 = ap length took.1 ∙ length-append h (event_of k m a ∷ []) in
+    (omega (arith, le, at_end), omega (arith, le, longer))
+goes_from config k n h m a (Abandoned place) next le g =
+    let took = taken-turn config h next (event_of k m a) (turn_of config h (event_of k m a)) g.2 in
+    let at_end : place ≡ length h = g.1 in
+    let longer : length next ≡ length h + 1 = ap length took.1 ∙ length-append h (event_of k m a ∷ []) in
+    (omega (arith, le, at_end), omega (arith, le, longer))
+goes_from config k n h m a (Denied refused) next le g =
+    let same : length next ≡ length h = ap length (refused-turn config h next (event_of k m a) refused g.1).1 in (tt, omega (arith, le, same))
+
+-- They were taken behind the history that they lead from.
+pub taken_from : (config : SpaceConfig) (k n : ℕ) (h last : Events) (entries : List Asked) → n ≤ length h → WentAmong config k h entries last → AreTakenFrom n entries
+taken_from config k n h last [] le w = tt
+taken_from config k n h last (x ∷ xs) le w =
+    let longer : length (h ++ w.0) ≡ length h + length w.0 = length-append h w.0 in
+    let le2 : n ≤ length (h ++ w.0) = omega (arith, le, longer) in
+    let goes = goes_from config k n (h ++ w.0) x.moment x.ask x.end w.1 le2 w.3 in
+    (goes.0, taken_from config k n w.1 last xs goes.1 w.4)
 
 -- Other connections' events may come before and behind.
 pub went_between : (config : SpaceConfig) (k : ℕ) (h before last behind : Events) (entries : List Asked) → AreOfOthers k before → AreOfOthers k behind → WentAmong config k (h ++ before) entries last → WentAmong config k h entries (last ++ behind)

@@ -7,5 +7,7 @@ pub mod Ending
 pub mod Joining
 pub mod Making
 pub mod Linking
+pub mod Stopping
+pub mod Losing
 pub mod Closing
 pub mod Crossing

@@ -12,8 +12,10 @@ use Rattle.turn_lock.specs.Rule.{Events, events_by, left_of, right_of, space_wit
 use Rattle.turn_lock.specs.declared.handles.Root.{Root}
 use Rattle.turn_lock.specs.declared.handles.TurnLock.{TurnLock}
 use Rattle.turn_lock.specs.declared.view.View.{View}
+use Rattle.call_dispatch.specs.Acts.{WorkerState}
 use Rattle.system_objects.specs.declared.book.Kind.{Kind}
 use Rattle.conn_server.specs.Accepts.{IsAccepting, IsBegun, IsSame, open_all}
+use Rattle.conn_server.specs.Made.{IsTakenBelow}
 use Rattle.conn_server.specs.Rows.{EachAt}
 use Rattle.conn_server.specs.Serves.{IsLinkTask}
 use Rattle.conn_server.specs.Starts.{IsUnder, task_of, open_in}
@@ -56,9 +58,9 @@ ticking_grown lock a b ticks was is g t =
       went = subst (λ (x : SpaceConfig × Events). WentAmong x.0 0 x.1 ticks w.seen) (λ i. (sym is.pass_is.configured i, sym is.pass_is.opened i)) all;
     }
 
-module _ {I O T H : Type 0} (Talked : AdmittedLink I O T H → LinkReport I O T H → Type 0) (Made : ℕ → AdmittedLink I O T H → Type 0) (calls : H → ℕ) (lock : TurnLock) (kinds : List Kind) where
+module _ {I O T H : Type 0} (Talked : AdmittedLink I O T H → LinkReport I O T H → Type 0) (Made : ℕ → AdmittedLink I O T H → Type 0) (shown : H → WorkerState) (lock : TurnLock) (kinds : List Kind) where
   -- At first there is no link.
-  pub first_accepting : (a : Accepting I O T H) → IsFresh lock a.root → a.started.items ≡ [] → a.reports.items ≡ [] → a.ticks.items ≡ [] → IsAccepting Talked Made calls lock kinds a
+  pub first_accepting : (a : Accepting I O T H) → IsFresh lock a.root → a.started.items ≡ [] → a.reports.items ≡ [] → a.ticks.items ≡ [] → IsAccepting Talked Made shown lock kinds a
   first_accepting a fresh no_link no_report no_tick =
       let zero : vec_len a.started ≡ 0 = a.started.ok.0 ∙ ap length no_link in
       record {
@@ -68,10 +70,10 @@ module _ {I O T H : Type 0} (Talked : AdmittedLink I O T H → LinkReport I O T 
         ticked = subst (λ (x : View × List Asked). IsTicking x.0 x.1) (λ i. (sym fresh.knows i, sym no_tick i)) (record { number = refl; own = refl; went = ([], tt, sym (append-nil _)) });
         empty = no_report;
         room = omega (arith, zero);
-        links = subst (λ (l : List (StartedLink I O T H)). EachAt (IsBegun Talked Made calls lock kinds (view_of a.root.pass)) 1 l) (sym no_link) tt;
+        links = subst (λ (l : List (StartedLink I O T H)). EachAt (IsBegun Talked Made shown lock kinds (view_of a.root.pass)) 1 l) (sym no_link) tt;
       }
 
-  pub same_accepting : (a b : Accepting I O T H) → IsSame a b → IsAccepting Talked Made calls lock kinds a → IsAccepting Talked Made calls lock kinds b
+  pub same_accepting : (a b : Accepting I O T H) → IsSame a b → IsAccepting Talked Made shown lock kinds a → IsAccepting Talked Made shown lock kinds b
   same_accepting a b same is =
       let n = same.count in let room = is.room in let more = same.room in
       record {
@@ -81,11 +83,11 @@ module _ {I O T H : Type 0} (Talked : AdmittedLink I O T H → LinkReport I O T 
         ticked = subst (λ (x : Root × List Asked). IsTicking (view_of x.0.pass) x.1) (λ i. (sym same.root i, sym same.ticks i)) is.ticked;
         empty = same.reports ∙ is.empty;
         room = omega (arith, n, room, more);
-        links = subst (λ (x : Root × List (StartedLink I O T H)). EachAt (IsBegun Talked Made calls lock kinds (view_of x.0.pass)) 1 x.1) (λ i. (sym same.root i, sym same.started i)) is.links;
+        links = subst (λ (x : Root × List (StartedLink I O T H)). EachAt (IsBegun Talked Made shown lock kinds (view_of x.0.pass)) 1 x.1) (λ i. (sym same.root i, sym same.started i)) is.links;
       }
 
-  pub tick_accepting : (a b : Accepting I O T H) (more : List Asked) → IsAccepting Talked Made calls lock kinds a → IsRootOf lock b.root → b.root.made ≡ a.root.made → b.root.out ≡ a.root.out
-      → Gained (view_of a.root.pass) (view_of b.root.pass) more → b.ticks.items ≡ a.ticks.items ++ more → b.started ≡ a.started → b.reports ≡ a.reports → IsAccepting Talked Made calls lock kinds b
+  pub tick_accepting : (a b : Accepting I O T H) (more : List Asked) → IsAccepting Talked Made shown lock kinds a → IsRootOf lock b.root → b.root.made ≡ a.root.made → b.root.out ≡ a.root.out
+      → Gained (view_of a.root.pass) (view_of b.root.pass) more → b.ticks.items ≡ a.ticks.items ++ more → b.started ≡ a.started → b.reports ≡ a.reports → IsAccepting Talked Made shown lock kinds b
   tick_accepting a b more is own made out went ticks started reports =
       let n = is.room in let n2 = ap vec_len started in let cap = ap vec_capacity reports in
       record {
@@ -95,15 +97,16 @@ module _ {I O T H : Type 0} (Talked : AdmittedLink I O T H → LinkReport I O T 
         ticked = subst (λ (l : List Asked). IsTicking (view_of b.root.pass) l) (sym ticks) (ticking_on (view_of a.root.pass) (view_of b.root.pass) a.ticks.items more is.ticked went);
         empty = ap (λ r. r.items) reports ∙ is.empty;
         room = omega (arith, n, n2, cap);
-        links = subst (λ (l : List (StartedLink I O T H)). EachAt (IsBegun Talked Made calls lock kinds (view_of b.root.pass)) 1 l) (λ i. (sym started i).items)
-            (each_later Talked Made calls lock kinds (view_of a.root.pass) (view_of b.root.pass) (learns_gained (view_of a.root.pass) (view_of b.root.pass) more went) 1 a.started.items is.links);
+        links = subst (λ (l : List (StartedLink I O T H)). EachAt (IsBegun Talked Made shown lock kinds (view_of b.root.pass)) 1 l) (λ i. (sym started i).items)
+            (each_later Talked Made shown lock kinds (view_of a.root.pass) (view_of b.root.pass) (learns_gained (view_of a.root.pass) (view_of b.root.pass) more went) 1 a.started.items is.links);
       }
 
-  pub link_accepting : (a b : Accepting I O T H) (task : LinkTask I O T H) (x : StartedLink I O T H) → IsAccepting Talked Made calls lock kinds a → IsRootOf lock b.root
+  pub link_accepting : (a b : Accepting I O T H) (task : LinkTask I O T H) (x : StartedLink I O T H) → IsAccepting Talked Made shown lock kinds a → IsRootOf lock b.root
       → view_of task.pass ≡ right_of (view_of a.root.pass) → view_of b.root.pass ≡ left_of (view_of a.root.pass) → b.root.out ≡ a.root.out + 1 → b.root.made ≡ a.root.made + 1
-      → task.by ≡ vec_len a.started + 1 → IsLinkTask calls lock task → Made (vec_len a.started + 1) task.admitted → task_of x ≡ task → ((v : View) → IsUnder Talked lock kinds v (task_of x) x.link_state) → open_in x.link_state ≡ 1
-      → b.started.items ≡ a.started.items ++ x ∷ [] → vec_len b.started ≡ vec_len a.started + 1 → vec_len a.started < vec_capacity b.reports → b.reports.items ≡ [] → b.ticks.items ≡ a.ticks.items → IsAccepting Talked Made calls lock kinds b
-  link_accepting a b task x is own right left out made by task_at for_it task_is link_state one items count room empty ticks =
+      → task.by ≡ vec_len a.started + 1 → IsLinkTask shown lock task → Made (vec_len a.started + 1) task.admitted
+      → IsTakenBelow (length (view_of a.root.pass).seen) task.admitted.tick.value.end → task_of x ≡ task → ((v : View) → IsUnder Talked lock kinds v (task_of x) x.link_state) → open_in x.link_state ≡ 1
+      → b.started.items ≡ a.started.items ++ x ∷ [] → vec_len b.started ≡ vec_len a.started + 1 → vec_len a.started < vec_capacity b.reports → b.reports.items ≡ [] → b.ticks.items ≡ a.ticks.items → IsAccepting Talked Made shown lock kinds b
+  link_accepting a b task x is own right left out made by task_at for_it after_it task_is link_state one items count room empty ticks =
       let v = view_of a.root.pass in
       let w = view_of b.root.pass in
       let was : v.made ≡ a.root.made = is.own.made_are in
@@ -113,13 +116,14 @@ module _ {I O T H : Type 0} (Talked : AdmittedLink I O T H → LinkReport I O T 
       let length_is : vec_len a.started ≡ length a.started.items = a.started.ok.0 in
       let same : view_of (task_of x).pass ≡ right_of v = ap (λ (j : LinkTask I O T H). view_of j.pass) task_is ∙ right in
       let number : v.made + 1 ≡ length a.started.items + 1 = omega (arith, was, n, length_is) in
-      let begun : IsBegun Talked Made calls lock kinds w (length a.started.items + 1) x = record {
+      let begun : IsBegun Talked Made shown lock kinds w (length a.started.items + 1) x = record {
         task = record {
-          can = subst (λ (j : LinkTask I O T H). IsLinkTask calls lock j) (sym task_is) task_at;
+          can = subst (λ (j : LinkTask I O T H). IsLinkTask shown lock j) (sym task_is) task_at;
           made = subst (λ (y : ℕ × LinkTask I O T H). Made (y.0 + 1) y.1.admitted) (λ i. (length_is i, sym task_is i)) for_it;
           by = ap (λ (j : LinkTask I O T H). j.by) task_is ∙ (by ∙ ap (λ n. n + 1) length_is);
           number = ap (λ (y : View). y.number) same ∙ number;
           own = ap (λ (y : View). y.own) same;
+          after_tick = subst (λ (y : View × LinkTask I O T H). IsTakenBelow (length y.0.seen) y.1.admitted.tick.value.end) (λ i. (sym same i, sym task_is i)) after_it;
         };
         link_state = link_state w;
       } in
@@ -130,14 +134,14 @@ module _ {I O T H : Type 0} (Talked : AdmittedLink I O T H → LinkReport I O T 
         ticked = subst (λ (l : List Asked). IsTicking w l) (sym ticks) (ticking_left v w a.ticks.items left is.ticked);
         empty = empty;
         room = omega (arith, count, room);
-        links = subst (λ (l : List (StartedLink I O T H)). EachAt (IsBegun Talked Made calls lock kinds w) 1 l) (sym items)
-            (each_on (IsBegun Talked Made calls lock kinds w) 1 a.started.items x (each_later Talked Made calls lock kinds v w (learns_left v w left) 1 a.started.items is.links) begun);
+        links = subst (λ (l : List (StartedLink I O T H)). EachAt (IsBegun Talked Made shown lock kinds w) 1 l) (sym items)
+            (each_on (IsBegun Talked Made shown lock kinds w) 1 a.started.items x (each_later Talked Made shown lock kinds v w (learns_left v w left) 1 a.started.items is.links) begun);
       }
 
   -- The root took passes of links back that stay in their places.
-  pub joined_accepting : (a b : Accepting I O T H) → IsAccepting Talked Made calls lock kinds a → IsRootOf lock b.root → b.root.out + open_all a.started.items ≡ a.root.out + open_all b.started.items → b.root.made ≡ a.root.made
-      → Grows (view_of a.root.pass) (view_of b.root.pass) → EachAt (IsBegun Talked Made calls lock kinds (view_of b.root.pass)) 1 b.started.items → vec_len b.started ≡ vec_len a.started → b.ticks ≡ a.ticks → b.reports ≡ a.reports
-      → IsAccepting Talked Made calls lock kinds b
+  pub joined_accepting : (a b : Accepting I O T H) → IsAccepting Talked Made shown lock kinds a → IsRootOf lock b.root → b.root.out + open_all a.started.items ≡ a.root.out + open_all b.started.items → b.root.made ≡ a.root.made
+      → Grows (view_of a.root.pass) (view_of b.root.pass) → EachAt (IsBegun Talked Made shown lock kinds (view_of b.root.pass)) 1 b.started.items → vec_len b.started ≡ vec_len a.started → b.ticks ≡ a.ticks → b.reports ≡ a.reports
+      → IsAccepting Talked Made shown lock kinds b
   joined_accepting a b is own out made grows links count ticks reports =
       let n = is.room in let o = is.out in let cap = ap vec_capacity reports in
       record {

@@ -1,15 +1,21 @@
 -- The server's own turns, and what a hand is told of them.
-use Rattle.std.proofs.Common.{◌≡◌, ℕ, List, [], ◌∷◌, ◌++◌, length, map, refl, ap, sym, ◌∙◌, subst, arith, append-nil}
+use Rattle.std.proofs.Common.{◌≡◌, ◌<◌, ◌+◌, ℕ, List, [], ◌∷◌, ◌++◌, length, map, refl, ap, sym, ◌∙◌, subst, arith, append-nil, length-append, inl, inr}
 use Rattle.std.specs.Prelude.{Option, Some, None, Result, Ok, Err, IfSome, MatchOption, option_to_list}
 use Rattle.std.specs.List.{flat_map}
 use Rattle.object_ids.specs.declared.ids.ObjId.{ObjId}
 use Rattle.history.specs.declared.asks.Ask.{Ask}
+use Rattle.history.specs.declared.asks.Ask.TheVariants.{Tick}
 use Rattle.history.specs.declared.replies.Refused.{Refused}
 use Rattle.history.specs.declared.replies.Refused.TheVariants.{HistoryFull, Full, OutOfMemory}
 use Rattle.history.specs.declared.replies.Turn.{Turn}
+use Rattle.space.specs.Acts.{event_of}
 use Rattle.space.specs.Entries.{entry_of}
+use Rattle.space.proofs.NotedLaws.{taken-turn}
+use Rattle.turn_lock.specs.Rule.{TurnedWithEntry}
+use Rattle.turn_lock.specs.declared.view.View.{View}
 use Rattle.ports.specs.Ports.{entries_of}
 use Rattle.space.specs.declared.asked.Asked.{Asked}
+use Rattle.conn_server.specs.Made.{IsTakenBelow, IsTickEnd}
 use Rattle.call_dispatch.specs.Acts.{calls, unreferenced, tells_of}
 
 pub calls_told : (gone : List ObjId) → flat_map calls (tells_of gone) ≡ map unreferenced gone
@@ -33,6 +39,31 @@ entry_there P m a (Ok turn) (Some e) is p = subst P (sym (head_is e (entry_of m 
 entry_there P m a (Err HistoryFull) (Some e) is p = subst P (sym (head_is e (entry_of m a (Err HistoryFull)) is)) p
 entry_there P m a (Err (Full kind)) (Some e) is p = subst P (sym (head_is e (entry_of m a (Err (Full kind))) is)) p
 entry_there P m a (Err OutOfMemory) (Some e) is p = absurd (none_there e is)
+
+-- Where the turn has an entry, it was taken or refused since the history is full: no table can be full for a Tick.
+pub end_there : (v w : View) (by m : ℕ) (answer : Result Turn Refused) (r : Option Asked) → option_to_list r ≡ entries_of m Tick answer → TurnedWithEntry v by m Tick answer w → IfSome r (λ entry. IsTickEnd entry.end)
+end_there v w by m answer None is t = tt
+end_there v w by m (Ok turn) (Some e) is t = let P : Asked → Type 0 = λ x. IsTickEnd x.end in subst P (sym (head_is e (entry_of m Tick (Ok turn)) is)) tt
+end_there v w by m (Err HistoryFull) (Some e) is t = let P : Asked → Type 0 = λ x. IsTickEnd x.end in subst P (sym (head_is e (entry_of m Tick (Err HistoryFull)) is)) refl
+end_there v w by m (Err (Full kind)) (Some e) is (inl t) = absurd (let never = t.2 in never)
+end_there v w by m (Err (Full kind)) (Some e) is (inr t) = absurd (let same = t.0 in cc)
+end_there v w by m (Err OutOfMemory) (Some e) is t = absurd (none_there e is)
+
+-- Where the turn has an entry that was taken, its place is below the end of the history that is seen then.
+pub place_there : (v w : View) (by m : ℕ) (answer : Result Turn Refused) (r : Option Asked) → option_to_list r ≡ entries_of m Tick answer → TurnedWithEntry v by m Tick answer w
+    → IfSome r (λ entry. IsTakenBelow (length w.seen) entry.end)
+place_there v w by m answer None is t = tt
+place_there v w by m (Ok turn) (Some e) is (inl t) =
+    let took = taken-turn v.config t.0 w.seen (event_of by m Tick) turn t.1.step in
+    let at_end : turn.place ≡ length t.0 = ap (λ (x : Turn). x.place) took.0 in
+    let longer : length w.seen ≡ length t.0 + 1 = ap length took.1 ∙ length-append t.0 (event_of by m Tick ∷ []) in
+    let below : turn.place < length w.seen = omega (arith, at_end, longer) in
+    let P : Asked → Type 0 = λ x. IsTakenBelow (length w.seen) x.end in
+    subst P (sym (head_is e (entry_of m Tick (Ok turn)) is)) below
+place_there v w by m (Ok turn) (Some e) is (inr t) = absurd (let same = t.0 in cc)
+place_there v w by m (Err HistoryFull) (Some e) is t = let P : Asked → Type 0 = λ x. IsTakenBelow (length w.seen) x.end in subst P (sym (head_is e (entry_of m Tick (Err HistoryFull)) is)) tt
+place_there v w by m (Err (Full kind)) (Some e) is t = let P : Asked → Type 0 = λ x. IsTakenBelow (length w.seen) x.end in subst P (sym (head_is e (entry_of m Tick (Err (Full kind))) is)) tt
+place_there v w by m (Err OutOfMemory) (Some e) is t = absurd (none_there e is)
 
 -- What holds of an entry that was kept holds of what is known of it.
 pub known_there : {K : Type 0} (value : K → Asked) (P : Asked → Type 0) (entry : Option Asked) (r : Option K) → MatchOption r (entry ≡ None) (λ k. entry ≡ Some (value k)) → IfSome entry P → IfSome r (λ k. P (value k))

@@ -1,13 +1,14 @@
 -- What holds while links are accepted.
 use Rattle.wire_io.specs.Wire.{ReadHalf, WriteHalf}
-use Rattle.std.specs.Prelude.{◌≡◌, ℕ, ◌+◌, ◌<◌, ◌≤◌, List, [], ◌++◌, map, sum_by, vec_len, vec_capacity, Option, Some, None}
+use Rattle.std.specs.Prelude.{◌≡◌, ℕ, ◌+◌, ◌<◌, ◌≤◌, List, [], ◌++◌, length, map, sum_by, vec_len, vec_capacity, Option, Some, None}
 use Rattle.wire_io.specs.Links.{Accepted}
 use Rattle.space.specs.declared.asked.Asked.{Asked}
 use Rattle.turn_lock.specs.Handles.{IsRootOf, view_of}
 use Rattle.turn_lock.specs.declared.handles.TurnLock.{TurnLock}
 use Rattle.turn_lock.specs.declared.view.View.{View}
+use Rattle.call_dispatch.specs.Acts.{WorkerState}
 use Rattle.system_objects.specs.declared.book.Kind.{Kind}
-use Rattle.conn_server.specs.Made.{shown_admitted}
+use Rattle.conn_server.specs.Made.{IsTakenBelow, shown_admitted}
 use Rattle.conn_server.specs.Rows.{EachAt}
 use Rattle.conn_server.specs.Serves.{IsAdmittedLink, IsLinkTask}
 use Rattle.conn_server.specs.Starts.{IsUnder, task_of, open_in}
@@ -24,17 +25,19 @@ abbrev pub with_all : {A : Type 0} → Option (List A) → List A → Option (Li
 with_all None more = None
 with_all (Some told) more = Some (told ++ more)
 
--- The task is made for the link of connection k, and could be done at the lock. Its pass has the connection's number, and had made no turn.
-pub record IsTaskOf {I O T H : Type 0} (Made : ℕ → AdmittedLink I O T H → Type 0) (calls : H → ℕ) (lock : TurnLock) (k : ℕ) (task : LinkTask I O T H) : Type 0 where
-  pub can : IsLinkTask calls lock task
+-- The task is made for the link of connection k, and could be done at the lock. Its pass has the connection's number, had made no turn, and has seen
+-- the server's turn before it.
+pub record IsTaskOf {I O T H : Type 0} (Made : ℕ → AdmittedLink I O T H → Type 0) (shown : H → WorkerState) (lock : TurnLock) (k : ℕ) (task : LinkTask I O T H) : Type 0 where
+  pub can : IsLinkTask shown lock task
   pub made : Made k task.admitted
   pub by : task.by ≡ k
   pub number : (view_of task.pass).number ≡ k
   pub own : (view_of task.pass).own ≡ []
+  pub after_tick : IsTakenBelow (length (view_of task.pass).seen) task.admitted.tick.value.end
 
 -- The link of connection k was begun at the lock, and maybe a root with the view v has taken its pass back.
-pub record IsBegun {I O T H : Type 0} (Talked : AdmittedLink I O T H → LinkReport I O T H → Type 0) (Made : ℕ → AdmittedLink I O T H → Type 0) (calls : H → ℕ) (lock : TurnLock) (kinds : List Kind) (v : View) (k : ℕ) (started : StartedLink I O T H) : Type 0 where
-  pub task : IsTaskOf Made calls lock k (task_of started)
+pub record IsBegun {I O T H : Type 0} (Talked : AdmittedLink I O T H → LinkReport I O T H → Type 0) (Made : ℕ → AdmittedLink I O T H → Type 0) (shown : H → WorkerState) (lock : TurnLock) (kinds : List Kind) (v : View) (k : ℕ) (started : StartedLink I O T H) : Type 0 where
+  pub task : IsTaskOf Made shown lock k (task_of started)
   pub link_state : IsUnder Talked lock kinds v (task_of started) started.link_state
 
 -- What the listener tells of these links, each with the entry of the server's turn before it.
@@ -54,14 +57,14 @@ abbrev pub open_all : {I O T H : Type 0} → List (StartedLink I O T H) → ℕ
 open_all all = sum_by (λ s. open_in s.link_state) all
 
 -- Every link was begun with its pass and has its place in the report, and the root made these turns of its own.
-pub record IsAccepting {I O T H : Type 0} (Talked : AdmittedLink I O T H → LinkReport I O T H → Type 0) (Made : ℕ → AdmittedLink I O T H → Type 0) (calls : H → ℕ) (lock : TurnLock) (kinds : List Kind) (a : Accepting I O T H) : Type 0 where
+pub record IsAccepting {I O T H : Type 0} (Talked : AdmittedLink I O T H → LinkReport I O T H → Type 0) (Made : ℕ → AdmittedLink I O T H → Type 0) (shown : H → WorkerState) (lock : TurnLock) (kinds : List Kind) (a : Accepting I O T H) : Type 0 where
   pub own : IsRootOf lock a.root
   pub out : a.root.out ≡ open_all a.started.items
   pub made : a.root.made ≡ vec_len a.started
   pub ticked : IsTicking (view_of a.root.pass) a.ticks.items
   pub empty : a.reports.items ≡ []
   pub room : vec_len a.started ≤ vec_capacity a.reports
-  pub links : EachAt (IsBegun Talked Made calls lock kinds (view_of a.root.pass)) 1 a.started.items
+  pub links : EachAt (IsBegun Talked Made shown lock kinds (view_of a.root.pass)) 1 a.started.items
 
 -- There is more room, and all else is the same.
 pub record IsSame {I O T H : Type 0} (a b : Accepting I O T H) : Type 0 where
@@ -78,11 +81,12 @@ pub record HasRoom {I O T H : Type 0} (a : Accepting I O T H) : Type 0 where
   pub started : vec_len a.started < vec_capacity a.started
   pub reports : vec_len a.started < vec_capacity a.reports
 
--- The admitted link is the next one, and there is room for the link.
-pub record IsNext {I O T H : Type 0} (Talked : AdmittedLink I O T H → LinkReport I O T H → Type 0) (Made : ℕ → AdmittedLink I O T H → Type 0) (calls : H → ℕ) (lock : TurnLock) (kinds : List Kind) (a : Accepting I O T H) (admitted : AdmittedLink I O T H) : Type 0 where
-  pub accepting : IsAccepting Talked Made calls lock kinds a
+-- The admitted link is the next one, there is room for the link, and the root has seen the turn before it.
+pub record IsNext {I O T H : Type 0} (Talked : AdmittedLink I O T H → LinkReport I O T H → Type 0) (Made : ℕ → AdmittedLink I O T H → Type 0) (shown : H → WorkerState) (lock : TurnLock) (kinds : List Kind) (a : Accepting I O T H) (admitted : AdmittedLink I O T H) : Type 0 where
+  pub accepting : IsAccepting Talked Made shown lock kinds a
   pub few : vec_len a.started < MAX_LINKS
-  pub can : IsAdmittedLink calls admitted
+  pub can : IsAdmittedLink shown admitted
   pub made : Made (vec_len a.started + 1) admitted
+  pub after_tick : IsTakenBelow (length (view_of a.root.pass).seen) admitted.tick.value.end
   pub started : vec_len a.started < vec_capacity a.started
   pub reports : vec_len a.started < vec_capacity a.reports

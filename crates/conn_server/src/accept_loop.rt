@@ -1,20 +1,20 @@
 //! Accepting links, and joining their threads.
-ghost use Rattle.std.specs.Prelude.{◌≡◌, ◌≤◌, List, [], ◌++◌, length, vec_len};
+ghost use Rattle.std.specs.Prelude.{◌≡◌, ◌≤◌, List, [], ◌++◌, length, vec_len, IfOk};
 ghost use Rattle.mod_utf.specs.Utf.{utf};
 ghost use Rattle.wire_io.specs.Links.{Accepted, Accepts, accepted_as};
-ghost use Rattle.wire_io.specs.Wire.{Rose};
+ghost use Rattle.wire_io.specs.Wire.{AreNewHalves, Rose};
 ghost use Rattle.wire_io.specs.declared.limits.TheConstants.{MAX_HOST_BYTES};
 ghost use Rattle.turn_lock.specs.Handles.{IsRootOf, view_of};
 ghost use Rattle.conn_server.specs.Accepts.{IsAccepting, shown_all, links_of, ticks_of, with_all};
 ghost use Rattle.conn_server.specs.Joins.{IsJoined};
 ghost use Rattle.conn_server.specs.Made.{IsMadeFor};
 ghost use Rattle.conn_server.specs.Rows.{Paired};
-ghost use Rattle.conn_server.specs.Stops.{Stopped};
+ghost use Rattle.conn_server.specs.Stops.{Stopped, AreGivenBack, IsLostLink};
 ghost use Rattle.conn_server.specs.Talks.{TalksOver};
 ghost use Rattle.conn_server.specs.Views.{IsTicked};
 ghost use Rattle.conn_server.specs.declared.plan.TheConstants.{MAX_LINKS};
 
-use crate::admission::{Accepting, admit};
+use crate::admission::{Accepting, LostLink, admit};
 use crate::ended_links::EndedLinks;
 use crate::join::join_ended;
 use crate::link_task::LinkReport;
@@ -41,7 +41,7 @@ pub enum Stop {
     All,
     /// The listener failed, and failed again each further time that it was asked.
     AcceptFault,
-    /// There was no memory for a link that was accepted. It is shut, and not reported.
+    /// There was no memory for a link that was accepted. It is shut and given back, and not reported.
     OutOfMemory,
 }
 
@@ -54,6 +54,7 @@ fn next_link<R: Wait, L: Listener>(
     begun: usize,
 ) -> Result<Link<L::In, L::Out, L::Ticks>, Failed>
     ensures accepts { Accepts (accepted_as L.In.half L.Out.half L.Ticks.given) (L.listening listener.old) (L.listening listener.new) result }
+    ensures halves { IfOk result (λ link. AreNewHalves (L.In.half link.source) (L.Out.half link.sink)) }
     ensures ports { (L.listening listener.new).ports ≡ (L.listening listener.old).ports }
 {
     let mut idle_tries = 0u32;
@@ -73,7 +74,8 @@ fn next_link<R: Wait, L: Listener>(
     listener.accept()
 }
 
-/// Accepts so many links. A thread of the scope serves each. Before a link is admitted, threads of links that have ended are joined.
+/// Accepts so many links. A thread of the scope serves each. Before a link is admitted, threads of links that have ended are joined. The link for which
+/// there was no memory, if any, is given back.
 pub fn accept_links<'s, E, R: Threads + Wait + Sync, L: Listener, G: Crew>(
     scope: &Scope<'s, E>,
     rt: &'s R,
@@ -85,19 +87,24 @@ pub fn accept_links<'s, E, R: Threads + Wait + Sync, L: Listener, G: Crew>(
     crew: &G,
     plan: &ServePlan,
     accepting: Accepting<L::In, L::Out, L::Ticks, G::Hand>,
-) -> (Accepting<L::In, L::Out, L::Ticks, G::Hand>, Stop)
+) -> (
+    Accepting<L::In, L::Out, L::Ticks, G::Hand>,
+    Stop,
+    Option<LostLink<L::In, L::Out, L::Ticks>>,
+)
 where
     L::In: 's,
     L::Out: 's,
     L::Ticks: 's,
     G::Hand: 's,
     requires host { length (utf plan.now.host) ≤ MAX_HOST_BYTES }
-    requires accepting { IsAccepting (TalksOver L.In.half L.Out.half L.Ticks.given G.Hand.calls G.Hand.seen G.Hand.state G.Hand.may G.Hand.moves book.now) (IsMadeFor L.In.half L.Out.half L.Ticks.given G.Hand.seen G.Hand.state G.Hand.moves plan.now) G.Hand.calls lock.now book.now accepting }
+    requires accepting { IsAccepting (TalksOver L.In.half L.Out.half L.Ticks.given G.Hand.shown G.Hand.may G.Hand.moves book.now) (IsMadeFor L.In.half L.Out.half L.Ticks.given G.Hand.shown G.Hand.moves plan.now) G.Hand.shown lock.now book.now accepting }
     requires fresh { (accepting.started.items ≡ []) × (accepting.ticks.items ≡ []) }
-    requires turns { (plan.now.count ≤ MAX_LINKS) × (MAX_LINKS ≤ accepting.root.pass.room) }
-    ensures accepting { IsAccepting (TalksOver L.In.half L.Out.half L.Ticks.given G.Hand.calls G.Hand.seen G.Hand.state G.Hand.may G.Hand.moves book.now) (IsMadeFor L.In.half L.Out.half L.Ticks.given G.Hand.seen G.Hand.state G.Hand.moves plan.now) G.Hand.calls lock.now book.now result.0 }
+    requires few { plan.now.count ≤ MAX_LINKS }
+    ensures accepting { IsAccepting (TalksOver L.In.half L.Out.half L.Ticks.given G.Hand.shown G.Hand.may G.Hand.moves book.now) (IsMadeFor L.In.half L.Out.half L.Ticks.given G.Hand.shown G.Hand.moves plan.now) G.Hand.shown lock.now book.now result.0 }
     ensures tied { result.0.ticks.items ≡ ticks_of (shown_all L.In.half L.Out.half L.Ticks.given result.0.started.items) }
-    ensures links { (lost : List Accepted) × ((L.listening listener.new).accepted ≡ with_all (L.listening listener.old).accepted (links_of (shown_all L.In.half L.Out.half L.Ticks.given result.0.started.items) ++ lost)) × Stopped result.1 plan.now.count (vec_len result.0.started) lost }
+    ensures links { (lost : List Accepted) × ((L.listening listener.new).accepted ≡ with_all (L.listening listener.old).accepted (links_of (shown_all L.In.half L.Out.half L.Ticks.given result.0.started.items) ++ lost)) × Stopped result.1 plan.now.count (vec_len result.0.started) lost
+        × AreGivenBack (IsLostLink L.In.half L.Out.half L.Ticks.given) lost result.2 }
     ensures fault { result.1 ≡ Stop.AcceptFault → Rose (L.listening listener.old).faults (L.listening listener.new).faults }
     ensures faults { (L.listening listener.old).faults ≤ (L.listening listener.new).faults }
     ensures ports { (L.listening listener.new).ports ≡ (L.listening listener.old).ports }
@@ -105,18 +112,19 @@ where
     let mut accepting = accepting;
     for _ in 0..plan.count {
         let Ok(link) = next_link(rt, listener, ended, accepting.started.len()) else {
-            return (accepting, Stop::AcceptFault);
+            return (accepting, Stop::AcceptFault, None);
         };
         let accepted = join_ended(rt, lock, book, ended, plan, accepting);
-        let (next, taken) = admit(
+        let (next, lost) = admit(
             scope, rt, alloc, lock, book, ended, crew, plan, link, accepted,
         );
         accepting = next;
-        if !taken {
-            return (accepting, Stop::OutOfMemory);
+        match lost {
+            Some(lost) => return (accepting, Stop::OutOfMemory, Some(lost)),
+            None => {}
         }
     }
-    (accepting, Stop::All)
+    (accepting, Stop::All, None)
 }
 
 /// Waits for each link that wasn't joined, in order of accepting. Gives back the root, the reports and the entries of the root's own turns.
@@ -127,11 +135,11 @@ pub fn join_links<R: Threads, I: Source + Drop, O: Sink + Drop, T: Clock + Drop,
     plan: &ServePlan,
     accepting: Accepting<I, O, T, H>,
 ) -> (Root, Vec<LinkReport<I, O, T, H>>, Vec<Asked>)
-    requires { IsAccepting (TalksOver I.half O.half T.given H.calls H.seen H.state H.may H.moves book.now) (IsMadeFor I.half O.half T.given H.seen H.state H.moves plan.now) H.calls lock.now book.now accepting }
+    requires { IsAccepting (TalksOver I.half O.half T.given H.shown H.may H.moves book.now) (IsMadeFor I.half O.half T.given H.shown H.moves plan.now) H.shown lock.now book.now accepting }
     ensures root { IsRootOf lock.now result.0 × (result.0.out ≡ 0) }
     ensures made { result.0.made ≡ vec_len accepting.started }
     ensures ticks { IsTicked (view_of result.0.pass) result.2.items × (result.2 ≡ accepting.ticks) }
-    ensures links { Paired (IsJoined (TalksOver I.half O.half T.given H.calls H.seen H.state H.may H.moves book.now) (IsMadeFor I.half O.half T.given H.seen H.state H.moves plan.now) H.calls lock.now (view_of result.0.pass)) 1 accepting.started.items result.1.items }
+    ensures links { Paired (IsJoined (TalksOver I.half O.half T.given H.shown H.may H.moves book.now) (IsMadeFor I.half O.half T.given H.shown H.moves plan.now) H.shown lock.now (view_of result.0.pass)) 1 accepting.started.items result.1.items }
 {
     let _ = plan;
     let Accepting {

@@ -1,8 +1,8 @@
 //! Admitting a link: a Tick before it, its hand and its setup, and its start.
-ghost use Rattle.std.specs.Prelude.{◌≡◌, ◌<◌, ◌≤◌, ◌+◌, pos, ◌<ℤ◌, List, [], ◌∷◌, ◌++◌, map, length, vec_len, vec_capacity, MatchBool, MatchOption, IfSome, Some, None, IfOk, option_to_list, Option};
+ghost use Rattle.std.specs.Prelude.{◌≡◌, ◌<◌, ◌≤◌, ◌+◌, pos, ◌<ℤ◌, List, [], ◌∷◌, ◌++◌, map, length, vec_len, vec_capacity, ℕ, MatchBool, MatchOption, IfSome, Some, None, IfOk, IfErr, OnErr, option_to_list, Option};
 ghost use Rattle.mod_utf.specs.Utf.{utf};
 ghost use Rattle.wire_io.specs.Links.{accepted_as};
-ghost use Rattle.wire_io.specs.Wire.{Gave};
+ghost use Rattle.wire_io.specs.Wire.{AreNewHalves, Gave, ShutsRead, ShutsWrite};
 ghost use Rattle.wire_io.specs.declared.limits.TheConstants.{MAX_HOST_BYTES};
 ghost use Rattle.history.specs.declared.asks.Ask.TheVariants.{Tick};
 ghost use Rattle.space.specs.Entries.{end_of};
@@ -11,12 +11,13 @@ ghost use Rattle.call_dispatch.specs.Acts.{unreferenced, TellsMore, LeadsStates}
 ghost use Rattle.system_objects.specs.Terms.{terms_of};
 ghost use Rattle.system_objects.specs.declared.book.Kind.{Kind};
 ghost use Rattle.system_objects.specs.declared.setup.TheConstants.{DRAWS_BEGIN_BELOW};
-ghost use Rattle.turn_lock.specs.Handles.{IsRootOf};
+ghost use Rattle.turn_lock.specs.Handles.{IsRootOf, view_of};
 ghost use Rattle.turn_lock.specs.PassPorts.{PassWent};
 ghost use Rattle.conn_server.specs.Accepts.{HasRoom, IsAccepting, IsNext, IsSame, shown_all, links_of, ticks_of};
-ghost use Rattle.call_dispatch.specs.Hands.{IsUntold};
-ghost use Rattle.conn_server.specs.Made.{gone_with, told_of, shown_admitted, IsMadeFor, IsHandFor};
+ghost use Rattle.call_dispatch.specs.Hands.{IsUntold, IsUncounted};
+ghost use Rattle.conn_server.specs.Made.{gone_with, told_of, shown_admitted, IsMadeFor, IsHandFor, IsTakenBelow, IsTickEnd};
 ghost use Rattle.conn_server.specs.Plans.{link_terms};
+ghost use Rattle.conn_server.specs.Stops.{IsLostLink};
 ghost use Rattle.conn_server.specs.Talks.{TalksOver};
 ghost use Rattle.conn_server.specs.declared.plan.TheConstants.{MAX_LINKS};
 
@@ -41,6 +42,17 @@ pub struct Accepting<I: Source, O: Sink, T: Clock, H: Worker> {
     pub started: Vec<StartedLink<I, O, T, H>>,
     pub reports: Vec<LinkReport<I, O, T, H>>,
     pub ticks: Vec<Asked>,
+}
+
+/// A link that was accepted and isn't served, since there was no memory for it: its halves, which are shut, and its clock.
+#[derive(Drop)]
+pub struct LostLink<I, O, T> {
+    /// Its source, of which no byte was taken.
+    pub source: I,
+    /// Its sink, to which no byte was written.
+    pub sink: O,
+    /// Its clock, which gave the moment of a Tick for which there was no memory, or none.
+    pub clock: T,
 }
 
 /// Whether there is room for so many further items. It is made where there is memory.
@@ -78,9 +90,10 @@ fn with_room<I: Source, O: Sink, T: Clock, H: Worker>(
 
 /// Tells a hand what an answer tells as withdrawn.
 fn tell_answer<H: Worker>(hand: &mut H, answer: &Result<Turn, Refused>)
-    ensures seen { TellsMore (H.seen hand.old) (map unreferenced (gone_with (end_of answer.now))) (H.seen hand.new) }
-    ensures state { LeadsStates H.moves (H.state hand.old) (map unreferenced (gone_with (end_of answer.now))) (H.state hand.new) }
-    ensures calls { H.calls hand.new ≡ H.calls hand.old }
+    ensures seen { TellsMore (H.shown hand.old).seen (map unreferenced (gone_with (end_of answer.now))) (H.shown hand.new).seen }
+    ensures state { LeadsStates H.moves (H.shown hand.old).state (map unreferenced (gone_with (end_of answer.now))) (H.shown hand.new).state }
+    ensures calls { (H.shown hand.new).calls ≡ (H.shown hand.old).calls }
+    ensures number { (H.shown hand.new).number ≡ (H.shown hand.old).number }
 {
     match answer {
         Ok(turn) => notify_unreferenced(hand, turn.gone.as_slice()),
@@ -118,16 +131,18 @@ fn tick<R: Wait, T: Clock, H: Worker>(
     hand: &mut H,
 ) -> Option<Asked>
     requires own { IsRootOf lock.now root.old }
-    requires room { 0 < root.old.pass.room }
     ensures root { IsRootOf lock.now root.new }
     ensures counts { (root.new.made ≡ root.old.made) × (root.new.out ≡ root.old.out) }
     ensures went { PassWent root.old.pass root.new.pass (option_to_list result) }
-    ensures room { root.old.pass.room ≤ root.new.pass.room + 1 }
     ensures asked { IfSome result (λ entry. entry.ask ≡ Tick) }
+    ensures end { IfSome result (λ entry. IsTickEnd entry.end) }
+    ensures place { IfSome result (λ entry. IsTakenBelow (length (view_of root.new.pass).seen) entry.end) }
     ensures given { IfSome result (λ entry. Gave (T.given clock.old) (T.given clock.new) (entry.moment ∷ [])) }
-    ensures seen { IfSome result (λ entry. TellsMore (H.seen hand.old) (told_of entry) (H.seen hand.new)) }
-    ensures state { IfSome result (λ entry. LeadsStates H.moves (H.state hand.old) (told_of entry) (H.state hand.new)) }
-    ensures calls { H.calls hand.new ≡ H.calls hand.old }
+    ensures moment { (moment : ℕ) × Gave (T.given clock.old) (T.given clock.new) (moment ∷ []) }
+    ensures seen { IfSome result (λ entry. TellsMore (H.shown hand.old).seen (told_of entry) (H.shown hand.new).seen) }
+    ensures state { IfSome result (λ entry. LeadsStates H.moves (H.shown hand.old).state (told_of entry) (H.shown hand.new).state) }
+    ensures calls { (H.shown hand.new).calls ≡ (H.shown hand.old).calls }
+    ensures number { (H.shown hand.new).number ≡ (H.shown hand.old).number }
 {
     let moment = clock.now();
     let (answer, _entries) = root.turn(rt, alloc, lock, moment, Ask::Tick);
@@ -151,8 +166,10 @@ fn hand_and_setup<G: Crew, I, O, T>(
     link: &Link<I, O, T>,
 ) -> Result<HandAndSetup<G::Hand>, AllocError>
     requires host { length (utf plan.now.host) ≤ MAX_HOST_BYTES }
-    ensures calls { IfOk result (λ r. G.Hand.calls r.hand ≡ 0) }
-    ensures untold { IfOk result (λ r. IsUntold (G.Hand.seen r.hand)) }
+    ensures calls { IfOk result (λ r. (G.Hand.shown r.hand).calls ≡ 0) }
+    ensures untold { IfOk result (λ r. IsUntold (G.Hand.shown r.hand).seen) }
+    ensures uncounted { IfOk result (λ r. IsUncounted (G.Hand.shown r.hand).state) }
+    ensures number { IfOk result (λ r. (G.Hand.shown r.hand).number ≡ by) }
     ensures terms { IfOk result (λ r. (kinds : List Kind) → terms_of kinds r.setup ≡ link_terms kinds plan.now by link.now.host link.now.port) }
     ensures peer_host { IfOk result (λ r. length (utf r.setup.peer_host) ≤ MAX_HOST_BYTES) }
     ensures host { IfOk result (λ r. length (utf r.setup.host) ≤ MAX_HOST_BYTES) }
@@ -176,7 +193,7 @@ fn reserve_link<G: Crew, I: Source, O: Sink, T: Clock>(
     requires few { vec_len accepting.started < MAX_LINKS }
     ensures same { IsSame accepting result.0 }
     ensures room { IfSome result.1 (λ r. HasRoom result.0) }
-    ensures ready { IfSome result.1 (λ r. IsHandFor G.Hand.calls G.Hand.seen plan.now (vec_len accepting.started + 1) link.now.host link.now.port r) }
+    ensures ready { IfSome result.1 (λ r. IsHandFor G.Hand.shown plan.now (vec_len accepting.started + 1) link.now.host link.now.port r) }
 {
     let (accepting, room) = with_room(accepting);
     if !room {
@@ -209,9 +226,8 @@ fn start_link<
     admitted: AdmittedLink<I, O, T, H>,
     accepting: Accepting<I, O, T, H>,
 ) -> Accepting<I, O, T, H>
-    requires { IsNext (TalksOver I.half O.half T.given H.calls H.seen H.state H.may H.moves book.now) (IsMadeFor I.half O.half T.given H.seen H.state H.moves plan.now) H.calls lock.now book.now accepting admitted }
-    ensures accepting { IsAccepting (TalksOver I.half O.half T.given H.calls H.seen H.state H.may H.moves book.now) (IsMadeFor I.half O.half T.given H.seen H.state H.moves plan.now) H.calls lock.now book.now result }
-    ensures turns { result.root.pass.room ≡ accepting.root.pass.room }
+    requires { IsNext (TalksOver I.half O.half T.given H.shown H.may H.moves book.now) (IsMadeFor I.half O.half T.given H.shown H.moves plan.now) H.shown lock.now book.now accepting admitted }
+    ensures accepting { IsAccepting (TalksOver I.half O.half T.given H.shown H.may H.moves book.now) (IsMadeFor I.half O.half T.given H.shown H.moves plan.now) H.shown lock.now book.now result }
     ensures ticks { result.ticks ≡ accepting.ticks }
     ensures links { shown_all I.half O.half T.given result.started.items ≡ shown_all I.half O.half T.given accepting.started.items ++ shown_admitted I.half O.half T.given admitted ∷ [] }
     ensures count { vec_len result.started ≡ vec_len accepting.started + 1 }
@@ -249,18 +265,20 @@ fn with_tick<R: Wait, I: Source, O: Sink, T: Clock, H: Worker>(
     hand: &mut H,
     accepting: Accepting<I, O, T, H>,
 ) -> (Accepting<I, O, T, H>, Option<Snapshot<Asked>>)
-    requires accepting { IsAccepting (TalksOver I.half O.half T.given H.calls H.seen H.state H.may H.moves book.now) (IsMadeFor I.half O.half T.given H.seen H.state H.moves plan.now) H.calls lock.now book.now accepting }
-    requires turns { 0 < accepting.root.pass.room }
+    requires accepting { IsAccepting (TalksOver I.half O.half T.given H.shown H.may H.moves book.now) (IsMadeFor I.half O.half T.given H.shown H.moves plan.now) H.shown lock.now book.now accepting }
     requires room { vec_len accepting.ticks < vec_capacity accepting.ticks }
-    ensures accepting { IsAccepting (TalksOver I.half O.half T.given H.calls H.seen H.state H.may H.moves book.now) (IsMadeFor I.half O.half T.given H.seen H.state H.moves plan.now) H.calls lock.now book.now result.0 }
-    ensures turns { accepting.root.pass.room ≤ result.0.root.pass.room + 1 }
+    ensures accepting { IsAccepting (TalksOver I.half O.half T.given H.shown H.may H.moves book.now) (IsMadeFor I.half O.half T.given H.shown H.moves plan.now) H.shown lock.now book.now result.0 }
     ensures links { (result.0.started ≡ accepting.started) × (result.0.reports ≡ accepting.reports) }
     ensures ticks { MatchOption result.1 (result.0.ticks.items ≡ accepting.ticks.items) (λ entry. result.0.ticks.items ≡ accepting.ticks.items ++ entry.value ∷ []) }
     ensures asked { IfSome result.1 (λ entry. entry.value.ask ≡ Tick) }
+    ensures end { IfSome result.1 (λ entry. IsTickEnd entry.value.end) }
+    ensures place { IfSome result.1 (λ entry. IsTakenBelow (length (view_of result.0.root.pass).seen) entry.value.end) }
     ensures given { IfSome result.1 (λ entry. Gave (T.given clock.old) (T.given clock.new) (entry.value.moment ∷ [])) }
-    ensures seen { IfSome result.1 (λ entry. TellsMore (H.seen hand.old) (told_of entry.value) (H.seen hand.new)) }
-    ensures state { IfSome result.1 (λ entry. LeadsStates H.moves (H.state hand.old) (told_of entry.value) (H.state hand.new)) }
-    ensures calls { H.calls hand.new ≡ H.calls hand.old }
+    ensures moment { (moment : ℕ) × Gave (T.given clock.old) (T.given clock.new) (moment ∷ []) }
+    ensures seen { IfSome result.1 (λ entry. TellsMore (H.shown hand.old).seen (told_of entry.value) (H.shown hand.new).seen) }
+    ensures state { IfSome result.1 (λ entry. LeadsStates H.moves (H.shown hand.old).state (told_of entry.value) (H.shown hand.new).state) }
+    ensures calls { (H.shown hand.new).calls ≡ (H.shown hand.old).calls }
+    ensures number { (H.shown hand.new).number ≡ (H.shown hand.old).number }
 {
     let _ = book;
     let _ = plan;
@@ -297,18 +315,41 @@ fn keep_entry(ticks: &mut Vec<Asked>, entry: Option<Asked>) -> Option<Snapshot<A
     }
 }
 
-/// Shuts the halves of a link that is not served.
-fn shut<I: Source + Drop, O: Sink + Drop>(mut source: I, mut sink: O) {
+/// The halves of a link that is not served, once they are shut, and its clock.
+fn shut_link<I: Source, O: Sink, T: Clock>(
+    mut source: I,
+    mut sink: O,
+    clock: T,
+) -> LostLink<I, O, T>
+    ensures source { ShutsRead (I.half source) (I.half result.source) }
+    ensures sink { ShutsWrite (O.half sink) (O.half result.sink) }
+    ensures clock { result.clock ≡ clock }
+{
     source.shut();
     sink.shut();
+    LostLink {
+        source,
+        sink,
+        clock,
+    }
 }
 
-/// Shuts a link that is not served.
-fn refuse<I: Source + Drop, O: Sink + Drop, T: Drop>(link: Link<I, O, T>) {
-    shut(link.source, link.sink);
+/// The link, which is not served, once its halves are shut.
+fn refuse<I: Source, O: Sink, T: Clock>(link: Link<I, O, T>) -> LostLink<I, O, T>
+    requires { AreNewHalves (I.half link.source) (O.half link.sink) }
+    ensures { IsLostLink I.half O.half T.given (accepted_as I.half O.half T.given link) result }
+{
+    let Link {
+        source,
+        sink,
+        clock,
+        host: _host,
+        port: _port,
+    } = link;
+    shut_link(source, sink, clock)
 }
 
-/// Makes a Tick before the link is served, and the admitted link. None where there was no memory for the Tick: the link is shut.
+/// Makes a Tick before the link is served, and the admitted link; or the link itself, shut, where there was no memory for the Tick.
 fn prepare_link<R: Wait, I: Source + Drop, O: Sink + Drop, T: Clock + Drop, H: Worker + Drop>(
     rt: &R,
     alloc: Global,
@@ -318,18 +359,22 @@ fn prepare_link<R: Wait, I: Source + Drop, O: Sink + Drop, T: Clock + Drop, H: W
     link: Link<I, O, T>,
     ready: HandAndSetup<H>,
     accepting: Accepting<I, O, T, H>,
-) -> (Accepting<I, O, T, H>, Option<AdmittedLink<I, O, T, H>>)
-    requires accepting { IsAccepting (TalksOver I.half O.half T.given H.calls H.seen H.state H.may H.moves book.now) (IsMadeFor I.half O.half T.given H.seen H.state H.moves plan.now) H.calls lock.now book.now accepting }
-    requires turns { 0 < accepting.root.pass.room }
+) -> (
+    Accepting<I, O, T, H>,
+    Result<AdmittedLink<I, O, T, H>, LostLink<I, O, T>>,
+)
+    requires accepting { IsAccepting (TalksOver I.half O.half T.given H.shown H.may H.moves book.now) (IsMadeFor I.half O.half T.given H.shown H.moves plan.now) H.shown lock.now book.now accepting }
     requires few { vec_len accepting.started < MAX_LINKS }
     requires room { HasRoom accepting }
-    requires ready { IsHandFor H.calls H.seen plan.now (vec_len accepting.started + 1) link.host link.port ready }
-    ensures accepting { IsAccepting (TalksOver I.half O.half T.given H.calls H.seen H.state H.may H.moves book.now) (IsMadeFor I.half O.half T.given H.seen H.state H.moves plan.now) H.calls lock.now book.now result.0 }
-    ensures turns { accepting.root.pass.room ≤ result.0.root.pass.room + 1 }
+    requires halves { AreNewHalves (I.half link.source) (O.half link.sink) }
+    requires ready { IsHandFor H.shown plan.now (vec_len accepting.started + 1) link.host link.port ready }
+    ensures accepting { IsAccepting (TalksOver I.half O.half T.given H.shown H.may H.moves book.now) (IsMadeFor I.half O.half T.given H.shown H.moves plan.now) H.shown lock.now book.now result.0 }
     ensures links { (result.0.started ≡ accepting.started) × (result.0.reports ≡ accepting.reports) }
-    ensures ticks { MatchOption result.1 (result.0.ticks.items ≡ accepting.ticks.items) (λ admitted. result.0.ticks.items ≡ accepting.ticks.items ++ admitted.tick.value ∷ []) }
-    ensures first { IfSome result.1 (λ admitted. admitted.first.value ≡ link) }
-    ensures next { IfSome result.1 (λ admitted. IsNext (TalksOver I.half O.half T.given H.calls H.seen H.state H.may H.moves book.now) (IsMadeFor I.half O.half T.given H.seen H.state H.moves plan.now) H.calls lock.now book.now result.0 admitted) }
+    ensures ticks { IfOk result.1 (λ admitted. result.0.ticks.items ≡ accepting.ticks.items ++ admitted.tick.value ∷ []) }
+    ensures no_tick { OnErr result.1 (result.0.ticks.items ≡ accepting.ticks.items) }
+    ensures lost { IfErr result.1 (λ lost. IsLostLink I.half O.half T.given (accepted_as I.half O.half T.given link) lost) }
+    ensures first { IfOk result.1 (λ admitted. admitted.first.value ≡ link) }
+    ensures next { IfOk result.1 (λ admitted. IsNext (TalksOver I.half O.half T.given H.shown H.may H.moves book.now) (IsMadeFor I.half O.half T.given H.shown H.moves plan.now) H.shown lock.now book.now result.0 admitted) }
 {
     let first = Snapshot::of(&link);
     let Link {
@@ -344,8 +389,7 @@ fn prepare_link<R: Wait, I: Source + Drop, O: Sink + Drop, T: Clock + Drop, H: W
         rt, alloc, lock, book, plan, &mut clock, &mut hand, accepting,
     );
     let Some(tick) = entry else {
-        shut(source, sink);
-        return (accepting, None);
+        return (accepting, Err(shut_link(source, sink, clock)));
     };
     let admitted = AdmittedLink {
         source,
@@ -356,10 +400,10 @@ fn prepare_link<R: Wait, I: Source + Drop, O: Sink + Drop, T: Clock + Drop, H: W
         first,
         tick,
     };
-    (accepting, Some(admitted))
+    (accepting, Ok(admitted))
 }
 
-/// Makes a Tick, and begins to serve the link. Says whether it did: where there was no memory, the link is shut.
+/// Makes a Tick, and begins to serve the link. Gives the link back, shut, where there was no memory for it.
 pub fn admit<
     's,
     E,
@@ -379,32 +423,34 @@ pub fn admit<
     plan: &ServePlan,
     link: Link<I, O, T>,
     accepting: Accepting<I, O, T, G::Hand>,
-) -> (Accepting<I, O, T, G::Hand>, bool)
+) -> (Accepting<I, O, T, G::Hand>, Option<LostLink<I, O, T>>)
 where
     G::Hand: 's,
     requires host { length (utf plan.now.host) ≤ MAX_HOST_BYTES }
-    requires accepting { IsAccepting (TalksOver I.half O.half T.given G.Hand.calls G.Hand.seen G.Hand.state G.Hand.may G.Hand.moves book.now) (IsMadeFor I.half O.half T.given G.Hand.seen G.Hand.state G.Hand.moves plan.now) G.Hand.calls lock.now book.now accepting }
-    requires turns { (0 < accepting.root.pass.room) × (vec_len accepting.started < MAX_LINKS) }
+    requires accepting { IsAccepting (TalksOver I.half O.half T.given G.Hand.shown G.Hand.may G.Hand.moves book.now) (IsMadeFor I.half O.half T.given G.Hand.shown G.Hand.moves plan.now) G.Hand.shown lock.now book.now accepting }
+    requires few { vec_len accepting.started < MAX_LINKS }
     requires tied { accepting.ticks.items ≡ ticks_of (shown_all I.half O.half T.given accepting.started.items) }
-    ensures accepting { IsAccepting (TalksOver I.half O.half T.given G.Hand.calls G.Hand.seen G.Hand.state G.Hand.may G.Hand.moves book.now) (IsMadeFor I.half O.half T.given G.Hand.seen G.Hand.state G.Hand.moves plan.now) G.Hand.calls lock.now book.now result.0 }
-    ensures turns { accepting.root.pass.room ≤ result.0.root.pass.room + 1 }
+    requires halves { AreNewHalves (I.half link.source) (O.half link.sink) }
+    ensures accepting { IsAccepting (TalksOver I.half O.half T.given G.Hand.shown G.Hand.may G.Hand.moves book.now) (IsMadeFor I.half O.half T.given G.Hand.shown G.Hand.moves plan.now) G.Hand.shown lock.now book.now result.0 }
     ensures tied { result.0.ticks.items ≡ ticks_of (shown_all I.half O.half T.given result.0.started.items) }
-    ensures links { MatchBool result.1
+    ensures links { MatchOption result.1
         (links_of (shown_all I.half O.half T.given result.0.started.items) ≡ links_of (shown_all I.half O.half T.given accepting.started.items) ++ accepted_as I.half O.half T.given link ∷ [])
-        (links_of (shown_all I.half O.half T.given result.0.started.items) ≡ links_of (shown_all I.half O.half T.given accepting.started.items)) }
-    ensures count { MatchBool result.1 (vec_len result.0.started ≡ vec_len accepting.started + 1) (vec_len result.0.started ≡ vec_len accepting.started) }
+        (λ lost. links_of (shown_all I.half O.half T.given result.0.started.items) ≡ links_of (shown_all I.half O.half T.given accepting.started.items)) }
+    ensures count { MatchOption result.1 (vec_len result.0.started ≡ vec_len accepting.started + 1) (λ lost. vec_len result.0.started ≡ vec_len accepting.started) }
+    ensures lost { IfSome result.1 (λ lost. IsLostLink I.half O.half T.given (accepted_as I.half O.half T.given link) lost) }
 {
     let (accepting, ready) = reserve_link(alloc, crew, plan, &link, accepting);
     let Some(ready) = ready else {
-        refuse(link);
-        return (accepting, false);
+        return (accepting, Some(refuse(link)));
     };
     let (accepting, admitted) = prepare_link(rt, alloc, lock, book, plan, link, ready, accepting);
-    let Some(admitted) = admitted else {
-        return (accepting, false);
-    };
-    let accepting = start_link(
-        scope, rt, alloc, lock, book, ended, plan, admitted, accepting,
-    );
-    (accepting, true)
+    match admitted {
+        Ok(admitted) => {
+            let accepting = start_link(
+                scope, rt, alloc, lock, book, ended, plan, admitted, accepting,
+            );
+            (accepting, None)
+        }
+        Err(lost) => (accepting, Some(lost)),
+    }
 }

@@ -33,10 +33,10 @@ fn settle_at<R: Threads, I: Source + Drop, O: Sink + Drop, T: Clock + Drop, H: W
 )
     requires root { IsRootOf lock.now root.old }
     requires there { place < vec_len all.old }
-    requires links { EachAt (IsBegun (TalksOver I.half O.half T.given H.calls H.seen H.state H.may H.moves book.now) (IsMadeFor I.half O.half T.given H.seen H.state H.moves plan.now) H.calls lock.now book.now (view_of root.old.pass)) 1 all.old.items }
-    ensures root { IsRootOf lock.now root.new × (root.new.out + open_all all.old.items ≡ root.old.out + open_all all.new.items) × (root.new.made ≡ root.old.made) × (root.new.pass.room ≡ root.old.pass.room) }
+    requires links { EachAt (IsBegun (TalksOver I.half O.half T.given H.shown H.may H.moves book.now) (IsMadeFor I.half O.half T.given H.shown H.moves plan.now) H.shown lock.now book.now (view_of root.old.pass)) 1 all.old.items }
+    ensures root { IsRootOf lock.now root.new × (root.new.out + open_all all.old.items ≡ root.old.out + open_all all.new.items) × (root.new.made ≡ root.old.made) }
     ensures grown { Grows (view_of root.old.pass) (view_of root.new.pass) }
-    ensures links { EachAt (IsBegun (TalksOver I.half O.half T.given H.calls H.seen H.state H.may H.moves book.now) (IsMadeFor I.half O.half T.given H.seen H.state H.moves plan.now) H.calls lock.now book.now (view_of root.new.pass)) 1 all.new.items }
+    ensures links { EachAt (IsBegun (TalksOver I.half O.half T.given H.shown H.may H.moves book.now) (IsMadeFor I.half O.half T.given H.shown H.moves plan.now) H.shown lock.now book.now (view_of root.new.pass)) 1 all.new.items }
     ensures tasks { map (λ s. task_of s) all.new.items ≡ map (λ s. task_of s) all.old.items }
     ensures count { vec_len all.new ≡ vec_len all.old }
 {
@@ -53,9 +53,8 @@ fn join_one<R: Threads, I: Source + Drop, O: Sink + Drop, T: Clock + Drop, H: Wo
     by: u32,
     accepting: Accepting<I, O, T, H>,
 ) -> Accepting<I, O, T, H>
-    requires accepting { IsAccepting (TalksOver I.half O.half T.given H.calls H.seen H.state H.may H.moves book.now) (IsMadeFor I.half O.half T.given H.seen H.state H.moves plan.now) H.calls lock.now book.now accepting }
-    ensures accepting { IsAccepting (TalksOver I.half O.half T.given H.calls H.seen H.state H.may H.moves book.now) (IsMadeFor I.half O.half T.given H.seen H.state H.moves plan.now) H.calls lock.now book.now result }
-    ensures turns { result.root.pass.room ≡ accepting.root.pass.room }
+    requires accepting { IsAccepting (TalksOver I.half O.half T.given H.shown H.may H.moves book.now) (IsMadeFor I.half O.half T.given H.shown H.moves plan.now) H.shown lock.now book.now accepting }
+    ensures accepting { IsAccepting (TalksOver I.half O.half T.given H.shown H.may H.moves book.now) (IsMadeFor I.half O.half T.given H.shown H.moves plan.now) H.shown lock.now book.now result }
     ensures ticks { result.ticks ≡ accepting.ticks }
     ensures links { shown_all I.half O.half T.given result.started.items ≡ shown_all I.half O.half T.given accepting.started.items }
     ensures count { vec_len result.started ≡ vec_len accepting.started }
@@ -94,9 +93,8 @@ pub fn join_ended<
     plan: &ServePlan,
     accepting: Accepting<I, O, T, H>,
 ) -> Accepting<I, O, T, H>
-    requires accepting { IsAccepting (TalksOver I.half O.half T.given H.calls H.seen H.state H.may H.moves book.now) (IsMadeFor I.half O.half T.given H.seen H.state H.moves plan.now) H.calls lock.now book.now accepting }
-    ensures accepting { IsAccepting (TalksOver I.half O.half T.given H.calls H.seen H.state H.may H.moves book.now) (IsMadeFor I.half O.half T.given H.seen H.state H.moves plan.now) H.calls lock.now book.now result }
-    ensures turns { result.root.pass.room ≡ accepting.root.pass.room }
+    requires accepting { IsAccepting (TalksOver I.half O.half T.given H.shown H.may H.moves book.now) (IsMadeFor I.half O.half T.given H.shown H.moves plan.now) H.shown lock.now book.now accepting }
+    ensures accepting { IsAccepting (TalksOver I.half O.half T.given H.shown H.may H.moves book.now) (IsMadeFor I.half O.half T.given H.shown H.moves plan.now) H.shown lock.now book.now result }
     ensures ticks { result.ticks ≡ accepting.ticks }
     ensures links { shown_all I.half O.half T.given result.started.items ≡ shown_all I.half O.half T.given accepting.started.items }
     ensures count { vec_len result.started ≡ vec_len accepting.started }

@@ -12,6 +12,7 @@ pub mod plan;
 pub mod server;
 
 pub use accept_loop::Stop;
+pub use admission::LostLink;
 pub use link_task::{AdmittedLink, LinkDone, LinkReport, LinkTask, TaskPromise};
 pub use plan::ServePlan;
 pub use server::{AllJoined, LinkReports, Report, serve};

@@ -70,7 +70,7 @@ pub struct TaskPromise<I, O, T, H> {
 
 impl<I: Source, O: Sink, T: Clock, H: Worker> Promise<LinkDone<I, O, T, H>>
     for TaskPromise<I, O, T, H> {
-    ghost kept_by = { λ p r. Serves (TalksOver I.half O.half T.given H.calls H.seen H.state H.may H.moves p.book.value) p.lock.value p.task.value r };
+    ghost kept_by = { λ p r. Serves (TalksOver I.half O.half T.given H.shown H.may H.moves p.book.value) p.lock.value p.task.value r };
 }
 
 /// Serves a link to its connection's end, and shuts both its halves.
@@ -81,8 +81,8 @@ pub fn serve_task<R: Wait, I: Source, O: Sink, T: Clock, H: Worker>(
     book: &Book,
     task: LinkTask<I, O, T, H>,
 ) -> LinkDone<I, O, T, H>
-    requires { IsLinkTask H.calls lock.now task }
-    ensures { Serves (TalksOver I.half O.half T.given H.calls H.seen H.state H.may H.moves book.now) lock.now task result }
+    requires { IsLinkTask H.shown lock.now task }
+    ensures { Serves (TalksOver I.half O.half T.given H.shown H.may H.moves book.now) lock.now task result }
 {
     let LinkTask {
         by,

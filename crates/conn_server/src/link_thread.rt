@@ -47,8 +47,8 @@ fn serve_noted<R: Wait, I: Source, O: Sink, T: Clock, H: Worker>(
     ended: &EndedLinks,
     task: LinkTask<I, O, T, H>,
 ) -> LinkDone<I, O, T, H>
-    requires { IsLinkTask H.calls lock.now task }
-    ensures { Serves (TalksOver I.half O.half T.given H.calls H.seen H.state H.may H.moves book.now) lock.now task result }
+    requires { IsLinkTask H.shown lock.now task }
+    ensures { Serves (TalksOver I.half O.half T.given H.shown H.may H.moves book.now) lock.now task result }
 {
     let by = task.by;
     let done = serve_task(rt, alloc, lock, book, task);
@@ -74,8 +74,8 @@ pub fn start<
     ended: &'s EndedLinks,
     task: LinkTask<I, O, T, H>,
 ) -> StartedLink<I, O, T, H>
-    requires { IsLinkTask H.calls lock.now task }
-    ensures begun { (v : View) → IsUnder (TalksOver I.half O.half T.given H.calls H.seen H.state H.may H.moves book.now) lock.now book.now v result.task.value result.link_state }
+    requires { IsLinkTask H.shown lock.now task }
+    ensures begun { (v : View) → IsUnder (TalksOver I.half O.half T.given H.shown H.may H.moves book.now) lock.now book.now v result.task.value result.link_state }
     ensures out { open_in result.link_state ≡ 1 }
     ensures task { result.task.value ≡ task }
 {
@@ -88,8 +88,8 @@ pub fn start<
     let spawned = scope.spawn_with(
         kept,
         move || -> LinkDone<I, O, T, H>
-            requires { IsLinkTask H.calls lock.now task }
-            ensures { Serves (TalksOver I.half O.half T.given H.calls H.seen H.state H.may H.moves book.entry.now) lock.entry.now task result }
+            requires { IsLinkTask H.shown lock.now task }
+            ensures { Serves (TalksOver I.half O.half T.given H.shown H.may H.moves book.entry.now) lock.entry.now task result }
         { serve_noted(rt, alloc, lock, book, ended, task) },
     );
     match spawned {
@@ -113,10 +113,10 @@ fn give_back<I: Source, O: Sink, T: Clock, H: Worker>(
     done: LinkDone<I, O, T, H>,
 ) -> LinkReport<I, O, T, H>
     requires root { IsRootOf lock.now root.old }
-    requires served { Serves (TalksOver I.half O.half T.given H.calls H.seen H.state H.may H.moves book.now) lock.now task.now.value done }
-    ensures root { IsRootOf lock.now root.new × (root.new.out + 1 ≡ root.old.out) × (root.new.made ≡ root.old.made) × (root.new.pass.room ≡ root.old.pass.room) }
+    requires served { Serves (TalksOver I.half O.half T.given H.shown H.may H.moves book.now) lock.now task.now.value done }
+    ensures root { IsRootOf lock.now root.new × (root.new.out + 1 ≡ root.old.out) × (root.new.made ≡ root.old.made) }
     ensures grown { Grows (view_of root.old.pass) (view_of root.new.pass) }
-    ensures ended { IsEndOf (TalksOver I.half O.half T.given H.calls H.seen H.state H.may H.moves book.now) (view_of root.new.pass) task.now.value result }
+    ensures ended { IsEndOf (TalksOver I.half O.half T.given H.shown H.may H.moves book.now) (view_of root.new.pass) task.now.value result }
 {
     let _ = book;
     let _ = task;
@@ -135,10 +135,10 @@ pub fn finish<R: Threads, I: Source, O: Sink, T: Clock, H: Worker>(
     link_state: LinkState<I, O, T, H>,
 ) -> LinkReport<I, O, T, H>
     requires root { IsRootOf lock.now root.old }
-    requires begun { IsUnder (TalksOver I.half O.half T.given H.calls H.seen H.state H.may H.moves book.now) lock.now book.now (view_of root.old.pass) task.now.value link_state }
-    ensures root { IsRootOf lock.now root.new × (root.new.out + open_in link_state ≡ root.old.out) × (root.new.made ≡ root.old.made) × (root.new.pass.room ≡ root.old.pass.room) }
+    requires begun { IsUnder (TalksOver I.half O.half T.given H.shown H.may H.moves book.now) lock.now book.now (view_of root.old.pass) task.now.value link_state }
+    ensures root { IsRootOf lock.now root.new × (root.new.out + open_in link_state ≡ root.old.out) × (root.new.made ≡ root.old.made) }
     ensures grown { Grows (view_of root.old.pass) (view_of root.new.pass) }
-    ensures ended { IsEndOf (TalksOver I.half O.half T.given H.calls H.seen H.state H.may H.moves book.now) (view_of root.new.pass) task.now.value result }
+    ensures ended { IsEndOf (TalksOver I.half O.half T.given H.shown H.may H.moves book.now) (view_of root.new.pass) task.now.value result }
 {
     match link_state {
         LinkState::Running(child) => give_back(lock, book, root, task, child.join(rt)),
@@ -157,10 +157,10 @@ pub fn settle<R: Threads, I: Source + Drop, O: Sink + Drop, T: Clock + Drop, H: 
     started: &mut StartedLink<I, O, T, H>,
 )
     requires root { IsRootOf lock.now root.old }
-    requires begun { IsUnder (TalksOver I.half O.half T.given H.calls H.seen H.state H.may H.moves book.now) lock.now book.now (view_of root.old.pass) started.old.task.value started.old.link_state }
-    ensures root { IsRootOf lock.now root.new × (root.new.out + open_in started.old.link_state ≡ root.old.out) × (root.new.made ≡ root.old.made) × (root.new.pass.room ≡ root.old.pass.room) }
+    requires begun { IsUnder (TalksOver I.half O.half T.given H.shown H.may H.moves book.now) lock.now book.now (view_of root.old.pass) started.old.task.value started.old.link_state }
+    ensures root { IsRootOf lock.now root.new × (root.new.out + open_in started.old.link_state ≡ root.old.out) × (root.new.made ≡ root.old.made) }
     ensures grown { Grows (view_of root.old.pass) (view_of root.new.pass) }
-    ensures begun { IsUnder (TalksOver I.half O.half T.given H.calls H.seen H.state H.may H.moves book.now) lock.now book.now (view_of root.new.pass) started.new.task.value started.new.link_state }
+    ensures begun { IsUnder (TalksOver I.half O.half T.given H.shown H.may H.moves book.now) lock.now book.now (view_of root.new.pass) started.new.task.value started.new.link_state }
     ensures task { started.new.task.value ≡ started.old.task.value }
     ensures out { open_in started.new.link_state ≡ 0 }
 {

@@ -1,5 +1,5 @@
 //! The server.
-ghost use Rattle.std.specs.Prelude.{◌≡◌, ◌≤◌, List, ◌++◌, length};
+ghost use Rattle.std.specs.Prelude.{◌≡◌, ◌≤◌, ◌⊎◌, List, ◌++◌, length};
 ghost use Rattle.mod_utf.specs.Utf.{utf};
 ghost use Rattle.wire_io.specs.Links.{Accepted};
 ghost use Rattle.wire_io.specs.Wire.{Rose};
@@ -8,11 +8,11 @@ ghost use Rattle.space.specs.declared.asked.Asked.{Asked};
 ghost use Rattle.turn_lock.specs.Handles.{IsFresh, opening_of};
 ghost use Rattle.conn_server.specs.Accepts.{links_of, with_all};
 ghost use Rattle.conn_server.specs.Reports.{IsLinkOf, IsAllJoined, ServesLinks};
-ghost use Rattle.conn_server.specs.Stops.{Stopped};
+ghost use Rattle.conn_server.specs.Stops.{Stopped, AreGivenBack, IsLostLink};
 ghost use Rattle.conn_server.specs.declared.plan.TheConstants.{MAX_LINKS};
 
 use crate::accept_loop::{Stop, accept_links, join_links};
-use crate::admission::Accepting;
+use crate::admission::{Accepting, LostLink};
 use crate::ended_links::EndedLinks;
 use crate::link_task::LinkReport;
 use crate::plan::ServePlan;
@@ -36,6 +36,7 @@ pub struct AllJoined<I, O, T, H> {
     pub links: Vec<LinkReport<I, O, T, H>>,
     pub ticks: Vec<Asked>,
     pub stop: Stop,
+    pub lost: Option<LostLink<I, O, T>>,
 }
 
 /// What was served.
@@ -47,6 +48,8 @@ pub struct Report<I, O, T, H> {
     pub ticks: AskedList,
     /// Why no more links were accepted.
     pub stop: Stop,
+    /// The link that was accepted and for which there was no memory, shut, where that is why no more were accepted.
+    pub lost: Option<LostLink<I, O, T>>,
     /// The space that the lock was round.
     pub space: Space,
 }
@@ -72,8 +75,9 @@ where
     requires fresh { IsFresh lock.now root }
     requires few { plan.now.count ≤ MAX_LINKS }
     requires host { length (utf plan.now.host) ≤ MAX_HOST_BYTES }
-    ensures served { (served : List (Accepted × Asked)) × IsAllJoined (IsLinkOf L.In.half L.Out.half L.Ticks.given G.Hand.calls G.Hand.seen G.Hand.state G.Hand.may G.Hand.moves book.now plan.now) lock.now served result
-        × ((lost : List Accepted) × ((L.listening listener.new).accepted ≡ with_all (L.listening listener.old).accepted (links_of served ++ lost)) × Stopped result.stop plan.now.count (length result.links.items) lost) }
+    ensures served { (served : List (Accepted × Asked)) × IsAllJoined (IsLinkOf L.In.half L.Out.half L.Ticks.given G.Hand.shown G.Hand.may G.Hand.moves book.now plan.now) lock.now served result
+        × ((lost : List Accepted) × ((L.listening listener.new).accepted ≡ with_all (L.listening listener.old).accepted (links_of served ++ lost)) × Stopped result.stop plan.now.count (length result.links.items) lost
+        × AreGivenBack (IsLostLink L.In.half L.Out.half L.Ticks.given) lost result.lost) }
     ensures fault { result.stop ≡ Stop.AcceptFault → Rose (L.listening listener.old).faults (L.listening listener.new).faults }
     ensures faults { (L.listening listener.old).faults ≤ (L.listening listener.new).faults }
     ensures ports { (L.listening listener.new).ports ≡ (L.listening listener.old).ports }
@@ -84,7 +88,7 @@ where
         reports: Vec::new(alloc),
         ticks: Vec::new(alloc),
     };
-    let (accepting, stop) = accept_links(
+    let (accepting, stop, lost) = accept_links(
         scope, rt, alloc, lock, book, ended, listener, crew, plan, accepting,
     );
     let (root, links, ticks) = join_links(rt, lock, book, plan, accepting);
@@ -93,6 +97,7 @@ where
         links,
         ticks,
         stop,
+        lost,
     }
 }
 
@@ -103,7 +108,7 @@ where
 /// long as a link is served, whose end gives back a descriptor and memory, and then a few times more.
 ///
 /// The stop is AcceptFault only where the listener's count of faults rose, and OutOfMemory where a hand, a Tick or the room of a report finds no
-/// memory; that link is shut and not reported. No more links are accepted then, and those that were are served to their ends.
+/// memory; that link is shut and given back, and not reported. No more links are accepted then, and those that were are served to their ends.
 ///
 /// Its conditions: at most 65,535 links are to be accepted, the plan's host takes at most 255 bytes as modified UTF, and the root is the lock's,
 /// from which no pass was split and which made no turn.
@@ -122,15 +127,19 @@ pub fn serve<R: Threads + Wait + Sync, L: Listener, G: Crew>(
     requires host { length (utf plan.now.host) ≤ MAX_HOST_BYTES }
 
     // The one history that is left is legal and goes on from the lock's, and the collector kept and withdrew at each of its events as it is to. Each
-    // link that was accepted has its Tick and its report, but the one, if any, for which there was no memory; and there are no turns but these.
+    // link that was accepted has its Tick and its report, but the one, if any, for which there was no memory, which is given back; and there are no
+    // turns but these.
     ensures served { ServesLinks
-        (IsLinkOf L.In.half L.Out.half L.Ticks.given G.Hand.calls G.Hand.seen G.Hand.state G.Hand.may G.Hand.moves book.now plan.now)
+        (IsLinkOf L.In.half L.Out.half L.Ticks.given G.Hand.shown G.Hand.may G.Hand.moves book.now plan.now)
+        (IsLostLink L.In.half L.Out.half L.Ticks.given)
         (opening_of lock) plan.now.count (L.listening listener.old).accepted (L.listening listener.new).accepted result }
 
     // The listener.
     ensures fault { result.stop ≡ Stop.AcceptFault → Rose (L.listening listener.old).faults (L.listening listener.new).faults }
     ensures faults { (L.listening listener.old).faults ≤ (L.listening listener.new).faults }
     ensures ports { (L.listening listener.new).ports ≡ (L.listening listener.old).ports }
+    ensures all { (¬ Rose (L.listening listener.old).faults (L.listening listener.new).faults)
+        → (result.stop ≡ Stop.All) ⊎ (result.stop ≡ Stop.OutOfMemory) }
 {
     let shared = &lock;
     let noted = EndedLinks::new(alloc);
@@ -141,8 +150,9 @@ pub fn serve<R: Threads + Wait + Sync, L: Listener, G: Crew>(
         move |scope| -> (&mut L, AllJoined<L::In, L::Out, L::Ticks, G::Hand>)
             requires { IsFresh shared.now root × (plan.now.count ≤ MAX_LINKS) × (length (utf plan.now.host) ≤ MAX_HOST_BYTES) }
             ensures left { (result.0.ghost_name ≡ listener.entry.ghost_name) }
-            ensures served { (served : List (Accepted × Asked)) × IsAllJoined (IsLinkOf L.In.half L.Out.half L.Ticks.given G.Hand.calls G.Hand.seen G.Hand.state G.Hand.may G.Hand.moves book.entry.now plan.entry.now) shared.entry.now served result.1
-                × ((lost : List Accepted) × ((L.listening result.0.now).accepted ≡ with_all (L.listening listener.entry.now).accepted (links_of served ++ lost)) × Stopped result.1.stop plan.entry.now.count (length result.1.links.items) lost) }
+            ensures served { (served : List (Accepted × Asked)) × IsAllJoined (IsLinkOf L.In.half L.Out.half L.Ticks.given G.Hand.shown G.Hand.may G.Hand.moves book.entry.now plan.entry.now) shared.entry.now served result.1
+                × ((lost : List Accepted) × ((L.listening result.0.now).accepted ≡ with_all (L.listening listener.entry.now).accepted (links_of served ++ lost)) × Stopped result.1.stop plan.entry.now.count (length result.1.links.items) lost
+                × AreGivenBack (IsLostLink L.In.half L.Out.half L.Ticks.given) lost result.1.lost) }
             ensures fault { result.1.stop ≡ Stop.AcceptFault → Rose (L.listening listener.entry.now).faults (L.listening result.0.now).faults }
             ensures faults { (L.listening listener.entry.now).faults ≤ (L.listening result.0.now).faults }
             ensures ports { (L.listening result.0.now).ports ≡ (L.listening listener.entry.now).ports }
@@ -159,11 +169,13 @@ pub fn serve<R: Threads + Wait + Sync, L: Listener, G: Crew>(
         links,
         ticks,
         stop,
+        lost,
     } = outcome;
     Report {
         links: Sequence::from_vec(links),
         ticks: Sequence::from_vec(ticks),
         stop,
+        lost,
         space: lock.close(root),
     }
 }

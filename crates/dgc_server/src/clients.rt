@@ -43,7 +43,7 @@ impl Drop for Chunk {
     }
 }
 
-/// What is kept of clients at a moment, in the order of clients. They stand in chunks of at most 256, so that a new client moves few others, and
+/// The clients of a moment, in their order. They stand in chunks of at most 256, so that a new client moves few others, and
 /// so that a lease that ends is found by a look at each chunk and at the clients of its own chunk. Contracts see a `ClientTable`, which has the one list.
 pub struct Clients {
     chunks: Vec<Chunk>,

@@ -104,7 +104,7 @@ impl ClientEntry {
         self.until
     }
 
-    /// Whether the lease ends after this moment.
+    /// True where the lease ends after this moment.
     pub fn has_time_left(&self, time: u64) -> bool
         ensures { result ≡ has_time_left time self.now }
     {
@@ -118,21 +118,21 @@ impl ClientEntry {
         self.kept.objects.numbers_of(object)
     }
 
-    /// Whether the client names an object: numbers of it are kept.
+    /// True where the client names an object: numbers of it are kept.
     pub fn names(&self, object: &ObjId) -> bool
         ensures { result ≡ has_object self.now.objects object.now }
     {
         self.kept.objects.names(object)
     }
 
-    /// Whether the client holds an object at this moment.
+    /// True where the client holds an object at this moment.
     pub fn holds(&self, object: &ObjId, time: u64) -> bool
         ensures { result ≡ entry_holds time object.now self.now }
     {
         self.has_time_left(time) && self.numbers_of(object).is_dirty_highest()
     }
 
-    /// How many objects make a remembered pair with the client at this moment.
+    /// The number of objects that make a remembered pair with the client at this moment.
     pub fn remembered_count(&self, time: u64) -> usize
         requires { IsTrue (each_has_number self.now.objects) }
         ensures { result ≡ remembered_of time self.now }
@@ -140,7 +140,7 @@ impl ClientEntry {
         marks::remembered_in(&self.kept.objects, time < self.until)
     }
 
-    /// How many of these objects don't make a remembered pair with the client at this moment, each
+    /// The number of these objects that don't make a remembered pair with the client at this moment, each
     /// counted once.
     pub fn fresh_among(&self, alloc: Global, named: &[ObjId], time: u64) -> usize
         ensures { result ≡ fresh_of time self.now named.now }
@@ -215,7 +215,7 @@ impl ClientEntry {
         marks::keep_named(&mut self.kept.objects, counts)
     }
 
-    /// Whether there is something to keep at this moment: time left, or an object.
+    /// True where there is something to keep at this moment: time left, or an object.
     pub fn is_entry_kept(&self, now: u64) -> bool
         ensures { result ≡ is_entry_kept now self.now }
     {

@@ -38,14 +38,14 @@ fn place_of(marks: &[Mark], object: &ObjId) -> usize
     place
 }
 
-/// Whether numbers of an object are kept.
+/// True where numbers of an object are kept.
 pub fn is_there(marks: &[Mark], object: &ObjId) -> bool
     ensures { result ≡ has_object (object_entries marks.now) object.now }
 {
     place_of(marks, object) < marks.len()
 }
 
-/// How many objects make a remembered pair without time left.
+/// The number of objects that make a remembered pair without time left.
 pub fn remembered_for_good(marks: &[Mark]) -> usize
     ensures { result ≡ length (filter (λ m. is_remembered false m.1) marks.now) }
 {
@@ -109,7 +109,7 @@ pub fn keep_named(marks: &mut Vec<Mark>, counts: &Counts)
     );
 }
 
-/// Whether two objects are the same.
+/// True where two objects are the same.
 pub fn equal(a: &ObjId, b: &ObjId) -> bool
     ensures { result ≡ same_id a.now b.now }
 {

@@ -14,7 +14,7 @@ use indexmap::IndexMap;
 use object_ids::ObjId;
 use std::alloc::AllocError;
 
-/// Where a client stands: in the chunk of this number, behind so many others of it. What keeps a place keeps it as a hint where to look first.
+/// The place of a client: in the chunk of this number, behind so many others of it. It is kept as a hint where to look first.
 #[derive(Clone, Copy)]
 pub struct ClientHint {
     /// The number of the chunk, from 0 on.
@@ -40,7 +40,7 @@ impl ClientHint {
 /// The first place of all.
 const FIRST_CLIENT: ClientHint = ClientHint { chunk: 0, index: 0 };
 
-/// What is counted of an object: how many clients hold it, how many name it (some number of it is kept of them), and at which place one
+/// The counts of an object: how many clients hold it, how many name it (some number of it is kept of them), and at which place one
 /// that names it stood when a call of it was noted last.
 #[derive(Clone, Copy)]
 pub struct Count {
@@ -49,21 +49,21 @@ pub struct Count {
     pub hint: ClientHint,
 }
 
-/// What a client counts for: whether it holds an object, and whether it names it.
+/// The part of a client in an object's counts: whether it holds the object, and whether it names it.
 #[derive(Clone, Copy)]
 pub struct Share {
     pub holds: bool,
     pub names: bool,
 }
 
-/// What time leaves as it passes: a moment before which no lease ends, and the sums since.
+/// The outcome of time's passing: a moment before which no lease ends, and the sums since.
 #[derive(Clone, Copy)]
 pub struct Passed {
     pub next: u64,
     pub sums: Sums,
 }
 
-/// What is counted of each object.
+/// The counts of each object.
 pub type Counts = IndexMap<ObjId, Count>;
 
 /// What is counted of an object that no client names.
@@ -77,7 +77,7 @@ fn no_count() -> Count
     }
 }
 
-/// What is counted of an object.
+/// The counts of an object.
 pub fn count_of(counts: &Counts, object: &ObjId) -> Count
     ensures { result ≡ count_at counts.now object.now }
 {
@@ -275,7 +275,7 @@ pub fn end_tenure(
     table::sums_with(sums, before, table::sums_of(entry, to))
 }
 
-/// What went as objects were forgotten: so many pairs of a client and an object, and, where there were some, at which place
+/// The pairs that went as objects were forgotten: so many of a client and an object, and, where there were some, at which place
 /// one that names such an object stood, as its count noted. The place is a hint.
 #[derive(Clone, Copy)]
 pub struct Gone {
@@ -313,7 +313,7 @@ fn take_out(counts: &mut Counts, object: &ObjId) -> Count
     count
 }
 
-/// Whether some client names an object.
+/// True where some client names an object.
 pub fn is_named(counts: &Counts, object: &ObjId) -> bool
     ensures { result ≡ is_named counts.now object.now }
 {

@@ -24,7 +24,7 @@ use std::marker::Model;
 /// The most objects that are dropped one by one. More are dropped together.
 const MAX_DROPPED_ONE_BY_ONE: usize = 4;
 
-/// Why a lease call is refused.
+/// The reason why a lease call is refused.
 #[derive(Clone, Copy, Debug, PartialEq, Eq)]
 pub enum LeaseFault {
     /// As many clients as can be have time left, and this one is not among them.
@@ -191,7 +191,7 @@ impl Leases {
         self.note(client, &number, objects, clean_kind(strong), granted, time)
     }
 
-    /// Whether some client holds an object at this moment. A moment before the greatest one is read as the
+    /// True where some client holds an object at this moment. A moment before the greatest one is read as the
     /// greatest.
     pub fn is_held(&self, object: ObjId, now: u64) -> bool
         ensures { ForEachLog self.now (λ lease moment calls. result ≡ is_held lease (max now moment) calls object) }
@@ -215,7 +215,7 @@ impl Leases {
         lease_ends::freed_objects(alloc, &self.clients, self.time(now))
     }
 
-    /// Whether a lease may end as time passes to `now`. Where none may, each object that a client holds at the greatest moment so far is held then, too.
+    /// True where a lease may end as time passes to `now`. Where none may, each object that a client holds at the greatest moment so far is held then, too.
     /// It looks at no client and takes no memory.
     pub fn is_due(&self, now: u64) -> bool
         ensures { result ≡ false → ForEachLog self.now (λ lease moment calls. (o : ObjId) → is_held lease moment calls o ≡ true
@@ -228,7 +228,7 @@ impl Leases {
         true
     }
 
-    /// How many clients hold an object at this moment. A moment before the greatest one is read as the
+    /// The number of clients that hold an object at this moment. A moment before the greatest one is read as the
     /// greatest. Where no lease ends by then it looks at no client.
     pub fn holders(&self, object: ObjId, now: u64) -> u32
         ensures { ForEachLog self.now (λ lease moment calls.
@@ -270,7 +270,7 @@ impl Leases {
         }
     }
 
-    /// How many pairs of a client and an object are remembered at this moment: those of clients with time
+    /// The number of pairs of a client and an object that are remembered at this moment: those of clients with time
     /// left, and those of strong cleans. A moment before the greatest one is read as the greatest.
     pub fn pairs(&self, now: u64) -> u32
         ensures { ForEachLog self.now (λ lease moment calls.

@@ -36,14 +36,14 @@ fn numbers_or_none(found: Option<&Packed>) -> Numbers
     }
 }
 
-/// Whether numbers of an object are kept.
+/// True where numbers of an object are kept.
 pub fn is_there(marks: &MarkMap, object: &ObjId) -> bool
     ensures { result ≡ has_object (object_entries marks.now.entries) object.now }
 {
     marks.contains_key(object)
 }
 
-/// How many objects make a remembered pair without time left.
+/// The number of objects that make a remembered pair without time left.
 pub fn remembered_for_good(marks: &MarkMap) -> usize
     ensures { result ≡ length (filter (is_remembered false) (values marks.now)) }
 {

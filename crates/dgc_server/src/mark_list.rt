@@ -68,7 +68,7 @@ impl Marks {
         }
     }
 
-    /// How many objects there are.
+    /// The number of objects.
     pub fn len(&self) -> usize
         ensures { result ≡ length self.now.entries }
     {
@@ -78,7 +78,7 @@ impl Marks {
         }
     }
 
-    /// Whether there are no objects.
+    /// True where there are no objects.
     pub fn is_empty(&self) -> bool
         ensures { result ≡ is_empty (object_entries self.now.entries) }
     {
@@ -95,7 +95,7 @@ impl Marks {
         }
     }
 
-    /// Whether numbers of an object are kept.
+    /// True where numbers of an object are kept.
     pub fn names(&self, object: &ObjId) -> bool
         ensures { result ≡ has_object (object_entries self.now.entries) object.now }
     {
@@ -105,7 +105,7 @@ impl Marks {
         }
     }
 
-    /// How many objects make a remembered pair without time left.
+    /// The number of objects that make a remembered pair without time left.
     pub fn remembered_for_good(&self) -> usize
         ensures { result ≡ length (filter (λ x. is_remembered false x.numbers) (object_entries self.now.entries)) }
     {

@@ -20,7 +20,7 @@ use std::alloc::{AllocError, Global};
 /// The most objects that are counted without memory.
 const MAX_COUNTED_WITHOUT_MEMORY: usize = 16;
 
-/// How many objects make a remembered pair, where the client has time left or has not: if it has, all.
+/// The number of objects that make a remembered pair, where the client has time left or has not: if it has, all.
 pub fn remembered_in(objects: &Marks, left: bool) -> usize
     requires { IsTrue (each_has_number (object_entries objects.now.entries)) }
     ensures { result ≡ length (filter (λ x. is_remembered left x.numbers) (object_entries objects.now.entries)) }
@@ -32,7 +32,7 @@ pub fn remembered_in(objects: &Marks, left: bool) -> usize
     }
 }
 
-/// How many of the named objects make no remembered pair, each counted once. Many are counted with memory, and where there is
+/// The number of named objects that make no remembered pair, each counted once. Many are counted with memory, and where there is
 /// none, one by one.
 pub fn fresh_count(alloc: Global, objects: &Marks, named: &[ObjId], left: bool) -> usize
     ensures { result ≡ fresh_in left (object_entries objects.now.entries) named.now }
@@ -194,7 +194,7 @@ pub fn note(
     }
 }
 
-/// Whether a call of this kind counts, where its client has time left or has not: a weak clean without
+/// True where a call of this kind counts, where its client has time left or has not: a weak clean without
 /// time left is forgotten.
 pub fn counts_for(kind: CallKind, left: bool) -> bool
     ensures { result ≡ call_counts kind left }

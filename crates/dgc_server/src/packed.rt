@@ -83,21 +83,21 @@ impl Packed {
         is_left
     }
 
-    /// Whether the highest call is a dirty: of equal numbers a clean is above a dirty.
+    /// True where the highest call is a dirty: of equal numbers a clean is above a dirty.
     pub fn is_dirty_highest(&self) -> bool
         ensures { result ≡ is_dirty_highest self.now }
     {
         self.numbers().is_dirty_highest()
     }
 
-    /// Whether a strong clean's number is kept, which is for good.
+    /// True where a strong clean's number is kept, which is for good.
     pub fn is_for_good(&self) -> bool
         ensures { result ≡ is_some self.now.strong }
     {
         self.numbers().strong.is_some()
     }
 
-    /// Whether the pair of client and object is remembered, where the client has time left or has not.
+    /// True where the pair of client and object is remembered, where the client has time left or has not.
     pub fn is_remembered(&self, has_time_left: bool) -> bool
         ensures { result ≡ is_remembered has_time_left self.now }
     {

@@ -17,7 +17,7 @@ use history::{CallKind, LeaseList};
 use object_ids::{ObjId, Vmid};
 use std::alloc::{AllocError, Global};
 
-/// How many clients something is kept of.
+/// The number of clients of which something is kept.
 pub fn len(clients: &Clients) -> u128
     ensures { result ≡ length clients.now.entries }
 {
@@ -29,7 +29,7 @@ pub fn len(clients: &Clients) -> u128
     sum
 }
 
-/// Whether some client holds an object.
+/// True where some client holds an object.
 pub fn is_held(clients: &Clients, object: &ObjId, time: u64) -> bool
     ensures { result ≡ list_any (entry_holds time object.now) clients.now.entries }
 {
@@ -42,7 +42,7 @@ pub fn is_held(clients: &Clients, object: &ObjId, time: u64) -> bool
     false
 }
 
-/// How many clients hold an object.
+/// The number of clients that hold an object.
 pub fn holders(clients: &Clients, object: &ObjId, time: u64) -> u128
     ensures { result ≡ length (filter (entry_holds time object.now) clients.now.entries) }
 {
@@ -131,7 +131,7 @@ fn clients_after(clients: &Clients, client: &Vmid, time: u64, leased: usize) -> 
     }
 }
 
-/// Whether more clients have time left after a dirty of this one than can be, where so many have now. It looks for the client only where as
+/// True where more clients have time left after a dirty of this one than can be, where so many have now. It looks for the client only where as
 /// many have as can be.
 pub fn is_past_clients(clients: &Clients, client: &Vmid, time: u64, leased: usize) -> bool
     requires ordered { IsTrue (is_in_order clients.now.entries) }
@@ -183,7 +183,7 @@ fn pairs_after(
     remembered + fresh_pairs(alloc, clients, client, kind, named, time) as u128
 }
 
-/// Whether more pairs are remembered after a call of this kind than can be, where so many are now. It looks for the client only where there would
+/// True where more pairs are remembered after a call of this kind than can be, where so many are now. It looks for the client only where there would
 /// be more if it named none of these objects before.
 pub fn is_past_pairs(
     alloc: Global,

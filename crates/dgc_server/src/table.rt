@@ -16,14 +16,14 @@ use object_ids::{ObjId, Vmid};
 use std::alloc::{AllocError, Global};
 use std::cmp::Ordering;
 
-/// How many clients have time left, and how many pairs are remembered.
+/// The number of clients with time left, and that of remembered pairs.
 #[derive(Clone, Copy)]
 pub struct Sums {
     pub leased: usize,
     pub pairs: u128,
 }
 
-/// What a noted call changed: what the client's entry added to the sums before and adds since, and when its lease ends since.
+/// The change that a noted call made: what the client's entry added to the sums before and adds since, and when its lease ends since.
 #[derive(Clone, Copy)]
 pub struct Noted {
     pub before: Sums,
@@ -266,14 +266,14 @@ pub fn keep(entries: &mut Vec<ClientEntry>, now: u64)
     entries.retain(|entry| entry.is_entry_kept(now));
 }
 
-/// Whether some client holds an object.
+/// True where some client holds an object.
 pub fn is_held(entries: &[ClientEntry], object: &ObjId, time: u64) -> bool
     ensures { result ≡ list_any (entry_holds time object.now) entries.now }
 {
     entries.iter().any(|entry| entry.holds(object, time))
 }
 
-/// How many clients hold an object.
+/// The number of clients that hold an object.
 pub fn holders(entries: &[ClientEntry], object: &ObjId, time: u64) -> usize
     ensures { result ≡ length (filter (entry_holds time object.now) entries.now) }
 {
@@ -283,7 +283,7 @@ pub fn holders(entries: &[ClientEntry], object: &ObjId, time: u64) -> usize
         .count()
 }
 
-/// How many clients have time left.
+/// The number of clients with time left.
 pub fn with_time_left(entries: &[ClientEntry], time: u64) -> usize
     ensures value { result ≡ length (filter (has_time_left time) entries.now) }
     ensures within { result ≤ length entries.now }
@@ -294,7 +294,7 @@ pub fn with_time_left(entries: &[ClientEntry], time: u64) -> usize
         .count()
 }
 
-/// What a client's entry adds to the sums.
+/// The sums over one client's entry.
 pub fn sums_of(entry: &ClientEntry, time: u64) -> Sums
     requires { IsTrue (each_has_number entry.now.objects) }
     ensures value { result ≡ entry_sums time entry.now }
@@ -322,7 +322,7 @@ pub fn sums_with(sums: Sums, before: Sums, after: Sums) -> Sums
     }
 }
 
-/// How many pairs of a client and an object are remembered.
+/// The number of remembered pairs of a client and an object.
 pub fn remembered_pairs(entries: &[ClientEntry], time: u64) -> u128
     requires { IsTrue (list_all (λ e. each_has_number e.objects) entries.now) }
     ensures value { result ≡ remembered_count time entries.now }

@@ -40,7 +40,7 @@ ends_in config h events h2 batch rest r c (inr s) =
       rest = s.rest ++ rest;
       events_are = c.events_are ∙ ap (λ b. c.done ++ (b ++ rest)) s.events_are ∙ ap (λ b. c.done ++ b) (append_assoc s.front (s.event ∷ s.rest) rest) ∙ sym (append_assoc c.done s.front (s.event ∷ s.rest ++ rest));
       legal = subst (IsLegal config) there s.legal;
-      cause = subst (λ xs. refusal limits config (places config xs) s.event ≡ Some r) there s.cause;
+      cause = subst (λ xs. refusal (limits config) config (places config xs) s.event ≡ Some r) there s.cause;
     })
 
 -- Where no round is left, all were taken.

@@ -20,7 +20,7 @@ uid_at time = record { unique = pos 0; time = time; count = pos 0 }
 
 -- leases of ten minutes, and five minutes for an acknowledgement
 abbrev pub drill_config : SpaceConfig
-drill_config = record { lease_ms = 600000; ack_ms = 300000; uid = uid_at (pos 0) }
+drill_config = record { lease_ms = 600000; ack_ms = 300000; uid = uid_at (pos 0); stored = true }
 
 abbrev pub object_at : ℕ → ObjId
 object_at number = record { number = pos number; space = uid_at (pos 0) }

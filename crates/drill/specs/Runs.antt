@@ -15,7 +15,7 @@ pub record StopsIn (config : SpaceConfig) (h events : List Event) (refused : Ref
   pub rest : List Event
   pub events_are : events ≡ front ++ event ∷ rest
   pub legal : IsLegal config (h ++ front)
-  pub cause : refusal limits config (places config (h ++ front)) event ≡ Some refused
+  pub cause : refusal (limits config) config (places config (h ++ front)) event ≡ Some refused
 
 -- Why these events are not all taken after the history h: there was no memory, or a cause to refuse one of them.
 abbrev pub EndsIn : SpaceConfig → List Event → List Event → Refused → Type 0

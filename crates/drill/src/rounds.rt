@@ -31,6 +31,7 @@ pub fn drill_config() -> SpaceConfig
         lease_ms: 600000,
         ack_ms: 300000,
         uid: uid_at(0),
+        stored: true,
     }
 }
 

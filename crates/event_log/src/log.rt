@@ -1,5 +1,5 @@
 //! A list of events in few bytes.
-ghost use Rattle.std.specs.Prelude.{◌≡◌, ◌⊎◌, ◌≤◌, ◌<◌, ◌+◌, ◌++◌, ◌∷◌, [], ◌↔◌, true, length, slice_get, Some, IsTrue, IfOk, OnOk, OnErr};
+ghost use Rattle.std.specs.Prelude.{◌≡◌, ◌⊎◌, ◌≤◌, ◌<◌, ◌+◌, ◌^◌, ◌++◌, ◌∷◌, [], ◌↔◌, true, length, slice_get, Some, IsTrue, IfOk, OnOk, OnErr};
 ghost use Rattle.event_log.specs.Rows.{IsPlain};
 ghost use Rattle.event_log.specs.Views.{event_viewed};
 
@@ -15,8 +15,8 @@ use std::marker::Model;
 /// The events of a space, oldest first. A plain event takes a row of 48 bytes: an Open, a Begin, an Abandon, an Ack, a List, a Tick, or a Finish
 /// of one of the space's own objects that makes and lists nothing. So does a Dirty or a Clean of none or one of its own objects, and a Lookup; the
 /// client or the name is kept beside, mostly once for all its calls. Each other event takes a box beside its row. Contracts see a log as an
-/// `EventRecord`: its space, the list of its events, how many of them it has room for, and whether it has a box and room for a client and a name
-/// to spare.
+/// `EventRecord`: its space, the list of its events, how many of them it has room for, whether it has a box and room for a client and a name
+/// to spare, and that it is stored.
 #[derive(Drop)]
 pub struct EventLog {
     alloc: Global,
@@ -40,6 +40,7 @@ impl Model for EventLog {
       items = map (event_of l.space l.clients.list.items l.names.list.items) l.rows.items;
       capacity = vec_capacity l.rows;
       spare = is_some l.spare;
+      stored = true;
     } };
 
     ghost invariant = { λ l. AllByRecursion (IsKnown (length l.clients.list.items) (length l.names.list.items)) l.rows.items
@@ -70,6 +71,7 @@ impl EventLog {
     pub fn new(alloc: Global, space: Uid) -> EventLog
         ensures space { result.space ≡ space }
         ensures items { result.items ≡ [] }
+        ensures stored { result.stored ≡ true }
     {
         EventLog {
             alloc,
@@ -117,6 +119,8 @@ impl EventLog {
         ensures spare { OnOk result (self.new.spare ≡ true) }
         ensures grow { self.old.capacity ≤ self.new.capacity }
         ensures kept { self.old.spare ≡ true → self.new.spare ≡ true }
+        ensures stored { self.new.stored ≡ self.old.stored }
+        ensures refused { OnErr result ((self.old.stored ≡ true) ⊎ (2 ^ 64 ≤ length self.old.items + more)) }
     {
         self.rows.reserve(more)?;
         self.clients.reserve(self.alloc)?;
@@ -135,6 +139,7 @@ impl EventLog {
         ensures items { self.new.items ≡ self.old.items ++ event ∷ [] }
         ensures capacity { self.old.capacity ≤ self.new.capacity }
         ensures kept { IsPlain self.old.space event.ask → self.new.spare ≡ self.old.spare }
+        ensures stored { self.new.stored ≡ self.old.stored }
     {
         if is_plain(&self.space, &event.ask) {
             let row = plain_row(&self.space, event);

@@ -106,6 +106,8 @@ pub struct LedgerCrew<'t, R: Wait + Sync> {
 pub struct LedgerHand<'t, R: Wait + Sync> {
     rt: &'t R,
     ledger: Arc<Mutex<Ledger>>,
+    /// The number of its connection.
+    pub by: u32,
     /// How many calls it was given.
     pub calls: u64,
 }
@@ -124,23 +126,20 @@ impl<'t, R: Wait + Sync> LedgerCrew<'t, R> {
 impl<'t, R: Wait + Sync> Crew for LedgerCrew<'t, R> {
     type Hand = LedgerHand<'t, R>;
 
-    fn hand(&self, _by: u32) -> Result<LedgerHand<'t, R>, AllocError> {
+    fn hand(&self, by: u32) -> Result<LedgerHand<'t, R>, AllocError> {
         Ok(LedgerHand {
             rt: self.rt,
             ledger: Arc::try_clone(&self.ledger)?,
+            by,
             calls: 0,
         })
     }
 }
 
-/// What a hand tells of itself: how many calls it was given, and which outcomes each may have. Other hands change the total too, so it tells
-/// neither that nor its calls one by one.
+/// What a hand tells of itself: its connection's number, how many calls it was given, and which outcomes each may have. Other hands change the total
+/// too, so it tells neither that nor its calls one by one.
 impl<'t, R: Wait + Sync> Worker for LedgerHand<'t, R> {
-    ghost calls = { λ hand. hand.calls };
-
-    ghost seen = { λ hand. None };
-
-    ghost state = { λ hand. None };
+    ghost shown = { λ hand. record { calls = hand.calls; seen = None; state = None; number = hand.by } };
 
     ghost may = { May };
 

@@ -19,7 +19,7 @@ use conn_server::{LinkReport, Report, ServePlan, serve};
 use history::{Ask, Name, SpaceConfig};
 use mod_utf::utf::units_of_ascii;
 use object_ids::{ObjId, Uid};
-use space::{Space, outline};
+use space::{Space, outline, standing};
 use std::alloc::Global;
 use std::io;
 use std::io::Write;
@@ -40,6 +40,7 @@ const CONFIG: SpaceConfig = SpaceConfig {
     lease_ms: 600_000,
     ack_ms: 300_000,
     uid: SPACE,
+    stored: true,
 };
 
 /// The space's first object.
@@ -168,7 +169,12 @@ fn show<'t, R: Wait + Sync>(
     for link in report.links.as_slice() {
         show_link(out, link)?;
     }
-    out.write_all(outline(alloc, &report.space)?.as_slice())
+    let text = if report.space.is_stored() {
+        outline(alloc, &report.space)?
+    } else {
+        standing(alloc, &report.space)?
+    };
+    out.write_all(text.as_slice())
 }
 
 fn main(rt: HostRuntime) -> io::Result<()> {

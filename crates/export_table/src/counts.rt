@@ -11,10 +11,10 @@ ghost use Rattle.export_table.specs.WaitIndex.{count_at, has_reference, is_refer
 use indexmap::{IndexMap, IndexSet};
 use object_ids::{ObjId, Uid};
 
-/// How many references to each object are listed.
+/// The number of listed references to each object.
 pub type Counts = IndexMap<ObjId, u32>;
 
-/// Which references are listed.
+/// The listed references.
 pub type References = IndexSet<Reference>;
 
 /// A reference to an object in a return.
@@ -26,7 +26,7 @@ pub struct Reference {
     pub uid: Uid,
 }
 
-/// How many references to an object are listed, by the counts.
+/// The number of listed references to an object, by the counts.
 pub fn count_of(counts: &Counts, object: &ObjId) -> u32
     ensures { result ≡ count_at counts.now object.now }
 {
@@ -80,7 +80,7 @@ fn forget(counts: &mut Counts, object: &ObjId)
     counts.swap_remove(object);
 }
 
-/// Whether a reference is listed.
+/// True where a reference is listed.
 pub fn has(references: &References, object: &ObjId, uid: &Uid) -> bool
     ensures { result ≡ has_reference references.now object.now uid.now }
 {

@@ -21,7 +21,7 @@ use std::alloc::{AllocError, Global};
 use std::fmt;
 use std::marker::Model;
 
-/// Why an entry is refused.
+/// The reason why an entry is refused.
 #[derive(Clone, Copy, Debug, PartialEq, Eq)]
 pub enum ExportFault {
     /// As many entries as can be are there.
@@ -151,21 +151,21 @@ impl Exports {
         self.waits.reserve(waits as usize)
     }
 
-    /// How many references await their acknowledgement at this moment.
+    /// The number of references that await their acknowledgement at this moment.
     pub fn waiting_count(&self, now: u64) -> u32
         ensures { result ≡ length (still_waiting now self.now.waits) }
     {
         self.waits.count(now) as u32
     }
 
-    /// Whether a reference to this object, in this return, awaits its acknowledgement at this moment.
+    /// True where a reference to this object, in this return, awaits its acknowledgement at this moment.
     pub fn is_waiting(&self, id: ObjId, uid: Uid, now: u64) -> bool
         ensures { result ≡ is_waiting now id uid self.now.waits }
     {
         self.waits.is_waiting(&id, &uid, now)
     }
 
-    /// Whether the wait of some reference has ended at this moment.
+    /// True where the wait of some reference has ended at this moment.
     pub fn has_ended(&self, now: u64) -> bool
         ensures { result ≡ list_any (λ w. not (goes_on now w)) self.now.waits }
     {
@@ -186,7 +186,7 @@ impl Exports {
         self.waits.of_return(alloc, &uid)
     }
 
-    /// How many objects are exported.
+    /// The number of exported objects.
     pub fn count(&self) -> u32
         ensures value { result ≡ length self.now.rows }
         ensures sound { IsSound self.now.space self.now.ack self.now.added self.now.rows self.now.waits }

@@ -38,7 +38,7 @@ pub fn exports_are_added()
     ensures count { ExportsAreCounted }
 {}
 
-/// What `withdraw` keeps is what the collector keeps: at the present moment a row is kept, by its pins and calls, by the waits and by the clients
+/// Rows that `withdraw` keeps are those that the collector keeps: at the present moment a row is kept, by its pins and calls, by the waits and by the clients
 /// that hold its object, exactly where the history keeps the object.
 pub fn rows_are_kept()
     ensures { RowsAreKept }

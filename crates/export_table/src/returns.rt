@@ -9,10 +9,10 @@ ghost use Rattle.export_table.specs.WaitIndex.{returned_at};
 use indexmap::IndexMap;
 use object_ids::Uid;
 
-/// How many references of each return are listed.
+/// The number of listed references of each return.
 pub type Returns = IndexMap<Uid, u32>;
 
-/// How many references of a return are listed, by the counts.
+/// The number of listed references of a return, by the counts.
 pub fn count_of(returns: &Returns, uid: &Uid) -> u32
     ensures { result ≡ returned_at returns.now uid.now }
 {

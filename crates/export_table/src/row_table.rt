@@ -57,14 +57,14 @@ impl RowTable {
         }
     }
 
-    /// How many objects are exported.
+    /// The number of exported objects.
     pub fn count(&self) -> usize
         ensures { result ≡ length self.now.rows }
     {
         self.slots.len() - self.gaps
     }
 
-    /// How many objects were ever added.
+    /// The number of objects that were ever added.
     pub fn added_count(&self) -> u64
         ensures { result ≡ self.now.added }
     {

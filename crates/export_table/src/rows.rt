@@ -17,11 +17,11 @@ pub struct Export {
     pub id: ObjId,
     /// Its kind, a number of its maker's.
     pub kind: u32,
-    /// Whether it was added pinned.
+    /// True where it was added pinned.
     pub pinned: bool,
-    /// How many calls of it run.
+    /// The number of its calls that run.
     pub running: u32,
-    /// How many pins stand, besides the one that it was added with.
+    /// The number of its pins, besides the one that it was added with.
     pub pins: u32,
 }
 
@@ -32,13 +32,13 @@ pub struct ExportRow {
     pub id: ObjId,
     /// Its kind, a number of its maker's.
     pub kind: u32,
-    /// Whether it was added pinned.
+    /// True where it was added pinned.
     pub pinned: bool,
-    /// How many calls of it run.
+    /// The number of its calls that run.
     pub running: u32,
-    /// How many references to it await their acknowledgement.
+    /// The number of references to it that await their acknowledgement.
     pub awaiting: u32,
-    /// How many pins stand, besides the one that it was added with.
+    /// The number of its pins, besides the one that it was added with.
     pub pins: u32,
 }
 
@@ -59,14 +59,14 @@ impl Export {
         }
     }
 
-    /// Whether it is this object.
+    /// True where it is this object.
     pub fn is_of(&self, id: &ObjId) -> bool
         ensures { result ≡ is_of id.now self.now }
     {
         self.id.is_same(id)
     }
 
-    /// Whether its number is below an object's.
+    /// True where its number is below an object's.
     pub fn is_below(&self, id: &ObjId) -> bool
         ensures { result ≡ int_lt self.now.id.number id.now.number }
     {
@@ -80,7 +80,7 @@ impl Export {
         self.pinned || self.pins > 0 || self.running > 0
     }
 
-    /// Whether it is kept: it is pinned, a reference to it awaits, or a client holds it.
+    /// True where it is kept: it is pinned, a reference to it awaits, or a client holds it.
     pub fn is_row_kept(&self, waits: &WaitList, leases: &Leases, now: u64) -> bool
         ensures { ForEachLog leases.now (λ lease moment calls.
             let held = held_by lease (max now moment) calls in

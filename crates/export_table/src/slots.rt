@@ -12,7 +12,7 @@ use dgc_server::Leases;
 use object_ids::ObjId;
 use std::alloc::{AllocError, Global};
 
-/// How a slot stands.
+/// The standing of a slot.
 #[derive(Clone, Copy)]
 pub enum Standing {
     /// Its object is exported.
@@ -28,7 +28,7 @@ pub enum Standing {
 pub struct Slot {
     /// The row of the object, or of the one that went.
     pub row: Export,
-    /// How it stands.
+    /// Its standing.
     pub standing: Standing,
 }
 
@@ -52,7 +52,7 @@ impl Slot {
         }
     }
 
-    /// Whether its object is exported.
+    /// True where its object is exported.
     pub fn is_here(&self) -> bool
         ensures { result ≡ is_here self.now }
     {
@@ -106,7 +106,7 @@ impl Span {
     }
 }
 
-/// Where an exported object has its slot.
+/// The place of an exported object's slot.
 pub fn place_of(slots: &[Slot], id: &ObjId) -> Option<usize>
     requires { IsTrue (is_rising (ids (all_rows slots.now))) }
     ensures { MatchOption result (is_exported (rows_here slots.now) id.now ≡ false) (IsSlotOf slots.now id.now) }

@@ -87,7 +87,7 @@ impl WaitList {
         Ok(())
     }
 
-    /// How many references await at a moment.
+    /// The number of references that await at a moment.
     pub fn count(&self, time: u64) -> usize
         ensures value { result ≡ length (still_waiting time self.now.waits) }
         ensures within { result ≤ length self.now.waits }
@@ -95,7 +95,7 @@ impl WaitList {
         self.queue.waits().len() - waits::count_over(self.queue.due(time), time)
     }
 
-    /// How many references to an object await at a moment.
+    /// The number of references to an object that await at a moment.
     pub fn count_of(&self, object: &ObjId, time: u64) -> usize
         ensures value { result ≡ length (awaiting_of time object.now self.now.waits) }
         ensures within { result ≤ length self.now.waits }
@@ -104,14 +104,14 @@ impl WaitList {
         count_of(&self.counts, object) as usize - over
     }
 
-    /// Whether some reference to an object awaits at a moment.
+    /// True where some reference to an object awaits at a moment.
     pub fn is_awaited(&self, object: &ObjId, time: u64) -> bool
         ensures { result ≡ is_awaited time object.now self.now.waits }
     {
         self.count_of(object, time) > 0
     }
 
-    /// Whether this reference awaits at a moment.
+    /// True where this reference awaits at a moment.
     pub fn is_waiting(&self, object: &ObjId, uid: &Uid, time: u64) -> bool
         ensures { result ≡ is_waiting time object.now uid.now self.now.waits }
     {
@@ -119,7 +119,7 @@ impl WaitList {
             && !waits::is_over(self.queue.due(time), object, uid, time)
     }
 
-    /// Whether as many references await at a moment as can be, and this one isn't among them.
+    /// True where as many references await at a moment as can be, and this one isn't among them.
     pub fn is_full(&self, object: &ObjId, uid: &Uid, time: u64) -> bool
         ensures { IsTrue result ↔ ((MAX_AWAITING ≤ length (still_waiting time self.now.waits)) × (is_waiting time object.now uid.now self.now.waits ≡ false)) }
     {
@@ -176,7 +176,7 @@ impl WaitList {
         self.queue.forget(now);
     }
 
-    /// Whether some wait has ended at a moment.
+    /// True where some wait has ended at a moment.
     pub fn has_ended(&self, time: u64) -> bool
         ensures { result ≡ list_any (λ w. not (goes_on time w)) self.now.waits }
     {

@@ -23,28 +23,28 @@ pub struct Wait {
 }
 
 impl Wait {
-    /// Whether it is of this object and return.
+    /// True where it is of this object and return.
     pub fn is_of(&self, object: &ObjId, uid: &Uid) -> bool
         ensures { result ≡ is_wait_of object.now uid.now self.now }
     {
         self.is_of_object(object) && self.is_of_return(uid)
     }
 
-    /// Whether it is of this object.
+    /// True where it is of this object.
     pub fn is_of_object(&self, object: &ObjId) -> bool
         ensures { result ≡ same_id self.now.object object.now }
     {
         self.object.is_same(object)
     }
 
-    /// Whether it is of this return.
+    /// True where it is of this return.
     pub fn is_of_return(&self, uid: &Uid) -> bool
         ensures { result ≡ same_uid self.now.uid uid.now }
     {
         self.uid.is_same(uid)
     }
 
-    /// Whether it goes on after a moment.
+    /// True where it goes on after a moment.
     pub fn goes_on(&self, time: u64) -> bool
         ensures { result ≡ goes_on time self.now }
     {
@@ -52,14 +52,14 @@ impl Wait {
     }
 }
 
-/// How many waits have ended at a moment.
+/// The number of waits that have ended at a moment.
 pub fn count_over(waits: &[Wait], time: u64) -> usize
     ensures { result ≡ length (ended_waits time waits.now) }
 {
     waits.iter().filter(|wait| !wait.goes_on(time)).count()
 }
 
-/// How many waits of an object have ended at a moment.
+/// The number of waits of an object that have ended at a moment.
 pub fn count_over_of(waits: &[Wait], object: &ObjId, time: u64) -> usize
     ensures { result ≡ length (filter (λ w. not (goes_on time w) && same_id w.object object.now) waits.now) }
 {
@@ -69,7 +69,7 @@ pub fn count_over_of(waits: &[Wait], object: &ObjId, time: u64) -> usize
         .count()
 }
 
-/// Whether the wait of this reference has ended at a moment.
+/// True where the wait of this reference has ended at a moment.
 pub fn is_over(waits: &[Wait], object: &ObjId, uid: &Uid, time: u64) -> bool
     ensures { result ≡ list_any (λ w. not (goes_on time w) && is_wait_of object.now uid.now w) waits.now }
 {
@@ -100,7 +100,7 @@ pub fn put(waits: &mut Vec<Wait>, wait: Wait)
     waits.push_reserved(wait);
 }
 
-/// Which waits stay.
+/// A choice of the waits that stay.
 #[derive(Clone, Copy)]
 pub enum Stays {
     /// Those that go on after a moment.
@@ -112,7 +112,7 @@ pub enum Stays {
 }
 
 impl Stays {
-    /// Whether a wait stays.
+    /// True where a wait stays.
     pub fn has(&self, wait: &Wait) -> bool
         ensures { result ≡ stays self.now wait.now }
     {
@@ -139,7 +139,7 @@ pub fn objects_that_go(
         .collect(alloc)
 }
 
-/// Whether some wait has ended at a moment.
+/// True where some wait has ended at a moment.
 pub fn has_ended(waits: &[Wait], time: u64) -> bool
     ensures { result ≡ list_any (λ w. not (goes_on time w)) waits.now }
 {
@@ -257,7 +257,7 @@ pub fn drop_front(waits: &mut Vec<Wait>, count: usize)
     waits.truncate(left);
 }
 
-/// How many waits have ended at a moment, where their ends rise. It looks at these, and at one more.
+/// The number of waits that have ended at a moment, where their ends rise. It looks at these, and at one more.
 pub fn due_front(waits: &[Wait], time: u64) -> usize
     requires { EndsRise waits.now }
     ensures within { result ≤ length waits.now }
@@ -271,7 +271,7 @@ pub fn due_front(waits: &[Wait], time: u64) -> usize
     waits.len()
 }
 
-/// Whether the ends rise with one wait more, where it is told whether they rise without it.
+/// True where the ends rise with one wait more, where it is told whether they rise without it.
 pub fn rises_with(waits: &[Wait], rising: bool, wait: &Wait) -> bool
     requires { rising ≡ true → EndsRise waits.now }
     ensures { result ≡ true → EndsRise (waits.now ++ wait.now ∷ []) }
@@ -293,7 +293,7 @@ pub fn first_end(waits: &[Wait]) -> u64
     waits[0].until
 }
 
-/// Whether of these waits none ends before one that was listed earlier.
+/// True where of these waits none ends before one that was listed earlier.
 pub fn rise(waits: &[Wait]) -> bool
     ensures { result ≡ true → EndsRise waits.now }
 {

@@ -32,7 +32,7 @@ abbrev pub least : Uid
 least = record { unique = negsuc 2147483647; time = negsuc 9223372036854775807; count = pos 0 }
 
 abbrev pub space : ℕ → ℕ → Uid → SpaceConfig
-space lease ack id = record { lease_ms = lease; ack_ms = ack; uid = id }
+space lease ack id = record { lease_ms = lease; ack_ms = ack; uid = id; stored = true }
 
 -- The space 600000 300000 7 9.
 abbrev pub setup : SpaceConfig

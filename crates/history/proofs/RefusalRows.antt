@@ -1,7 +1,8 @@
 -- Refusals after worked histories, at small limits.
-use Rattle.std.specs.Prelude.{◌≡◌, pos, true, false, List, [], ◌∷◌, refl, Some, None}
+use Rattle.std.specs.Prelude.{◌≡◌, pos, true, false, List, [], ◌∷◌, ◌++◌, ◌^◌, refl, Some, None}
 use Rattle.object_ids.specs.declared.ids.FullKind.TheVariants.{Exports, Awaiting, Clients, Pairs, Names as NameEntries}
 use Rattle.object_ids.specs.Client.{Client}
+use Rattle.history.specs.declared.asks.SpaceConfig.{SpaceConfig}
 use Rattle.history.specs.declared.asks.Event.{Event}
 use Rattle.history.specs.declared.asks.Ask.TheVariants.{Open, Begin, Finish, Abandon, Dirty, Clean, Bind, Rebind, Tick}
 use Rattle.history.specs.declared.replies.Refused.TheVariants.{HistoryFull, Full}
@@ -13,11 +14,15 @@ use Rattle.history.specs.Names.{stands_for, names, is_named}
 use Rattle.history.specs.LeaseCalls.{lease_calls}
 use Rattle.history.specs.Table.{is_kept_locally, is_kept, table, is_effective, exports, returned_objects, place_of, places_back, places, withdrawn_objects, withdrawals}
 use Rattle.history.specs.declared.limits.Limits.{Limits}
-use Rattle.history.specs.Limits.{limits, units, reserved_units, exports_with_event, awaiting_with_event, clients_with_event, pairs_with_event, names_with_event, is_full, refusal}
+use Rattle.history.specs.Limits.{limits, units, reserved_units, exports_with_event, awaiting_with_event, clients_with_event, pairs_with_event, names_with_event, is_full, starts_too_many, refusal}
 use Rattle.history.proofs.Examples.{uid, setup, object, aa, at_address, event}
 
 abbrev roomy : Limits
-roomy = record { exports = 100; awaiting = 100; clients = 100; pairs = 100; names = 100; units = 100 }
+roomy = record { exports = 100; awaiting = 100; clients = 100; pairs = 100; names = 100; units = 100; running = 100 }
+
+-- A space whose events exist in proofs alone.
+abbrev erased_setup : SpaceConfig
+erased_setup = record setup { stored = false }
 
 -- The client bb@3/4/5.
 abbrev bb : Client
@@ -86,13 +91,23 @@ record Refusals : Type 0 where
   end_of_a_call_gives_its_unit_back : refusal (record roomy { units = 3 }) setup (places setup one_call) (event 1 0 (Abandon (object 16))) ≡ None
   end_of_no_call_gives_none_back : refusal (record roomy { units = 3 }) setup (places setup one_call) (event 2 0 (Abandon (object 16))) ≡ Some HistoryFull
   new_object_is_a_unit : refusal (record roomy { units = 3 }) setup (places setup one_call) (event 1 0 (Finish (object 16) (1 ∷ []) [] (uid 1 0 0))) ≡ Some HistoryFull
+  call_past_the_limit : refusal (record roomy { running = 1 }) setup (places setup one_call) (event 1 0 (Begin (object 16))) ≡ Some HistoryFull
+  call_of_another_connection_past_the_limit : refusal (record roomy { running = 1 }) setup (places setup one_call) (event 2 0 (Begin (object 16))) ≡ Some HistoryFull
+  call_up_to_the_limit : refusal (record roomy { running = 2 }) setup (places setup one_call) (event 1 0 (Begin (object 16))) ≡ None
+  call_of_unknown_object_is_no_call : refusal (record roomy { running = 1 }) setup (places setup one_call) (event 1 0 (Begin (object 99))) ≡ None
+  end_of_a_call_at_the_limit : refusal (record roomy { running = 1 }) setup (places setup one_call) (event 1 0 (Abandon (object 16))) ≡ None
+  call_after_an_end : refusal (record roomy { running = 1 }) setup (places setup (one_call ++ event 1 0 (Abandon (object 16)) ∷ [])) (event 1 0 (Begin (object 16))) ≡ None
   units_come_first : refusal (record roomy { units = 3; exports = 0 }) setup (places setup one_call) (event 0 0 (Open 1 true)) ≡ Some HistoryFull
   exports_before_awaiting : refusal (record roomy { exports = 1; awaiting = 0 }) setup (places setup one_call) (event 1 0 (Finish (object 16) (1 ∷ []) [] (uid 1 0 0))) ≡ Some (Full Exports)
   clients_before_pairs : refusal (record roomy { clients = 1; pairs = 1 }) setup (places setup one_client) (event 1 1 (Dirty bb (pos 1) (pos 600000) (object 16 ∷ []))) ≡ Some (Full Clients)
-  far_below_the_limits : refusal limits setup (places setup one_client) (event 1 1 (Dirty bb (pos 1) (pos 600000) (object 16 ∷ object 17 ∷ []))) ≡ None
+  stored_units : (limits setup).units ≡ 4194304
+  erased_units : (limits erased_setup).units ≡ 2 ^ 61
+  stored_calls : (limits setup).running ≡ 4194304
+  erased_calls : (limits erased_setup).running ≡ 4194304
+  far_below_the_limits : refusal (limits setup) setup (places setup one_client) (event 1 1 (Dirty bb (pos 1) (pos 600000) (object 16 ∷ object 17 ∷ []))) ≡ None
 
 refusals : Refusals
-unfolding grant lease_end tenure counting_calls highest_is_dirty holds is_remembered calls_of clients clients_with_time_left is_held pairs_with new_pairs now ever_exported exported_count running_calls_by running_calls is_running until_of awaits references awaiting_references is_awaited stands_for names is_named lease_calls is_kept_locally is_kept table is_effective exports returned_objects place_of places_back places withdrawn_objects withdrawals units reserved_units exports_with_event awaiting_with_event clients_with_event pairs_with_event names_with_event is_full refusal
+unfolding grant lease_end tenure counting_calls highest_is_dirty holds is_remembered calls_of clients clients_with_time_left is_held pairs_with new_pairs now ever_exported exported_count running_calls_by running_calls is_running until_of awaits references awaiting_references is_awaited stands_for names is_named lease_calls is_kept_locally is_kept table is_effective exports returned_objects place_of places_back places withdrawn_objects withdrawals units reserved_units exports_with_event awaiting_with_event clients_with_event pairs_with_event names_with_event is_full starts_too_many refusal
 refusals = record {
   open_past_the_limit = refl;
   open_up_to_the_limit = refl;
@@ -124,8 +139,18 @@ refusals = record {
   end_of_a_call_gives_its_unit_back = refl;
   end_of_no_call_gives_none_back = refl;
   new_object_is_a_unit = refl;
+  call_past_the_limit = refl;
+  call_of_another_connection_past_the_limit = refl;
+  call_up_to_the_limit = refl;
+  call_of_unknown_object_is_no_call = refl;
+  end_of_a_call_at_the_limit = refl;
+  call_after_an_end = refl;
   units_come_first = refl;
   exports_before_awaiting = refl;
   clients_before_pairs = refl;
+  stored_units = refl;
+  erased_units = refl;
+  stored_calls = refl;
+  erased_calls = refl;
   far_below_the_limits = refl;
 }

@@ -13,12 +13,12 @@ pub answer_to-step : (within : Limits) (config : SpaceConfig) (h : List Event) (
 answer_to-step within config h e = inl (refl, refl)
 
 -- Such answers, one after another, are steps.
-pub answers-steps : (config : SpaceConfig) (h events : List Event) → (h2 : List Event) × Steps config h events (answers limits config h events) h2
+pub answers-steps : (config : SpaceConfig) (h events : List Event) → (h2 : List Event) × Steps config h events (answers (limits config) config h events) h2
 unfolding answers
 answers-steps config h [] = (h, refl)
 answers-steps config h (e ∷ events) =
-    let rest = answers-steps config (history_after limits config h e) events in
-    (rest.0, (history_after limits config h e, answer_to-step limits config h e, rest.1))
+    let rest = answers-steps config (history_after (limits config) config h e) events in
+    (rest.0, (history_after (limits config) config h e, answer_to-step (limits config) config h e, rest.1))
 
 -- Any list of steps leaves a legal history that begins with the one before.
 pub Steps-append : (config : SpaceConfig) (h events more : List Event) (first second : List (Result Turn Refused)) (h2 h3 : List Event) →

@@ -1,5 +1,5 @@
 -- Units, the entries of the tables, and when an event is refused.
-use Rattle.std.specs.Prelude.{ℕ, ◌+◌, ◌-◌, max, Bool, true, false, List, [], ◌++◌, length, ◌&&◌, nat_lt, filter, flat_map, map, sum_by, Option, Some, None, option_to_list, if◌then◌else◌}
+use Rattle.std.specs.Prelude.{ℕ, ◌+◌, ◌-◌, max, Bool, true, false, List, [], ◌++◌, length, ◌&&◌, nat_le, nat_lt, filter, flat_map, map, sum_by, Option, Some, None, option_to_list, if◌then◌else◌}
 use Rattle.object_ids.specs.declared.ids.FullKind.TheVariants.{Exports, Awaiting, Clients, Pairs, Names}
 use Rattle.object_ids.specs.Same.{same_client, same_bytes}
 use Rattle.history.specs.declared.asks.SpaceConfig.{SpaceConfig}
@@ -11,7 +11,7 @@ use Rattle.history.specs.declared.replies.Refused.{Refused}
 use Rattle.history.specs.declared.replies.Refused.TheVariants.{HistoryFull, Full}
 use Rattle.history.specs.declared.places.Place.{Place}
 use Rattle.history.specs.declared.limits.Limits.{Limits}
-use Rattle.history.specs.declared.limits.TheConstants.{MAX_EXPORTS, MAX_AWAITING, MAX_CLIENTS, MAX_PAIRS, MAX_NAMES, MAX_HISTORY_UNITS}
+use Rattle.history.specs.declared.limits.TheConstants.{MAX_EXPORTS, MAX_AWAITING, MAX_CLIENTS, MAX_PAIRS, MAX_NAMES, MAX_HISTORY_UNITS, MAX_ERASED_UNITS, MAX_RUNNING_CALLS}
 use Rattle.history.specs.Lists.{distinct}
 use Rattle.history.specs.Places.{History, has, now}
 use Rattle.history.specs.LeaseCalls.{call_with, lease_calls}
@@ -56,15 +56,20 @@ reserved_units h = length (filter starts h) - length (filter ends h)
 
 -- ---- limits
 
+-- The most units of a history, which is stored or exists in proofs alone.
+abbrev pub units_limit : Bool → ℕ
+units_limit stored = if stored then MAX_HISTORY_UNITS else MAX_ERASED_UNITS
+
 -- The limits of a space.
-abbrev pub limits : Limits
-limits = record {
+abbrev pub limits : SpaceConfig → Limits
+limits config = record {
   exports = MAX_EXPORTS;
   awaiting = MAX_AWAITING;
   clients = MAX_CLIENTS;
   pairs = MAX_PAIRS;
   names = MAX_NAMES;
-  units = MAX_HISTORY_UNITS;
+  units = units_limit config.stored;
+  running = MAX_RUNNING_CALLS;
 }
 
 -- ---- how many entries each table has with an event: those of the history at the event's moment, and those that the event adds. An
@@ -113,10 +118,15 @@ is_full limit config h e =
     let p = place_of config h e in
     nat_lt (limit + (if ends p then 1 else 0)) (units h + reserved_units h + units_of e.ask + (if starts p then 1 else 0))
 
+-- The event starts a call, and so many run already: each running call has one unit reserved.
+unfoldable pub starts_too_many : ℕ → SpaceConfig → History → Event → Bool
+starts_too_many limit config h e = starts (place_of config h e) && nat_le limit (reserved_units h)
+
 -- The first cause for which an event is refused after a history.
 unfoldable pub refusal : Limits → SpaceConfig → History → Event → Option Refused
 refusal within config h e =
     if is_full within.units config h e then Some HistoryFull
+    else if starts_too_many within.running config h e then Some HistoryFull
     else if nat_lt within.exports (exports_with_event config h e) then Some (Full Exports)
     else if nat_lt within.awaiting (awaiting_with_event config h e) then Some (Full Awaiting)
     else if nat_lt within.clients (clients_with_event config h e) then Some (Full Clients)

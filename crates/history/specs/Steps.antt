@@ -44,7 +44,7 @@ StepWithin within config h e answer h2 =
 
 -- The same within the limits of a space.
 abbrev pub Step : SpaceConfig → List Event → Event → Result Turn Refused → List Event → Type 0
-Step config h e answer h2 = StepWithin limits config h e answer h2
+Step config h e answer h2 = StepWithin (limits config) config h e answer h2
 
 -- These events, asked one after another after the history h, may be answered so, and leave h2.
 abbrev pub Steps : SpaceConfig → List Event → List Event → List (Result Turn Refused) → List Event → Type 0

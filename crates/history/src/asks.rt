@@ -19,6 +19,8 @@ pub struct SpaceConfig {
     pub ack_ms: u64,
     /// The identifier of the object space. Its objects have it beside their number.
     pub uid: Uid,
+    /// Whether the space keeps its events, so that its journal and its outline can be read. Otherwise they exist in proofs alone.
+    pub stored: bool,
 }
 
 /// What a space is asked.

@@ -109,6 +109,21 @@ fn is_full(
     Ok(is_past(limit, used, starts, ends))
 }
 
+/// Whether an event starts a call where so many run already.
+#[tactic(auto, unfolding(history::specs::Limits::starts_too_many, history::specs::Table::place_of))]
+fn starts_too_many(
+    alloc: Global,
+    limit: u64,
+    config: &SpaceConfig,
+    places: &[Place],
+    event: &Event,
+) -> Result<bool, AllocError>
+    ensures { IfOk result (λ many. many ≡ words.starts_too_many limit config.now places.now event.now) }
+{
+    let effective = is_effective(alloc, config, places, event.by, &event.ask)?;
+    Ok(effective && is_begin(&event.ask) && limit <= reserved_units(places) as u64)
+}
+
 // ---- entries
 
 /// How many objects an event exports.
@@ -433,6 +448,9 @@ pub fn refusal(
     ensures { IfOk result (λ refused. refused ≡ words.refusal limits.now config.now places.now event.now) }
 {
     if is_full(alloc, limits.units, config, places, event)? {
+        return Ok(Some(Refused::HistoryFull));
+    }
+    if starts_too_many(alloc, limits.running, config, places, event)? {
         return Ok(Some(Refused::HistoryFull));
     }
     if is_above(

@@ -17,6 +17,5 @@ pub mod NoteLaws
 pub mod Stays
 pub mod StaysMore
 pub mod LeaseGraph
-pub mod Nameless
 pub mod RefGraph
 pub mod TextsGraph

@@ -1,6 +1,5 @@
 -- The shapes of identifiers and leases. Each of these objects goes by its own class.
-use Rattle.std.specs.Prelude.{ℕ, ℤ, ◌-◌, Bool, true, false, List, length, nat_le, Option, Some, None, is_none, codes, option_map, slice_get, if◌then◌else◌}
-use Rattle.std.specs.List.{list_any}
+use Rattle.std.specs.Prelude.{ℕ, ℤ, List, length, nat_le, Option, Some, None, codes, option_map, if◌then◌else◌}
 use Rattle.class_desc.specs.declared.slot.Slot.{Slot}
 use Rattle.class_desc.specs.declared.slot.Slot.TheVariants as slots
 use Rattle.class_desc.specs.declared.field.TypeCode.TheVariants as types
@@ -8,11 +7,7 @@ use Rattle.object_ids.specs.declared.ids.Uid.{Uid}
 use Rattle.object_ids.specs.declared.ids.ObjId.{ObjId}
 use Rattle.object_ids.specs.Client.{Client}
 use Rattle.object_ids.specs.declared.limits.TheConstants.{MAX_ADDRESS_BYTES}
-use Rattle.ser_values.specs.declared.value.Value.{Value}
-use Rattle.ser_values.specs.declared.value.Value.TheVariants as values
-use Rattle.ser_values.specs.declared.value.Part.{Part}
 use Rattle.ser_values.specs.declared.node.Node.{Node}
-use Rattle.ser_values.specs.declared.node.Node.TheVariants.{Object}
 use Rattle.java_shapes.specs.declared.lease_views.LeaseView.{LeaseView}
 use Rattle.java_shapes.specs.Objects.{Held, own_at, value_of, as_slot, as_short, as_int, as_long, array_at, as_bytes, as_refs, ◌>>=◌, each, text_at}
 
@@ -95,25 +90,6 @@ lease_of nodes (Some parts) = lease_with parts.0 (vmid_or_null nodes parts.1)
 -- The lease of an object of java.rmi.dgc.Lease. Its vmid may be null.
 abbrev pub lease_at : List Node → Slot → Option LeaseView
 lease_at nodes s = lease_of nodes (lease_parts_at nodes s)
-
--- It is a reference that is null.
-abbrev pub is_null : Value → Bool
-is_null (values.Ref slots.Null) = true
-is_null _ = false
-
-abbrev pub part_has_null : Option Part → Bool
-part_has_null None = false
-part_has_null (Some part) = list_any is_null part.values
-
--- It is an object whose last part has a reference that is null.
-abbrev pub has_null : Option Node → Bool
-has_null (Some (Object c ps)) = part_has_null (slice_get ps (length ps - 1))
-has_null _ = false
-
--- It is a lease whose client is null.
-abbrev pub is_nameless : Option LeaseView → Bool
-is_nameless None = false
-is_nameless (Some lease) = is_none lease.vmid
 
 -- ---- texts
 

@@ -13,7 +13,7 @@ use std::alloc::{AllocError, Global};
 pub(crate) struct ClassPart<'a> {
     /// The class's description.
     pub desc: &'a ClassDesc,
-    /// What the object holds of the class.
+    /// The part of the object for the class.
     pub part: &'a Part,
 }
 

@@ -4,7 +4,7 @@ ghost use Rattle.java_shapes.specs.declared.fault.ShapeFault.TheVariants.{OutOfM
 
 use std::alloc::AllocError;
 
-/// Why a view of a slot refuses.
+/// The reason why a view of a slot refuses.
 #[derive(Clone, Copy, Debug, PartialEq, Eq)]
 pub enum ShapeFault {
     /// The slot does not have the shape.

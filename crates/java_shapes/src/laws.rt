@@ -6,12 +6,12 @@ pub fn notes_are_read()
     ensures { NotesAreRead }
 {}
 
-/// What is written of a reference is its note.
+/// The bytes that are written of a reference are its note.
 pub fn notes_are_written()
     ensures { NotesAreWritten }
 {}
 
-/// What each view tells of what was put, it tells of the graph that is finished for it.
+/// Each view tells of the graph that is finished for what was put what it tells of that.
 pub fn views_stay()
     ensures { ViewsStay }
 {}

@@ -1,17 +1,15 @@
 //! Clients and their leases, read from their shapes.
-ghost use Rattle.std.specs.Prelude.{◌≡◌, List, option_map};
-ghost use Rattle.ser_values.specs.declared.node.Node.{Node as OneNode};
-ghost use Rattle.std.specs.List.{list_any};
-ghost use Rattle.java_shapes.specs.Ids.{has_null, is_nameless, is_null, vmid_parts, vmid_parts_at, vmid_at, vmid_or_null, lease_of, lease_parts, lease_parts_at, lease_at, short_client};
+ghost use Rattle.std.specs.Prelude.{◌≡◌, option_map};
+ghost use Rattle.java_shapes.specs.Ids.{vmid_parts, vmid_parts_at, vmid_at, vmid_or_null, lease_parts, lease_parts_at, lease_at, short_client};
 ghost use Rattle.java_shapes.specs.ViewAnswers.{Views};
 
-use crate::class_part::{ClassPart, bytes_at, node_at, own_at};
+use crate::class_part::{ClassPart, bytes_at, own_at};
 use crate::fault::ShapeFault;
 use crate::id_views::uid_at;
 use class_desc::{Slot, TypeCode};
 use object_ids::{MAX_ADDRESS_BYTES, Uid, Vmid};
 use sequence::ByteList;
-use ser_values::{Graph, Node, Value};
+use ser_values::{Graph, Node};
 use std::alloc::Global;
 
 /// A lease as an object of `java.rmi.dgc.Lease` has it.
@@ -123,54 +121,6 @@ fn lease_at(alloc: Global, nodes: &[Node], slot: Slot) -> Result<LeaseView, Shap
     }
 }
 
-/// Whether the client's slot of a lease is null, where there is a lease.
-fn is_nameless(parts: Option<(i64, Slot)>) -> bool
-    ensures { (nodes : List OneNode) → result ≡ is_nameless (lease_of nodes parts) }
-{
-    match parts {
-        Some((_value, vmid)) => match vmid {
-            Slot::Null => true,
-            Slot::Node(_) => false,
-        },
-        None => false,
-    }
-}
-
-/// Whether a value is a reference that is null.
-fn is_null(value: &Value) -> bool
-    ensures { result ≡ is_null value.now }
-{
-    matches!(value, Value::Ref(Slot::Null))
-}
-
-/// Whether one of these values is a reference that is null.
-fn have_null(values: &[Value]) -> bool
-    ensures { result ≡ list_any is_null values.now }
-{
-    values.iter().any(|value| is_null(value))
-}
-
-/// Whether a node is an object whose last part has a reference that is null.
-fn has_null(node: Option<&Node>) -> bool
-    ensures { result ≡ has_null (option_map (λ node. node.now) node.entry) }
-{
-    match node {
-        Some(Node::Object { class: _, parts }) => match parts.last() {
-            Some(part) => have_null(part.values.as_slice()),
-            None => false,
-        },
-        _ => false,
-    }
-}
-
-/// Whether a slot is a lease whose client is null. A lease that names its client mostly has no reference that is null, and is then not read
-/// for this.
-fn is_nameless_at(nodes: &[Node], slot: Slot) -> bool
-    ensures { result ≡ is_nameless (lease_at nodes.now slot) }
-{
-    has_null(node_at(nodes, slot)) && is_nameless(lease_parts_at(nodes, slot))
-}
-
 /// The client of an object of `java.rmi.dgc.VMID`. WrongShape comes exactly where the slot is none, its address is no byte
 /// array of at most 255 bytes, or its identifier is none.
 pub fn as_vmid(alloc: Global, graph: &Graph, slot: Slot) -> Result<Vmid, ShapeFault>
@@ -184,11 +134,4 @@ pub fn as_lease(alloc: Global, graph: &Graph, slot: Slot) -> Result<LeaseView, S
     ensures { Views result (lease_at graph.now.nodes slot) }
 {
     lease_at(alloc, graph.nodes().as_slice(), slot)
-}
-
-/// Whether a slot is a lease whose client is null. It takes no memory.
-pub fn is_nameless_lease(graph: &Graph, slot: Slot) -> bool
-    ensures { result ≡ is_nameless (lease_at graph.now.nodes slot) }
-{
-    is_nameless_at(graph.nodes().as_slice(), slot)
 }

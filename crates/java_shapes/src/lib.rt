@@ -33,7 +33,7 @@ pub use flags::with_result_flag;
 pub use id_lists::put_objids;
 pub use id_views::as_objids;
 pub use lease_graphs::lease_graph;
-pub use lease_views::{LeaseView, as_lease, as_vmid, is_nameless_lease};
+pub use lease_views::{LeaseView, as_lease, as_vmid};
 pub use leases::{put_lease, put_vmid};
 pub use live_refs::{NOTE_ROOM, put_live_ref};
 pub use local_ids::{is_local, local_refs};

@@ -22,7 +22,7 @@ use sequence::{ByteList, NameList, Units};
 use ser_values::{BuildFault, Builder, Part, PartList, ValueList};
 use std::alloc::{AllocError, Global};
 
-/// How many bytes there is room for when a note is begun: as many as most of them have.
+/// The number of bytes for which there is room when a note is begun: as many as most of them have.
 pub const NOTE_ROOM: usize = 64;
 
 /// The last bytes of a reference's note: its port, its object and its flag.

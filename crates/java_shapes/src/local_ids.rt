@@ -21,7 +21,7 @@ fn same_text(text: &Units, other: &Units) -> bool
     text.is_same(other)
 }
 
-/// Whether a reference is of this host and port.
+/// True where a reference is of this host and port.
 pub fn is_local(reference: &LiveRef, host: &Units, port: i32) -> bool
     ensures { result ≡ is_local host.now port reference.now }
 {

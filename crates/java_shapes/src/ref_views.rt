@@ -22,7 +22,7 @@ pub struct LiveRef {
     pub port: i32,
     /// The object.
     pub id: ObjId,
-    /// Whether the reference was made for a result, so that its receiver acknowledges it.
+    /// True where the reference was made for a result, so that its receiver acknowledges it.
     pub result: bool,
 }
 

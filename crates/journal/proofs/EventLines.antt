@@ -25,7 +25,7 @@ event_from_parts space e line spelled = (parts 32 line, spelled, join_parts 32 l
 
 pub config_to_parts : (config : SpaceConfig) (line : List ℕ) → SpellsConfig config line → ConfigWords config (parts 32 line)
 config_to_parts config line (words, spelled, is) =
-    subst (ConfigWords config) (sym (line_parts (ConfigWords config) (config_words config) (λ none. none.1) words line spelled is)) spelled
+    subst (ConfigWords config) (sym (line_parts (ConfigWords config) (config_words config) (λ none. none.2) words line spelled is)) spelled
 
 pub config_from_parts : (config : SpaceConfig) (line : List ℕ) → ConfigWords config (parts 32 line) → SpellsConfig config line
 config_from_parts config line spelled = (parts 32 line, spelled, join_parts 32 line)

@@ -172,7 +172,7 @@ config_fields config =
     text (codes "space") refl ▹ duration config.lease_ms ▹ duration config.ack_ms ▹ signed w32 config.uid.unique (omega arith) ▹ signed w64 config.uid.time (omega arith) ▹ ends
 
 pub config_words : (config : SpaceConfig) → AreGraphic (ConfigWords config)
-config_words config = record { within = λ words is. (config_fields config).within words is.1 }
+config_words config = record { within = λ words is. (config_fields config).within words is.2 }
 
 -- Words of such bytes have no blank.
 pub words_lack : (c : ℕ) → c < 33 → (words : List (List ℕ)) → AllByRecursion (Within 33 126) words → AllByRecursion (Lacks c) words

@@ -1,6 +1,6 @@
 -- Laws of the grammar: a line spells at most one event, a first line at most one configuration, and a journal's bytes spell one
 -- configuration and one list of events.
-use Rattle.std.proofs.Common.{◌≡◌, ◌≢◌, ℕ, ◌^◌, List, [], ◌∷◌, ◌++◌, refl, ap, sym, subst, ◌∙◌, arith, codes, ℤ, w32, w64}
+use Rattle.std.proofs.Common.{◌≡◌, ◌≢◌, ℕ, ◌^◌, List, [], ◌∷◌, ◌++◌, refl, ap, sym, subst, ◌∙◌, arith, codes, ℤ, w32, w64, Bool}
 use Rattle.object_ids.specs.declared.ids.Uid.{Uid}
 use Rattle.history.specs.declared.asks.SpaceConfig.{SpaceConfig}
 use Rattle.history.specs.declared.asks.Event.{Event}
@@ -102,10 +102,11 @@ event_once space a b line of_a of_b =
 uid_is : (a b : Uid) → a.unique ≡ b.unique → a.time ≡ b.time → a.count ≡ b.count → a ≡ b
 uid_is a b u t c = ap (λ (x : ℤ). record a { unique = x }) u ∙ ap (λ (x : ℤ). record a { unique = b.unique; time = x }) t ∙ ap (λ (x : ℤ). record { unique = b.unique; time = b.time; count = x }) c
 
-config_is : (a b : SpaceConfig) → a.lease_ms ≡ b.lease_ms → a.ack_ms ≡ b.ack_ms → a.uid ≡ b.uid → a ≡ b
-config_is a b lease ack uid =
+config_is : (a b : SpaceConfig) → a.lease_ms ≡ b.lease_ms → a.ack_ms ≡ b.ack_ms → a.uid ≡ b.uid → a.stored ≡ b.stored → a ≡ b
+config_is a b lease ack uid stored =
     ap (λ (x : ℕ). record a { lease_ms = x }) lease ∙ ap (λ (x : ℕ). record a { lease_ms = b.lease_ms; ack_ms = x }) ack
-    ∙ ap (λ (x : Uid). record { lease_ms = b.lease_ms; ack_ms = b.ack_ms; uid = x }) uid
+    ∙ ap (λ (x : Uid). record a { lease_ms = b.lease_ms; ack_ms = b.ack_ms; uid = x }) uid
+    ∙ ap (λ (x : Bool). record { lease_ms = b.lease_ms; ack_ms = b.ack_ms; uid = b.uid; stored = x }) stored
 
 -- the words of a configuration after the first
 abbrev Fields : SpaceConfig → List (List ℕ) → Type 0
@@ -115,10 +116,10 @@ Fields config = SpellsDuration config.lease_ms ▸ SpellsDuration config.ack_ms 
 pub config_once : (a b : SpaceConfig) (line : List ℕ) → SpellsConfig a line → SpellsConfig b line → a ≡ b
 config_once a b line of_a of_b =
     let words_a = config_to_parts a line of_a in let words_b = config_to_parts b line of_b in
-    let others = after_space a b (parts 32 line) words_a.1 words_b.1 in
+    let others = after_space a b (parts 32 line) words_a.2 words_b.2 in
     let all = same_four SpellsDuration SpellsDuration (SpellsSigned w32) (SpellsSigned w64) duration_once duration_once (signed_once w32 (omega arith)) (signed_once w64 (omega arith))
     others.0 a.lease_ms b.lease_ms a.ack_ms b.ack_ms a.uid.unique b.uid.unique a.uid.time b.uid.time others.1 others.2 in
-    config_is a b all.0 all.1 (uid_is a.uid b.uid all.2 all.3 (words_a.0 ∙ sym words_b.0))
+    config_is a b all.0 all.1 (uid_is a.uid b.uid all.2 all.3 (words_a.0 ∙ sym words_b.0)) (words_a.1 ∙ sym words_b.1)
   where
     after_space : (a b : SpaceConfig) (words : List (List ℕ)) → (Is (codes "space") ▸ Fields a) words → (Is (codes "space") ▸ Fields b) words → (rest : List (List ℕ)) × Fields a rest × Fields b rest
     after_space a b [] of_a of_b = absurd of_a

@@ -115,6 +115,6 @@ pub config_spelled : (config : SpaceConfig) → FitsSigned w32 config.uid.unique
 unfolding config_text
 config_spelled config unique time fits = (
   codes "space" ∷ decimal config.lease_ms ∷ decimal config.ack_ms ∷ signed_decimal config.uid.unique ∷ signed_decimal config.uid.time ∷ [],
-  (fits.count, (refl, ((fits.some_lease, fits.short_lease, refl), ((fits.some_ack, fits.short_ack, refl), ((unique, refl), ((time, refl), refl)))))),
+  (fits.count, fits.stored, (refl, ((fits.some_lease, fits.short_lease, refl), ((fits.some_ack, fits.short_ack, refl), ((unique, refl), ((time, refl), refl)))))),
   refl,
 )

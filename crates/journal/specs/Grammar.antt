@@ -1,6 +1,6 @@
 -- A journal: the text of a configuration and of the events of a history, as a relation between bytes and these. What it spells a
 -- value by is history's `Texts`. A line is words that are separated by one space. Numbers are decimal, without needless zeros or signs.
-use Rattle.std.specs.Prelude.{◌≡◌, ◌≢◌, ℕ, ℤ, pos, ◌^◌, ◌<◌, ◌≤◌, ◌⊎◌, Bool, if◌then◌else◌, List, [], ◌∷◌, ◌++◌, length, codes, decimal, FitsSigned}
+use Rattle.std.specs.Prelude.{◌≡◌, ◌≢◌, ℕ, ℤ, pos, ◌^◌, ◌<◌, ◌≤◌, ◌⊎◌, Bool, true, if◌then◌else◌, List, [], ◌∷◌, ◌++◌, length, codes, decimal, FitsSigned}
 use Rattle.std.specs.Int.{w16, w32, w64}
 use Rattle.std.specs.List.{AllByRecursion, AllZip, join_with_byte}
 use Rattle.std.specs.Fmt.{signed_decimal}
@@ -148,10 +148,11 @@ EventWords space event = SpellsNumber event.by ▸ SpellsMoment event.moment ▸
 abbrev pub SpellsEvent : Uid → Event → List ℕ → Type 0
 SpellsEvent space event line = (words : List (List ℕ)) × EventWords space event words × (line ≡ join_with_byte 32 words)
 
--- The words spell a configuration: `space LEASE ACK UNIQUE TIME`. The space's identifier is UNIQUE/TIME/0.
+-- The words spell a configuration: `space LEASE ACK UNIQUE TIME`. The space's identifier is UNIQUE/TIME/0, and it keeps its events.
 abbrev pub ConfigWords : SpaceConfig → List (List ℕ) → Type 0
 ConfigWords config words =
     (config.uid.count ≡ pos 0)
+    × (config.stored ≡ true)
     × (Is (codes "space") ▸ SpellsDuration config.lease_ms ▸ SpellsDuration config.ack_ms
     ▸ SpellsSigned w32 config.uid.unique ▸ SpellsSigned w64 config.uid.time ▸ End) words
 

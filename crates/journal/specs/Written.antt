@@ -1,6 +1,6 @@
 -- The lines of a journal as texts, each without its LF: words that are separated by one space. An object of the space's own is written by its
 -- number. What each text spells is the grammar's.
-use Rattle.std.specs.Prelude.{◌≡◌, ℕ, pos, ◌^◌, ◌<◌, ◌≤◌, Bool, if◌then◌else◌, List, [], ◌∷◌, ◌++◌, map, flat_map, codes, decimal, FitsSigned}
+use Rattle.std.specs.Prelude.{true, ◌≡◌, ℕ, pos, ◌^◌, ◌<◌, ◌≤◌, Bool, if◌then◌else◌, List, [], ◌∷◌, ◌++◌, map, flat_map, codes, decimal, FitsSigned}
 use Rattle.std.specs.Int.{w64}
 use Rattle.std.specs.List.{AllByRecursion, join_with_byte}
 use Rattle.std.specs.Fmt.{signed_decimal}
@@ -111,10 +111,11 @@ pub record EventFits (event : Event) : Type 0 where
   pub moment : event.moment < END_OF_TIME
   pub ask : AskFits event.ask
 
--- The durations of a configuration are within their limits, and the count of its identifier is 0.
+-- The durations of a configuration are within their limits, the count of its identifier is 0, and its space keeps its events.
 pub record ConfigFits (config : SpaceConfig) : Type 0 where
   pub some_lease : 1 ≤ config.lease_ms
   pub short_lease : config.lease_ms ≤ MAX_DURATION_MS
   pub some_ack : 1 ≤ config.ack_ms
   pub short_ack : config.ack_ms ≤ MAX_DURATION_MS
   pub count : config.uid.count ≡ pos 0
+  pub stored : config.stored ≡ true

@@ -23,8 +23,8 @@ pub fn split_line(bytes: &[u8]) -> Option<(&[u8], &[u8])>
     Some((&bytes[..at], &bytes[at + 1..]))
 }
 
-/// The configuration that a journal's first line spells. The line stands here without its LF. It is None
-/// exactly where the line spells none.
+/// The configuration that a journal's first line spells, of a space that keeps its events. The line stands here without its LF. It is
+/// None exactly where the line spells none.
 pub fn read_first_line(line: &[u8]) -> Option<SpaceConfig>
     ensures { Finds SpellsConfig result line.now }
 {
@@ -48,6 +48,7 @@ fn config_of(words: Parts) -> Option<SpaceConfig>
             time: read_signed(time)?,
             count: 0,
         },
+        stored: true,
     })
 }
 

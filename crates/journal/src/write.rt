@@ -17,7 +17,7 @@ use sequence::{ByteList, Kinds};
 use std::alloc::AllocError;
 
 /// Appends a journal's first line, with its LF: the durations of a configuration, and its identifier without the count. Where
-/// the durations are within their limits and the count is 0, it spells this configuration and no other ([`config_texts_spell`](crate::text_laws::config_texts_spell)).
+/// the durations are within their limits, the count is 0 and the space keeps its events, it spells this configuration and no other ([`config_texts_spell`](crate::text_laws::config_texts_spell)).
 #[tactic(auto, unfolding(crate::specs::Written::config_text))]
 pub fn put_first_line(out: &mut ByteList, config: &SpaceConfig) -> Result<(), AllocError>
     ensures text { OnOk result (out.new ≡ out.old ++ with_line_end (config_text config.now)) }

@@ -37,7 +37,7 @@ pub type ArgList = Sequence<Arg>;
 /// The arguments of a call in the order of the method's parameters, and the graph in which their references stand.
 #[derive(Debug)]
 pub struct Arguments {
-    /// What the call's stream holds after the head of the call.
+    /// The graph of the call's stream after the head of the call.
     pub graph: Graph,
     /// One argument for each parameter.
     pub values: ArgList,

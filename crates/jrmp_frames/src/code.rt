@@ -7,7 +7,7 @@ use crate::fault::FrameFault;
 use wire_io::pull::{Pull, PullEnd};
 use wire_io::source::Source;
 
-/// What a client's message is (Java RMI Specification, 10.2).
+/// The kind of a client's message (Java RMI Specification, 10.2).
 #[derive(Clone, Copy, Debug, PartialEq, Eq)]
 pub enum Code {
     /// `50`: a call of a method.

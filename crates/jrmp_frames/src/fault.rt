@@ -4,7 +4,7 @@ ghost use Rattle.std.specs.Prelude.{◌≡◌};
 use ser_read::StreamFault;
 use wire_io::pull::PullEnd;
 
-/// Why a part of the protocol could not be read. Positions count bytes from 0 at the connection's first byte.
+/// The reason why a part of the protocol could not be read. Positions count bytes from 0 at the connection's first byte.
 #[derive(Clone, Copy, Debug, PartialEq, Eq)]
 pub enum FrameFault {
     /// The byte at this position is the first that differs from the header's.

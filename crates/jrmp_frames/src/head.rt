@@ -17,7 +17,7 @@ use wire_io::source::Source;
 /// The number of bytes of a call's head.
 pub const HEAD_BYTES: usize = 34;
 
-/// What a call begins with: whose method is called, and which one (Java RMI Specification, 10.2).
+/// The head of a call: whose method is called, and which one (Java RMI Specification, 10.2).
 #[derive(Clone, Copy, Debug, PartialEq, Eq)]
 pub struct CallHead {
     /// The object that is called.

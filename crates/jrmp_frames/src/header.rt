@@ -8,7 +8,7 @@ use crate::fault::FrameFault;
 use wire_io::pull::Pull;
 use wire_io::source::Source;
 
-/// How a client wants to speak (Java RMI Specification, 10.2).
+/// The way in which a client wants to speak (Java RMI Specification, 10.2).
 #[derive(Clone, Copy, Debug, PartialEq, Eq)]
 pub enum Protocol {
     /// `4B`: messages one after the other, once both sides have said who they are.

@@ -22,7 +22,7 @@ const RETURN_ROOM: usize = 1024;
 /// How many bytes there is room for when a value is put behind what a return begins with: as many as they have at most.
 const VALUE_ROOM: usize = 32;
 
-/// What a return carries.
+/// The contents of a return.
 #[derive(Debug)]
 pub enum Body {
     /// Nothing: the method has no result.

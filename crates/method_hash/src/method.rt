@@ -20,7 +20,7 @@ pub const METHOD_BYTES: usize = 65_535;
 /// A list of types.
 pub type CodeList = Sequence<TypeCode>;
 
-/// Why bytes are no method's text.
+/// The reason why bytes are no method's text.
 #[derive(Clone, Copy, Debug, PartialEq, Eq, Error)]
 pub enum MethodFault {
     /// The longest front of them with which some method's text begins ends at this place, counted in bytes from 0.

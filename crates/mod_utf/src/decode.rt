@@ -7,7 +7,7 @@ use sequence::Units;
 use std::alloc::Global;
 use thiserror::Error;
 
-/// Why bytes are not read as a text.
+/// The reason why bytes are not read as a text.
 #[derive(Clone, Copy, Debug, PartialEq, Eq, Error)]
 pub enum UtfFault {
     /// The bytes spell no text: from this place on, counted from 0, no unit is spelled, and those before it spell

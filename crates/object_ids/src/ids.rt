@@ -14,7 +14,7 @@ use std::marker::Model;
 pub struct Uid {
     /// A moment at which that virtual machine ran, in milliseconds.
     pub time: i64,
-    /// What tells apart the virtual machines that run at one time.
+    /// A number that tells apart the virtual machines that run at one time.
     pub unique: i32,
     /// The number among the identifiers of that moment.
     pub count: i16,
@@ -51,7 +51,7 @@ impl Model for Vmid {
 /// A list of object identifiers.
 pub type ObjIds = Sequence<ObjId>;
 
-/// What is full where a table refuses an entry.
+/// The limit that is reached where a table refuses an entry.
 #[derive(Clone, Copy, Debug, PartialEq, Eq)]
 pub enum FullKind {
     /// Exported objects.

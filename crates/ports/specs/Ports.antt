@@ -22,6 +22,11 @@ use Rattle.space.specs.Entries.{entry_of}
 
 -- ---- the entries
 
+-- what a port shows: its entries since it was made, and how many more calls there is room for
+pub record PortState : Type 0 where
+  pub asked : List Asked
+  pub room : ℕ
+
 -- The entries of a turn: none where there was no memory.
 abbrev pub entries_of : ℕ → Ask → Result Turn Refused → List Asked
 entries_of moment ask (Err OutOfMemory) = []

@@ -54,9 +54,7 @@ impl<'a> SpacePort<'a, AskedLog> {
 }
 
 impl<'a> Port for SpacePort<'a, AskedLog> {
-    ghost asked = { λ p. p.asked.items };
-
-    ghost room_of = { λ p. 2 ^ 64 - 1 };
+    ghost shown = { λ p. record { asked = p.asked.items; room = 2 ^ 64 - 1 } };
 
     ghost ready = { λ p. IsTied p.by p.space.now p.asked.items p.asked.capacity };
 

@@ -1,20 +1,16 @@
 //! Where a connection makes its turns.
-ghost use Rattle.std.specs.Prelude.{◌≡◌, ℕ, ◌+◌, ◌<◌, ◌≤◌, ◌++◌, ◌∷◌, [], List};
+ghost use Rattle.std.specs.Prelude.{◌≡◌, ℕ, ◌+◌, ◌<◌, ◌≤◌, ◌++◌, ◌∷◌, []};
 ghost use Rattle.history.specs.declared.limits.TheConstants.{END_OF_TIME};
-ghost use Rattle.space.specs.declared.asked.Asked.{Asked};
 ghost use Rattle.space.specs.TurnAnswers.{IsAnswerTo};
-ghost use Rattle.ports.specs.Ports.{abandoned_at, entries_of, Shows};
+ghost use Rattle.ports.specs.Ports.{PortState, abandoned_at, entries_of, Shows};
 
 use history::{Ask, Refused, Turn};
 use object_ids::ObjId;
 
 /// The turns of one connection, which keeps an entry of each.
 pub trait Port {
-    // The entries since the port was made.
-    ghost asked: { Self → List Asked };
-
-    // How many more calls there is room for.
-    ghost room_of: { Self → ℕ };
+    // The entries since the port was made, and how many more calls there is room for.
+    ghost shown: { Self → PortState };
 
     // What holds between two calls.
     ghost ready: { Self → Type 0 };
@@ -26,28 +22,28 @@ pub trait Port {
     /// there was no memory.
     fn turn(&mut self, moment: u64, ask: Ask) -> Result<Turn, Refused>
         requires ready { ready self.old }
-        requires room { 0 < room_of self.old }
+        requires room { 0 < (shown self.old).room }
         requires moment { moment < END_OF_TIME }
-        ensures asked { asked self.new ≡ asked self.old ++ entries_of moment ask result }
-        ensures answer { IsAnswerTo (Shows (asked self.old)) ask result }
-        ensures room { room_of self.old ≤ room_of self.new + 1 }
+        ensures asked { (shown self.new).asked ≡ (shown self.old).asked ++ entries_of moment ask result }
+        ensures answer { IsAnswerTo (Shows (shown self.old).asked) ask result }
+        ensures room { (shown self.old).room ≤ (shown self.new).room + 1 }
         ensures ready { ready self.new }
         ensures leads { leads self.old self.new };
 
     /// Ends a call of an object without an answer, of which the entries show one running. It takes no memory.
     fn abandon(&mut self, moment: u64, object: ObjId)
         requires ready { ready self.old }
-        requires room { 0 < room_of self.old }
+        requires room { 0 < (shown self.old).room }
         requires moment { moment < END_OF_TIME }
-        requires runs { Shows (asked self.old) object }
-        ensures asked { (place : ℕ) × (asked self.new ≡ asked self.old ++ abandoned_at moment object place ∷ []) }
-        ensures room { room_of self.old ≤ room_of self.new + 1 }
+        requires runs { Shows (shown self.old).asked object }
+        ensures asked { (place : ℕ) × ((shown self.new).asked ≡ (shown self.old).asked ++ abandoned_at moment object place ∷ []) }
+        ensures room { (shown self.old).room ≤ (shown self.new).room + 1 }
         ensures ready { ready self.new }
         ensures leads { leads self.old self.new };
 
     /// For how many more calls there is room.
     fn room(&self) -> u64
-        ensures { result ≡ room_of self.now };
+        ensures { result ≡ (shown self.now).room };
 
     ghost stays: { (p : Self) → leads p p };
 

@@ -31,9 +31,7 @@ impl<'a> SpacePort<'a, ToldLog> {
 }
 
 impl<'a> Port for SpacePort<'a, ToldLog> {
-    ghost asked = { λ p. p.asked };
-
-    ghost room_of = { λ p. 2 ^ 64 - 1 };
+    ghost shown = { λ p. record { asked = p.asked; room = 2 ^ 64 - 1 } };
 
     ghost ready = { λ p. IsTiedTold p.by p.space.now p.asked };
 

@@ -14,7 +14,7 @@ use Rattle.drill.specs.Runs.{StopsIn, EndsIn}
 use Rattle.rmi_cli.specs.Drilled.{TakesAll, IsStopped, DrillStops, Drills, DrillsExactly}
 use Rattle.rmi_cli.specs.Replay.{EventIsTaken, AllTaken}
 use Rattle.rmi_cli.specs.Told.{Reported}
-use Rattle.rmi_cli.specs.declared.words.DrillText.{DrillText}
+use Rattle.rmi_words.specs.declared.command.DrillText.{DrillText}
 use Rattle.rmi_cli.specs.declared.end.RunEnd.TheVariants as ends
 
 -- ---- legal histories
@@ -22,9 +22,9 @@ use Rattle.rmi_cli.specs.declared.end.RunEnd.TheVariants as ends
 -- A step leaves the history, or takes its event.
 one_step : (config : SpaceConfig) (h next : List Event) (e : Event) (a : Result Turn Refused) → Step config h e a next → (next ≡ h) ⊎ (EventIsTaken config h e × (next ≡ h ++ e ∷ []))
 one_step config h next e a (inr q) = inl q.1
-one_step config h next e a (inl p) = go (refusal limits config (places config h) e) refl p.1
+one_step config h next e a (inl p) = go (refusal (limits config) config (places config h) e) refl p.1
   where
-    go : (r : Option Refused) → refusal limits config (places config h) e ≡ r → next ≡ history_with h e r → (next ≡ h) ⊎ (EventIsTaken config h e × (next ≡ h ++ e ∷ []))
+    go : (r : Option Refused) → refusal (limits config) config (places config h) e ≡ r → next ≡ history_with h e r → (next ≡ h) ⊎ (EventIsTaken config h e × (next ≡ h ++ e ∷ []))
     go None is left = inr (is, left)
     go (Some refused) is left = inl left
 

@@ -8,7 +8,7 @@ use Rattle.rmi_cli.specs.Statuses.{status_of}
 use Rattle.rmi_cli.specs.Answer.{ServesExactly, AnswersExactly, IsOutsideStatus}
 use Rattle.rmi_cli.specs.Told.{Reported, TellsExactly, TellsEnd}
 use Rattle.rmi_cli.specs.declared.end.RunEnd.TheVariants.{Answered}
-use Rattle.rmi_cli.specs.declared.options.LeaseOptions.{LeaseOptions}
+use Rattle.rmi_words.specs.declared.options.LeaseOptions.{LeaseOptions}
 
 settled_or_outside : (end : ConnEnd) → IsSettled end ⊎ IsOutsideStatus (status_of end)
 settled_or_outside Ended = inl tt

@@ -5,21 +5,24 @@ use Rattle.std.specs.Prelude.{IfSome}
 use Rattle.wire_io.specs.Wire.{ReadHalf, WriteHalf, Wires}
 use Rattle.conn_server.specs.declared.server.Report.{Report}
 use Rattle.sample_app.specs.declared.crew.SampleHand.{SampleHand}
-use Rattle.rmi_cli.proofs.Asked.{answer_in_range, serve_in_range}
+use Rattle.rmi_words.proofs.Asked.{answer_in_range, serve_in_range}
 use Rattle.rmi_cli.specs.Answer.{AnswersExactly}
-use Rattle.rmi_cli.specs.Command.{AskFor}
+use Rattle.rmi_words.specs.Command.{AskFor}
 use Rattle.rmi_cli.specs.Drilled.{Drills}
 use Rattle.rmi_cli.specs.Limits.{IsInLimits}
 use Rattle.rmi_cli.specs.Opening.{served_opening}
 use Rattle.conn_server.specs.Reports.{ServesLinks}
+use Rattle.conn_server.specs.Stops.{IsLostLink}
 use Rattle.rmi_cli.specs.ServedLinks.{IsSampleLink, ListensAlone, ServeEnds, Serving, serve_plan}
 use Rattle.rmi_cli.specs.Told.{Reported, TellsEnd}
 use Rattle.rmi_cli.specs.declared.end.RunEnd.{RunEnd}
-use Rattle.rmi_cli.specs.declared.options.ServeWords.{ServeWords}
-use Rattle.rmi_cli.specs.declared.options.LeaseOptions.{LeaseOptions}
-use Rattle.rmi_cli.specs.declared.words.Command.{Command}
-use Rattle.rmi_cli.specs.declared.words.Command.TheVariants.{Answer, Serve, Replay, Show, Drill}
-use Rattle.rmi_cli.specs.declared.words.DrillText.{DrillText}
+use Rattle.rmi_words.specs.declared.options.ServeWords.{ServeWords}
+use Rattle.rmi_words.specs.declared.options.LeaseOptions.{LeaseOptions}
+use Rattle.rmi_cli.specs.Printing.{PrintEnds}
+use Rattle.rmi_words.specs.declared.command.ClassOutput.{ClassOutput}
+use Rattle.rmi_words.specs.declared.command.Command.{Command}
+use Rattle.rmi_words.specs.declared.command.Command.TheVariants.{Answer, Serve, Replay, Show, Drill, World, Class, Help}
+use Rattle.rmi_words.specs.declared.command.DrillText.{DrillText}
 
 -- What words ask for is in the limits of its command.
 pub asked_fits : (words : List (List ℕ)) (c : Command) → AskFor words c → IsInLimits c
@@ -28,6 +31,9 @@ asked_fits words (Serve serve) is = serve_in_range words serve is
 asked_fits words Replay is = tt
 asked_fits words Show is = tt
 asked_fits words (Drill text seed rounds) is = is.in_range.most
+asked_fits words World is = tt
+asked_fits words (Class output) is = tt
+asked_fits words (Help topic) is = tt
 
 -- ---- one command, named twice
 
@@ -37,6 +43,9 @@ same_options t t2 same = cc
 same_serve : (s s2 : ServeWords) → Serve s ≡ Serve s2 → s ≡ s2
 same_serve s s2 same = cc
 
+same_class : (a b : ClassOutput) → Class a ≡ Class b → a ≡ b
+same_class a b same = cc
+
 same_drill : (text text2 : DrillText) (m n m2 n2 : ℕ) → Drill text m n ≡ Drill text2 m2 n2 → (text ≡ text2) × (m ≡ m2) × (n ≡ n2)
 same_drill text text2 m n m2 n2 same = (cc, cc, cc)
 
@@ -44,6 +53,10 @@ pub exactly_asked : (seed : List ℕ) (command : Command) (t t2 : LeaseOptions) 
     → AnswersExactly seed t old new told → AnswersExactly seed t2 old new told
 exactly_asked seed command t t2 old new told is is2 exact =
     let P : LeaseOptions → Type 0 = λ x. AnswersExactly seed x old new told in subst P (same_options t t2 (sym is ∙ is2)) exact
+
+pub prints_named : (command : Command) (a b : ClassOutput) (old new : Wires) (faults faults2 : ℕ) (end : RunEnd) → command ≡ Class a → command ≡ Class b
+    → PrintEnds a old new faults faults2 end → PrintEnds b old new faults faults2 end
+prints_named command a b old new faults faults2 end is is2 = subst (λ (x : ClassOutput). PrintEnds x old new faults faults2 end) (same_class a b (sym is ∙ is2))
 
 pub drills_named : (command : Command) (text text2 : DrillText) (m n m2 n2 : ℕ) (old new : Wires) (told : Reported) → command ≡ Drill text m n → command ≡ Drill text2 m2 n2
     → Drills text m n old new told → Drills text2 m2 n2 old new told
@@ -56,9 +69,9 @@ drills_named command text text2 m n m2 n2 old new told is is2 drills =
 
 pub serving_asked : {I O T R : Type 0} (read_half : I → ReadHalf) (write_half : O → WriteHalf) (given : T → Option (List ℕ)) (seed : List ℕ) (command : Command) (s s2 : ServeWords)
     (log_before log_after : Listening) (old new : Wires) (faults faults2 : ℕ) (told : Reported) (served : Option (Report I O T (SampleHand R))) (end : RunEnd) → command ≡ Serve s → command ≡ Serve s2
-    → IfSome served (ServesLinks (IsSampleLink {R = R} read_half write_half given (serve_plan seed s)) (served_opening seed s.options) s.count log_before.accepted log_after.accepted)
+    → IfSome served (ServesLinks (IsSampleLink {R = R} read_half write_half given (serve_plan seed s)) (IsLostLink read_half write_half given) (served_opening seed s.options) s.count log_before.accepted log_after.accepted)
     → ListensAlone s.port log_before log_after served → ServeEnds old.held new.held faults faults2 served end → TellsEnd told end → new.left ≡ old.left
-    → Serving (IsSampleLink {R = R} read_half write_half given (serve_plan seed s2)) seed s2 served log_before log_after old new faults faults2 told
+    → Serving (IsSampleLink {R = R} read_half write_half given (serve_plan seed s2)) (IsLostLink read_half write_half given) seed s2 served log_before log_after old new faults faults2 told
 serving_asked {I} {O} {T} {R} read_half write_half given seed command s s2 log_before log_after old new faults faults2 told served end is is2 links alone ends tells unread =
-    let P : ServeWords → Type 0 = λ x. Serving (IsSampleLink {R = R} read_half write_half given (serve_plan seed x)) seed x served log_before log_after old new faults faults2 told in
+    let P : ServeWords → Type 0 = λ x. Serving (IsSampleLink {R = R} read_half write_half given (serve_plan seed x)) (IsLostLink read_half write_half given) seed x served log_before log_after old new faults faults2 told in
     subst P (same_serve s s2 (sym is ∙ is2)) (record { alone = alone; links = links; end = end; ends = ends; tells = tells; unread = unread })

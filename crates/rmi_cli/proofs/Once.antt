@@ -56,7 +56,7 @@ no_stop config h rest number (Err OutOfMemory) y known begins taken stops = know
 no_stop config h rest number (Err RefusedTurn) y known (line, more, spells, is) taken (e, (line2, more2, spells2, is2), (cause, why)) =
     let same = line_injective 10 line2 line more2 more (event_lacks config.uid e line2 spells2) (event_lacks config.uid y line spells) (sym is2 ∙ is) in
     let event : e ≡ y = event_once config.uid e y line2 spells2 (subst (SpellsEvent config.uid y) (sym same.0) spells) in
-    let both : None ≡ Some cause = sym taken ∙ ap (refusal limits config (places config h)) (sym event) ∙ why in
+    let both : None ≡ Some cause = sym taken ∙ ap (refusal (limits config) config (places config h)) (sym event) ∙ why in
     cc
 
 -- The same stop after one more event.
@@ -186,11 +186,11 @@ whole_is input taken (Some rest) is nothing =
     let same : input ≡ taken ++ rest = cc in
     (sym (same ∙ ap (λ r. taken ++ r) nothing ∙ append-nil taken), ap Some nothing)
 
-all_taken : (old new : Wires) (input taken : List ℕ) → old.left ≡ Some input → TakesWhole old new taken → (taken ≡ input) × (new.left ≡ Some [])
+pub all_taken : (old new : Wires) (input taken : List ℕ) → old.left ≡ Some input → TakesWhole old new taken → (taken ≡ input) × (new.left ≡ Some [])
 all_taken old new input taken told whole = whole_is input taken new.left (sym told ∙ whole.left) whole.nothing
 
 -- A front is no longer than the input.
-front_short : (input front : List ℕ) (left : Option (List ℕ)) → Some input ≡ with_front front left → length front ≤ length input
+pub front_short : (input front : List ℕ) (left : Option (List ℕ)) → Some input ≡ with_front front left → length front ≤ length input
 front_short input front None is = absurd (cc)
 front_short input front (Some rest) is = let same : input ≡ front ++ rest = cc in omega (arith, ap length same, length-append front rest)
 
@@ -227,7 +227,7 @@ within old new told ends.ReadFault e tells input answer left short replays known
 within old new told ends.WriteFault e tells input answer left short replays known = inr (inr (inl tells.0))
 within old new told ends.OutOfMemory e tells input answer left short replays known = inr (inr (inr tells.0))
 
-no_room : (old new : Wires) (input taken : List ℕ) → old.left ≡ Some input → JOURNAL_BYTES < length input → TakesWhole old new taken → ⊥
+pub no_room : (old new : Wires) (input taken : List ℕ) → old.left ≡ Some input → JOURNAL_BYTES < length input → TakesWhole old new taken → ⊥
 no_room old new input taken left long whole = let all = all_taken old new input taken left whole in omega (arith, ap length all.0, whole.short, long)
 
 past : (old new : Wires) (told : Reported) (end : RunEnd) → ReplayEnds old new end → TellsExactly told end → (input : List ℕ) → old.left ≡ Some input → JOURNAL_BYTES < length input

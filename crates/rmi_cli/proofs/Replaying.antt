@@ -65,7 +65,7 @@ line_moment config lines more e (line, spells, is) = moment_of config.uid e line
 -- ---- turns
 
 was_taken : (config : SpaceConfig) (h h2 : List Event) (e : Event) (turn : Turn) → Step config h e (Ok turn) h2 → EventIsTaken config h e
-was_taken config h h2 e turn (inl p) = go (refusal limits config (places config h) e) p.0
+was_taken config h h2 e turn (inl p) = go (refusal (limits config) config (places config h) e) p.0
   where
     go : (r : Option Refused) → Ok turn ≡ answer_with config h e r → r ≡ None
     go None a = refl
@@ -74,8 +74,8 @@ was_taken config h h2 e turn (inr q) = absurd (cc)
 
 -- It is refused for a cause, unless memory is wanting.
 was_refused : (config : SpaceConfig) (h h2 : List Event) (e : Event) (refused : Refused) → (refused ≡ NoMemory → ⊥) → Step config h e (Err refused) h2
-    → (cause : Refused) × (refusal limits config (places config h) e ≡ Some cause)
-was_refused config h h2 e refused other (inl p) = go (refusal limits config (places config h) e) p.0
+    → (cause : Refused) × (refusal (limits config) config (places config h) e ≡ Some cause)
+was_refused config h h2 e refused other (inl p) = go (refusal (limits config) config (places config h) e) p.0
   where
     go : (r : Option Refused) → Err refused ≡ answer_with config h e r → (cause : Refused) × (r ≡ Some cause)
     go None a = absurd (cc)

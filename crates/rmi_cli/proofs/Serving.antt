@@ -1,5 +1,5 @@
 -- What serving one connection over a space of its own says.
-use Rattle.std.proofs.Common.{◌≡◌, Bool, ℕ, List, [], ◌++◌, Option, Some, refl, ap, sym, subst, ◌∙◌, inl, append-nil}
+use Rattle.std.proofs.Common.{◌≡◌, Bool, ℕ, List, [], ◌++◌, Option, Some, refl, ap, sym, subst, ◌∙◌, inl, inr, append-nil}
 use Rattle.std.specs.List.{flat_map}
 use Rattle.wire_io.specs.Wire.{Wires, with_end, with_front-nothing, with_end-nothing, Gave-nothing}
 use Rattle.space.specs.Built.{SpaceHistory}
@@ -16,11 +16,13 @@ use Rattle.call_dispatch.specs.ConnectionState.{ConnectionState, Transcript, byt
 use Rattle.call_dispatch.specs.Dialogue.{nothing, Dialogue}
 use Rattle.call_dispatch.specs.Tape.{OutsideAnswer, tape}
 use Rattle.call_dispatch.specs.Progress.{IsServedFrom, Settles}
+use Rattle.call_dispatch.proofs.Invoking.{dialogue_invokes}
+use Rattle.call_dispatch.proofs.Completing.{dialogue_completes}
 use Rattle.sample_app.specs.Opened.{sample_events}
 use Rattle.sample_app.specs.Does as sample
 use Rattle.rmi_cli.specs.Answer.{answer_terms, IsOnly, ServesOne, ServesExactly}
 use Rattle.rmi_cli.specs.Opening.{served_space, served_opening}
-use Rattle.rmi_cli.specs.declared.options.LeaseOptions.{LeaseOptions}
+use Rattle.rmi_words.specs.declared.options.LeaseOptions.{LeaseOptions}
 
 -- A dialogue on these terms, before which so much was drawn, is one on the same.
 dialogue_is : (terms terms2 : Terms) (drawn drawn2 : ℕ) (c : Transcript) (rest : Option (List ℕ)) (end : ConnEnd) → terms ≡ terms2 → drawn ≡ drawn2
@@ -66,6 +68,10 @@ serves_one seed given terms start now by s s2 numbers numbers2 end same none emp
   left = served.talks.goes.left;
   held = served.talks.goes.held;
   dialogue = dialogue_is terms (answer_terms seed given.binding) start.drawn 0 served.transcript now.wires.left end same none served.talks.dialogue;
+  once = dialogue_invokes (answer_terms seed given.binding) 0 served.transcript now.wires.left end
+      (dialogue_is terms (answer_terms seed given.binding) start.drawn 0 served.transcript now.wires.left end same none served.talks.dialogue);
+  complete = dialogue_completes (answer_terms seed given.binding) 0 start.wires.left served.transcript now.wires.left end served.talks.goes.left
+      (dialogue_is terms (answer_terms seed given.binding) start.drawn 0 served.transcript now.wires.left end same none served.talks.dialogue);
   only = only_is terms seed given.binding start now served.transcript end same none served.settles;
   given = served.talks.goes.led.given;
   events = s2.events;
@@ -92,6 +98,8 @@ memory_at_once seed options start given = record {
   left = sym (with_front-nothing start.left);
   held = sym (with_end-nothing start.held);
   dialogue = (nothing, bytes_taken [], tt, refl, inl ([], refl, inl refl, refl));
+  once = dialogue_invokes (answer_terms seed options.binding) 0 (bytes_taken []) start.left OutOfMemory (nothing, bytes_taken [], tt, refl, inl ([], refl, inl refl, refl));
+  complete = λ unfailed opening sents input told whole finds. inr refl;
   only = λ other rest end t t2 told dialogue settled settled2 answers. absurd settled2;
   given = Gave-nothing given;
   events = sample_events (served_space seed options);

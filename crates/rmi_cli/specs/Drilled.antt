@@ -12,8 +12,8 @@ use Rattle.journal.specs.Written.{journal_text}
 use Rattle.drill.specs.Rounds.{drill_config, drill_events}
 use Rattle.rmi_cli.specs.Replay.{AllTaken}
 use Rattle.rmi_cli.specs.Told.{Reported, TellsExactly, TellsEnd}
-use Rattle.rmi_cli.specs.declared.words.DrillText.{DrillText}
-use Rattle.rmi_cli.specs.declared.words.DrillText.TheVariants.{Summary, Journal}
+use Rattle.rmi_words.specs.declared.command.DrillText.{DrillText}
+use Rattle.rmi_words.specs.declared.command.DrillText.TheVariants.{Summary, Journal}
 use Rattle.rmi_cli.specs.declared.end.RunEnd.{RunEnd}
 use Rattle.rmi_cli.specs.declared.end.RunEnd.TheVariants.{Done, Usage, Answered, BadLine, Refused as RefusedTurn, TooLarge, NotShown, ListenFault, AcceptFault, ReadFault, WriteFault, OutOfMemory}
 
@@ -38,7 +38,7 @@ pub record IsStopped (seed rounds : ℕ) : Type 0 where
   pub cause : Refused
   pub events_are : drill_events seed rounds ≡ front ++ event ∷ rest
   pub taken : AllTaken drill_config [] front
-  pub refused : refusal limits drill_config (places drill_config front) event ≡ Some cause
+  pub refused : refusal (limits drill_config) drill_config (places drill_config front) event ≡ Some cause
 
 -- Why a drill's events were not all taken; want of memory says nothing of it.
 abbrev pub DrillStops : ℕ → ℕ → Refused → Type 0

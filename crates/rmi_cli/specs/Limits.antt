@@ -1,9 +1,9 @@
 -- The limits of what commands are told.
 use Rattle.std.specs.Prelude.{◌≤◌}
-use Rattle.rmi_cli.specs.Options.{IsInRange, IsServeInRange}
-use Rattle.rmi_cli.specs.declared.words.Command.{Command}
-use Rattle.rmi_cli.specs.declared.words.Command.TheVariants.{Answer, Serve, Replay, Show, Drill}
-use Rattle.rmi_cli.specs.declared.numbers.TheConstants.{MAX_ROUNDS}
+use Rattle.rmi_words.specs.Options.{IsInRange, IsServeInRange}
+use Rattle.rmi_words.specs.declared.command.Command.{Command}
+use Rattle.rmi_words.specs.declared.command.Command.TheVariants.{Answer, Serve, Replay, Show, Drill, World, Class, Help}
+use Rattle.rmi_words.specs.declared.numbers.TheConstants.{MAX_ROUNDS}
 
 -- What the command is told is in its limits.
 abbrev pub IsInLimits : Command → Type 0
@@ -12,3 +12,6 @@ IsInLimits (Serve serve) = IsServeInRange serve
 IsInLimits Replay = Unit {0}
 IsInLimits Show = Unit {0}
 IsInLimits (Drill text seed rounds) = rounds ≤ MAX_ROUNDS
+IsInLimits World = Unit {0}
+IsInLimits (Class output) = Unit {0}
+IsInLimits (Help topic) = Unit {0}

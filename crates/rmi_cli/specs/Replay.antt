@@ -14,7 +14,7 @@ use Rattle.rmi_cli.specs.declared.outlines.ReplayFault.TheVariants.{BadLine, Ref
 
 -- After the history h the event is taken: there is no cause to refuse it.
 abbrev pub EventIsTaken : SpaceConfig → List Event → Event → Type 0
-EventIsTaken config h e = refusal limits config (places config h) e ≡ None
+EventIsTaken config h e = refusal (limits config) config (places config h) e ≡ None
 
 -- These lines spell events that are taken, one after another, after the history h.
 abbrev pub TakesLines : SpaceConfig → List Event → List Event → List ℕ → Type 0
@@ -35,7 +35,7 @@ FirstLineIsBad config lines = (lines ≢ []) × ((e : Event) → BeginsWith conf
 abbrev pub ReplayStops : SpaceConfig → List Event → List ℕ → ℕ → Result (Unit {0}) ReplayFault → Type 0
 ReplayStops config h lines number (Ok _) = lines ≡ []
 ReplayStops config h lines number (Err (BadLine line)) = (lines ≢ []) × ((e : Event) → BeginsWith config lines e → ⊥) × (line ≡ number)
-ReplayStops config h lines number (Err RefusedTurn) = (e : Event) × BeginsWith config lines e × ((cause : Refused) × (refusal limits config (places config h) e ≡ Some cause))
+ReplayStops config h lines number (Err RefusedTurn) = (e : Event) × BeginsWith config lines e × ((cause : Refused) × (refusal (limits config) config (places config h) e ≡ Some cause))
 ReplayStops config h lines number (Err OutOfMemory) = Unit {0}
 
 -- After the history h these lines, the first of which has this number, are taken up to a stop, which leaves the history h_after.
@@ -81,7 +81,7 @@ IsBadLine input number =
 abbrev pub IsTurnRefused : List ℕ → Type 0
 IsTurnRefused input =
     (config : SpaceConfig) × (events : List Event) × (rest : List ℕ) × IsJournalUpTo input config events rest
-    × ((e : Event) × BeginsWith config rest e × ((cause : Refused) × (refusal limits config (places config events) e ≡ Some cause)))
+    × ((e : Event) × BeginsWith config rest e × ((cause : Refused) × (refusal (limits config) config (places config events) e ≡ Some cause)))
 
 -- What a replay of an input answers.
 abbrev pub Replays : List ℕ → Result (List ℕ) ReplayFault → Type 0

@@ -9,6 +9,7 @@ use Rattle.sample_app.specs.Kinds.{sample_kinds}
 use Rattle.sample_app.specs.declared.crew.SampleHand.{SampleHand}
 use Rattle.conn_server.specs.Reports.{IsLinkOf, ServesLinks}
 use Rattle.conn_server.specs.declared.accept_loop.Stop.{Stop}
+use Rattle.conn_server.specs.declared.admission.LostLink.{LostLink}
 use Rattle.conn_server.specs.declared.accept_loop.Stop.TheVariants as stops
 use Rattle.conn_server.specs.declared.link_task.LinkReport.{LinkReport}
 use Rattle.conn_server.specs.declared.plan.ServePlan.{ServePlan}
@@ -16,7 +17,7 @@ use Rattle.conn_server.specs.declared.server.Report.{Report}
 use Rattle.rmi_cli.specs.Loopback.{loopback_host}
 use Rattle.rmi_cli.specs.Opening.{served_opening}
 use Rattle.rmi_cli.specs.Told.{Reported, TellsEnd}
-use Rattle.rmi_cli.specs.declared.options.ServeWords.{ServeWords}
+use Rattle.rmi_words.specs.declared.options.ServeWords.{ServeWords}
 use Rattle.rmi_cli.specs.declared.end.RunEnd.{RunEnd}
 use Rattle.rmi_cli.specs.declared.end.RunEnd.TheVariants.{Done, ListenFault, AcceptFault, WriteFault, OutOfMemory}
 
@@ -25,9 +26,9 @@ abbrev pub serve_plan : List ℕ → ServeWords → ServePlan
 serve_plan seed serve = record { count = serve.count; host = loopback_host; port = pos serve.port; binding = serve.options.binding; seed = seed }
 
 -- What is told of a link whose calls a hand of the sample does, by what its source, its sink and its clock show and by what the server is told. A
--- hand tells neither its calls nor the numbers, which all hands share.
+-- hand tells its connection's number, and neither its calls nor the numbers, which all hands share.
 abbrev pub IsSampleLink : {I O T R : Type 0} → (I → ReadHalf) → (O → WriteHalf) → (T → Option (List ℕ)) → ServePlan → ℕ → Accepted × Asked → LinkReport I O T (SampleHand R) → Type 0
-IsSampleLink read_half write_half given plan = IsLinkOf read_half write_half given (λ hand. hand.calls) (λ hand. None) (λ hand. None) May Moves sample_kinds plan
+IsSampleLink read_half write_half given plan = IsLinkOf read_half write_half given (λ hand. record { calls = hand.calls; seen = None; state = None; number = hand.by }) May Moves sample_kinds plan
 
 -- A front of these bytes, and not all, was written.
 abbrev pub WroteLess : Option (List ℕ) → Option (List ℕ) → List ℕ → Type 0
@@ -63,10 +64,10 @@ ListensAlone port old new (Some served) = new.ports ≡ with_next old.ports (loo
 
 -- The run of `serve` by its seed and words, and by what it left as served, which tells of the links' sources and sinks as they are left; and the end
 -- that is told, where the output had failed so often before and after. Nothing was read.
-pub record Serving {I O T H : Type 0} (IsLink : ℕ → Accepted × Asked → LinkReport I O T H → Type 0) (seed : List ℕ) (serve : ServeWords) (served : Option (Report I O T H))
+pub record Serving {I O T H : Type 0} (IsLink : ℕ → Accepted × Asked → LinkReport I O T H → Type 0) (IsLost : Accepted → LostLink I O T → Type 0) (seed : List ℕ) (serve : ServeWords) (served : Option (Report I O T H))
     (log_before log_after : Listening) (old new : Wires) (faults faults_after : ℕ) (told : Reported) : Type 0 where
   pub alone : ListensAlone serve.port log_before log_after served
-  pub links : IfSome served (ServesLinks IsLink (served_opening seed serve.options) serve.count log_before.accepted log_after.accepted)
+  pub links : IfSome served (ServesLinks IsLink IsLost (served_opening seed serve.options) serve.count log_before.accepted log_after.accepted)
   pub end : RunEnd
   pub ends : ServeEnds old.held new.held faults faults_after served end
   pub tells : TellsEnd told end

@@ -33,7 +33,7 @@ IsTakenTo config h e h_after = EventIsTaken config h e × (h_after ≡ with_even
 -- Why the event is not taken after the history h; want of memory says nothing of it.
 abbrev pub Halts : SpaceConfig → List Event → Event → ReplayFault → Type 0
 Halts config h e (BadLine line) = ⊥
-Halts config h e RefusedTurn = (cause : Refused) × (refusal limits config (places config h) e ≡ Some cause)
+Halts config h e RefusedTurn = (cause : Refused) × (refusal (limits config) config (places config h) e ≡ Some cause)
 Halts config h e OutOfMemory = Unit {0}
 
 -- What a refused turn ends a replay with.

@@ -2,6 +2,8 @@
 use Rattle.std.specs.Prelude.{◌≡◌, ◌≢◌, ℕ, ◌<◌, ◌⊎◌, List, [], ◌∷◌, ◌++◌, length, take, Option}
 use Rattle.wire_io.specs.Wire.{WriteHalf, with_end, Rose}
 use Rattle.rmi_cli.specs.Line.{line_of, status_of_run}
+use Rattle.rmi_words.specs.declared.command.WordsFault.{WordsFault}
+use Rattle.rmi_words.specs.declared.command.WordsFault.TheVariants as words
 use Rattle.rmi_cli.specs.declared.end.RunEnd.{RunEnd}
 use Rattle.rmi_cli.specs.declared.end.RunEnd.TheVariants.{Usage, Answered, Done, BadLine, Refused, TooLarge, NotShown, ListenFault, AcceptFault, ReadFault, WriteFault, OutOfMemory}
 
@@ -51,3 +53,12 @@ TellsExactly told end = (told.status ≡ status_of_run end) × Took told (told_l
 -- So an end is told; where it has a line for which there is no memory, want of memory is told in its place.
 abbrev pub TellsEnd : Reported → RunEnd → Type 0
 TellsEnd told end = TellsExactly told end ⊎ ((end ≢ Done) × TellsExactly told OutOfMemory)
+
+-- How a run ends where the words gave no command.
+abbrev pub end_of_words : WordsFault → RunEnd
+end_of_words words.Usage = Usage
+end_of_words words.OutOfMemory = OutOfMemory
+
+-- It is told that the words are no command line, or that there was no memory to read them.
+abbrev pub TellsNoCommand : Reported → Type 0
+TellsNoCommand told = TellsExactly told Usage ⊎ TellsExactly told OutOfMemory

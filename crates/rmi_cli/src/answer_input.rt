@@ -6,15 +6,15 @@ ghost use Rattle.system_objects.specs.Terms.{terms_of};
 ghost use Rattle.sample_app.specs.Kinds.{sample_kinds};
 ghost use Rattle.rmi_cli.specs.Answer.{answer_terms, ServesOne, ServesExactly};
 ghost use Rattle.rmi_cli.specs.Opening.{served_opening};
-ghost use Rattle.rmi_cli.specs.Options.{IsInRange};
+ghost use Rattle.rmi_words.specs.Options.{IsInRange};
 
 use crate::loopback::loopback_host;
 use crate::opening::opened_space;
-use crate::options::LeaseOptions;
 use call_dispatch::{Book, ConnEnd, Setup, serve_connection};
 use conn_server::plan::{low_half, moment_of};
 use object_ids::UidDraw;
 use ports::DirectPort;
+use rmi_words::LeaseOptions;
 use sample_app::{SampleWorker, sample_book};
 use space::Space;
 use std::alloc::{AllocError, Global};

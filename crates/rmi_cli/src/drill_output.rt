@@ -1,16 +1,16 @@
 //! `drill` and `journal` over the program's output.
-ghost use Rattle.std.specs.Prelude.{◌≡◌, ◌≢◌, ◌≤◌, IfOk, IfErr};
+ghost use Rattle.std.specs.Prelude.{◌≡◌, ◌≢◌, ◌≤◌, true, IfOk, IfErr};
 ghost use Rattle.wire_io.specs.Wire.{Rose};
 ghost use Rattle.space.specs.Built.{space_of};
 ghost use Rattle.drill.specs.Rounds.{drill_config, drill_events};
 ghost use Rattle.rmi_cli.specs.Drilled.{text_of, drill_text, TakesAll, DrillStops, end_of_refused, DrillEnds};
 ghost use Rattle.rmi_cli.specs.Line.{status_of_run};
-ghost use Rattle.rmi_cli.specs.declared.numbers.TheConstants.{MAX_ROUNDS};
+ghost use Rattle.rmi_words.specs.declared.numbers.TheConstants.{MAX_ROUNDS};
 
 use crate::end::RunEnd;
-use crate::words::DrillText;
 use drill::drill;
 use history::Refused;
+use rmi_words::DrillText;
 use sequence::ByteList;
 use space::{Space, journal, summary};
 use std::alloc::{AllocError, Global};
@@ -74,6 +74,7 @@ fn end_of_refused(refused: Refused) -> RunEnd
 
 /// This text of a space.
 fn text_of(alloc: Global, space: &Space, text: DrillText) -> Result<ByteList, AllocError>
+    requires { space.now.configuration.stored ≡ true }
     ensures { IfOk result (λ written. written ≡ text_of text space.now.configuration space.now.events) }
 {
     match text {

@@ -16,9 +16,9 @@ pub enum RunEnd {
     Answered(ConnEnd),
     /// All was done. No line tells it.
     Done,
-    /// The line of this number, from 1, is none of a journal.
+    /// The line of this number, from 1, is none of a journal, of a world's script, or of a class outline.
     BadLine { line: u64 },
-    /// A turn of the journal was refused at a limit of the space.
+    /// A turn of the journal, or a step of the script, was refused at a limit, or the class has too many fields to describe.
     Refused,
     /// The input has more bytes than this limit.
     TooLarge { limit: u64 },

@@ -19,6 +19,6 @@ pub struct Host<I, O, E, T, L: Listener, H> {
     pub listener: L,
     /// Four words by chance, from which identifiers are made that differ from those of other runs.
     pub seed: [u64; 4],
-    /// What was served: `None` before, and where `serve` comes to no connections.
+    /// What the run served: `None` after another command, and where `serve` comes to no connections. What is here before is dropped.
     pub served: Option<Report<L::In, L::Out, L::Ticks, H>>,
 }

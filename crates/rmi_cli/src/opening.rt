@@ -1,11 +1,11 @@
 //! The sample space that connections are served over.
 ghost use Rattle.std.specs.Prelude.{◌≡◌, IfOk};
 ghost use Rattle.rmi_cli.specs.Opening.{served_space, served_opening};
-ghost use Rattle.rmi_cli.specs.Options.{IsInRange};
+ghost use Rattle.rmi_words.specs.Options.{IsInRange};
 
-use crate::options::LeaseOptions;
 use conn_server::plan::{low_half, moment_of};
 use object_ids::Uid;
+use rmi_words::LeaseOptions;
 use sample_app::sample_space;
 use space::{Space, SpaceConfig};
 use std::alloc::{AllocError, Global};
@@ -37,5 +37,6 @@ fn config_of(seed: &[u64; 4], options: LeaseOptions) -> SpaceConfig
             time: moment_of(seed[3]) as i64,
             count: 0,
         },
+        stored: true,
     }
 }

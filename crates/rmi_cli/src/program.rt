@@ -1,28 +1,35 @@
 //! All that the program does.
-ghost use Rattle.std.specs.Prelude.{◌≡◌, ◌≢◌, ◌↔◌, ◌⊎◌, ℕ};
+ghost use Rattle.std.specs.Prelude.{◌≡◌, ◌≢◌, ◌⊎◌, ℕ, None};
 ghost use Rattle.wire_io.specs.Wire.{Rose, wires};
 ghost use Rattle.rmi_cli.specs.Answer.{Answers, AnswersExactly};
-ghost use Rattle.rmi_cli.specs.Command.{AskFor};
+ghost use Rattle.rmi_words.specs.Command.{AskFor};
 ghost use Rattle.rmi_cli.specs.Drilled.{Drills, DrillsExactly};
+ghost use Rattle.rmi_cli.specs.Helped.{Helps};
 ghost use Rattle.rmi_cli.specs.Limits.{IsInLimits};
 ghost use Rattle.rmi_cli.specs.Line.{status_of_run};
+ghost use Rattle.rmi_cli.specs.Printing.{PrintsClass, PrintsExactly};
 ghost use Rattle.rmi_cli.specs.Replayed.{ReplaysInput, ReplaysExactly};
+ghost use Rattle.conn_server.specs.Stops.{IsLostLink};
 ghost use Rattle.rmi_cli.specs.ServedLinks.{IsSampleLink, Serving, serve_plan};
 ghost use Rattle.rmi_cli.specs.Shown.{ShowsInput, ShowsExactly};
-ghost use Rattle.rmi_cli.specs.Told.{told_by, TellsExactly, TellsEnd};
-ghost use Rattle.rmi_cli.specs.declared.end.RunEnd.{RunEnd as RunEnds};
-ghost use Rattle.rmi_cli.specs.declared.words.Command.{Command as Commands};
-ghost use Rattle.rmi_cli.specs.declared.words.DrillText.{DrillText as DrillTexts};
+ghost use Rattle.rmi_cli.specs.Told.{told_by, end_of_words, TellsExactly, TellsEnd, TellsNoCommand};
+ghost use Rattle.rmi_cli.specs.Worlds.{MakesWorld, MakesWorldExactly, PrintsKeptWorld};
+ghost use Rattle.rmi_words.specs.declared.command.ClassOutput.{ClassOutput as ClassOutputs};
+ghost use Rattle.rmi_words.specs.declared.command.Command.{Command as Commands};
+ghost use Rattle.rmi_words.specs.declared.command.DrillText.{DrillText as DrillTexts};
+ghost use Rattle.rmi_words.specs.declared.command.HelpTopic.{HelpTopic as Topics};
 
 use crate::answer_input::answer_input;
+use crate::class_input::print_class;
 use crate::drill_output::write_drill;
 use crate::end::RunEnd;
+use crate::help_output::write_help;
 use crate::host::Host;
 use crate::journal_input::replay_input;
-use crate::options::{LeaseOptions, ServeWords};
 use crate::serve_input::serve_input;
 use crate::stream_input::show_input;
-use crate::words::{Command, Words};
+use crate::world_input::print_world;
+use rmi_words::{Command, LeaseOptions, ServeWords, Words, WordsFault};
 use sample_app::SampleHand;
 use std::alloc::Global;
 use std::sync::Wait;
@@ -38,7 +45,7 @@ use wire_io::source::Source;
 /// | status | comes |
 /// |---|---|
 /// | 0 | the command ended well |
-/// | 1 | exactly where the words are no command line; nothing is read or written then |
+/// | 1 | only where the words are no command line; it, or 5, comes wherever they are none, and nothing is read or written then |
 /// | 2 | the input is not what the command reads |
 /// | 3 | only where reading the input failed, or at `serve` the listener |
 /// | 4 | only where writing the output failed |
@@ -54,11 +61,13 @@ pub fn run<'t, R: Threads + Wait + Sync, I: Source, O: Sink, E: Sink, T: Clock, 
     words: &Words,
     host: &mut Host<I, O, E, T, L, SampleHand<'t, R>>,
 ) -> u8
-    // Other words are no command line.
-    ensures usage { (result ≡ 1) ↔ ((command : Commands) → AskFor words.now command → ⊥) }
-    ensures untouched { result ≡ 1 → ((I.half host.new.input).left ≡ (I.half host.old.input).left)
+    // Words that ask for nothing are no command line: that is told, with the status 1, or want of memory to read them, with the status 5.
+    ensures usage { result ≡ 1 → (command : Commands) → AskFor words.now command → ⊥ }
+    ensures no_command { ((command : Commands) → AskFor words.now command → ⊥)
+        → TellsNoCommand (told_by E.half host.old.errors host.new.errors result) }
+    ensures untouched { ((command : Commands) → AskFor words.now command → ⊥)
+        → ((I.half host.new.input).left ≡ (I.half host.old.input).left)
         × ((O.half host.new.output).held ≡ (O.half host.old.output).held) }
-    ensures usage_line { result ≡ 1 → TellsExactly (told_by E.half host.old.errors host.new.errors result) RunEnds.Usage }
 
     // `answer` serves one connection over a space of its own, on the options that the words give: what was taken, done and written is a dialogue, whose
     // end is told.
@@ -79,6 +88,7 @@ pub fn run<'t, R: Threads + Wait + Sync, I: Source, O: Sink, E: Sink, T: Clock, 
     // and the end is told. Nothing is read.
     ensures serves { (serve : ServeWords) → AskFor words.now (Command.Serve serve) → Serving
         (IsSampleLink L.In.half L.Out.half L.Ticks.given (serve_plan host.old.seed serve))
+        (IsLostLink L.In.half L.Out.half L.Ticks.given)
         host.old.seed serve host.new.served (L.listening host.old.listener) (L.listening host.new.listener)
         (wires I.half O.half host.old.input host.old.output)
         (wires I.half O.half host.new.input host.new.output)
@@ -116,10 +126,44 @@ pub fn run<'t, R: Threads + Wait + Sync, I: Source, O: Sink, E: Sink, T: Clock, 
         (wires I.half O.half host.new.input host.new.output)
         (told_by E.half host.old.errors host.new.errors result) }
 
-    // No other command asks the clock, none but `serve` the listener or changes what was served, and none changes the seed.
+    // `world` takes the whole input as a script, and writes the end of the world that its steps make, or says which line is bad, or that a step is
+    // refused.
+    ensures world { AskFor words.now Command.World → MakesWorld
+        (wires I.half O.half host.old.input host.old.output)
+        (wires I.half O.half host.new.input host.new.output)
+        (told_by E.half host.old.errors host.new.errors result) }
+    ensures world_exact { AskFor words.now Command.World → MakesWorldExactly
+        (wires I.half O.half host.old.input host.old.output)
+        (wires I.half O.half host.new.input host.new.output)
+        (told_by E.half host.old.errors host.new.errors result) }
+    // Where it ends well, each object that is promised to a client is exported in the world that is printed.
+    ensures promise { AskFor words.now Command.World → result ≡ 0 → PrintsKeptWorld
+        (wires I.half O.half host.old.input host.old.output)
+        (wires I.half O.half host.new.input host.new.output) }
+
+    // `suid`, `suidtext` and `describe` take the whole input as a class outline, and write the class's number, the text of which it is the hash, or its
+    // description, or say which line is bad, or that there are too many fields.
+    ensures class { (output : ClassOutputs) → AskFor words.now (Command.Class output) → PrintsClass output
+        (wires I.half O.half host.old.input host.old.output)
+        (wires I.half O.half host.new.input host.new.output)
+        (O.half host.old.output).faults (O.half host.new.output).faults
+        (told_by E.half host.old.errors host.new.errors result) }
+    ensures class_exact { (output : ClassOutputs) → AskFor words.now (Command.Class output) → PrintsExactly output
+        (wires I.half O.half host.old.input host.old.output)
+        (wires I.half O.half host.new.input host.new.output)
+        (told_by E.half host.old.errors host.new.errors result) }
+
+    // `help` writes the text of the table of commands, and reads nothing.
+    ensures help { (topic : Topics) → AskFor words.now (Command.Help topic) → Helps topic
+        (wires I.half O.half host.old.input host.old.output)
+        (wires I.half O.half host.new.input host.new.output)
+        (O.half host.old.output).faults (O.half host.new.output).faults
+        (told_by E.half host.old.errors host.new.errors result) }
+
+    // No other command asks the clock, none but `serve` the listener or leaves anything as served, and none changes the seed.
     ensures clock { ((options : LeaseOptions) → AskFor words.now (Command.Answer options) → ⊥) → T.given host.new.ticks ≡ T.given host.old.ticks }
     ensures network { ((serve : ServeWords) → AskFor words.now (Command.Serve serve) → ⊥) → host.new.listener ≡ host.old.listener }
-    ensures served { ((serve : ServeWords) → AskFor words.now (Command.Serve serve) → ⊥) → host.new.served ≡ host.old.served }
+    ensures served { ((serve : ServeWords) → AskFor words.now (Command.Serve serve) → ⊥) → host.new.served ≡ None }
     ensures seed { host.new.seed ≡ host.old.seed }
 
     // The outside's failures.
@@ -127,11 +171,26 @@ pub fn run<'t, R: Threads + Wait + Sync, I: Source, O: Sink, E: Sink, T: Clock, 
     ensures network_fault { (serve : ServeWords) → AskFor words.now (Command.Serve serve) → result ≡ 3 → Rose (L.listening host.old.listener).faults (L.listening host.new.listener).faults }
     ensures write_fault { result ≡ 4 → Rose (O.half host.old.output).faults (O.half host.new.output).faults }
 {
-    match words.command() {
-        Some(command) => obey(rt, alloc, command, host),
-        None => {
-            let _ = put_all(&mut host.errors, b"usage\n");
-            1
+    host.served = None;
+    match words.command(alloc) {
+        Ok(command) => obey(rt, alloc, command, host),
+        Err(fault) => report_words(&mut host.errors, fault),
+    }
+}
+
+/// Writes the line that tells why the words gave no command, and answers the status. It takes no memory.
+#[tactic(auto, using(crate::proofs::Telling::took))]
+fn report_words<E: Sink>(errors: &mut E, fault: WordsFault) -> u8
+    ensures { TellsExactly (told_by E.half errors.old errors.new result) (end_of_words fault) }
+{
+    match fault {
+        WordsFault::Usage => {
+            let _ = put_all(errors, b"usage\n");
+            RunEnd::Usage.status()
+        }
+        WordsFault::OutOfMemory => {
+            let _ = put_all(errors, b"out of memory\n");
+            RunEnd::OutOfMemory.status()
         }
     }
 }
@@ -157,6 +216,7 @@ fn obey<'t, R: Threads + Wait + Sync, I: Source, O: Sink, E: Sink, T: Clock, L: 
         (told_by E.half host.old.errors host.new.errors result) }
     ensures serves { (serve : ServeWords) → command ≡ Command.Serve serve → Serving
         (IsSampleLink L.In.half L.Out.half L.Ticks.given (serve_plan host.old.seed serve))
+        (IsLostLink L.In.half L.Out.half L.Ticks.given)
         host.old.seed serve host.new.served (L.listening host.old.listener) (L.listening host.new.listener)
         (wires I.half O.half host.old.input host.old.output)
         (wires I.half O.half host.new.input host.new.output)
@@ -185,6 +245,28 @@ fn obey<'t, R: Threads + Wait + Sync, I: Source, O: Sink, E: Sink, T: Clock, L: 
     ensures drill_exact { (text : DrillTexts) (seed rounds : ℕ) → command ≡ Command.Drill text seed rounds → DrillsExactly text seed rounds
         (wires I.half O.half host.old.input host.old.output)
         (wires I.half O.half host.new.input host.new.output)
+        (told_by E.half host.old.errors host.new.errors result) }
+    ensures world { command ≡ Command.World → MakesWorld
+        (wires I.half O.half host.old.input host.old.output)
+        (wires I.half O.half host.new.input host.new.output)
+        (told_by E.half host.old.errors host.new.errors result) }
+    ensures world_exact { command ≡ Command.World → MakesWorldExactly
+        (wires I.half O.half host.old.input host.old.output)
+        (wires I.half O.half host.new.input host.new.output)
+        (told_by E.half host.old.errors host.new.errors result) }
+    ensures class { (output : ClassOutputs) → command ≡ Command.Class output → PrintsClass output
+        (wires I.half O.half host.old.input host.old.output)
+        (wires I.half O.half host.new.input host.new.output)
+        (O.half host.old.output).faults (O.half host.new.output).faults
+        (told_by E.half host.old.errors host.new.errors result) }
+    ensures class_exact { (output : ClassOutputs) → command ≡ Command.Class output → PrintsExactly output
+        (wires I.half O.half host.old.input host.old.output)
+        (wires I.half O.half host.new.input host.new.output)
+        (told_by E.half host.old.errors host.new.errors result) }
+    ensures help { (topic : Topics) → command ≡ Command.Help topic → Helps topic
+        (wires I.half O.half host.old.input host.old.output)
+        (wires I.half O.half host.new.input host.new.output)
+        (O.half host.old.output).faults (O.half host.new.output).faults
         (told_by E.half host.old.errors host.new.errors result) }
     ensures clock { ((options : LeaseOptions) → command ≡ Command.Answer options → ⊥) → T.given host.new.ticks ≡ T.given host.old.ticks }
     ensures network { ((serve : ServeWords) → command ≡ Command.Serve serve → ⊥) → host.new.listener ≡ host.old.listener }
@@ -228,6 +310,18 @@ fn obey<'t, R: Threads + Wait + Sync, I: Source, O: Sink, E: Sink, T: Clock, L: 
         }
         Command::Drill { text, seed, rounds } => {
             let end = write_drill(alloc, &mut host.output, text, seed, rounds);
+            report_end(alloc, &mut host.errors, end)
+        }
+        Command::World => {
+            let end = print_world(alloc, &mut host.input, &mut host.output);
+            report_end(alloc, &mut host.errors, end)
+        }
+        Command::Class(output) => {
+            let end = print_class(alloc, &mut host.input, &mut host.output, output);
+            report_end(alloc, &mut host.errors, end)
+        }
+        Command::Help(topic) => {
+            let end = write_help(alloc, &mut host.output, topic);
             report_end(alloc, &mut host.errors, end)
         }
     }

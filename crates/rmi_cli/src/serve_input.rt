@@ -1,7 +1,8 @@
 //! `serve` over the program's listener and output.
-ghost use Rattle.std.specs.Prelude.{◌≡◌, ◌≢◌, ◌≤◌, length, IfOk, IfSome};
+ghost use Rattle.std.specs.Prelude.{◌≡◌, ◌≢◌, ◌≤◌, true, length, IfOk, IfSome};
 ghost use Rattle.mod_utf.specs.Utf.{utf};
 ghost use Rattle.conn_server.specs.Reports.{ServesLinks};
+ghost use Rattle.conn_server.specs.Stops.{IsLostLink};
 ghost use Rattle.conn_server.specs.declared.plan.TheConstants.{MAX_LINKS};
 ghost use Rattle.wire_io.specs.Wire.{Rose};
 ghost use Rattle.wire_io.specs.declared.limits.TheConstants.{MAX_HOST_BYTES};
@@ -10,15 +11,15 @@ ghost use Rattle.turn_lock.specs.Handles.{IsFresh, opening_of};
 ghost use Rattle.sample_app.specs.Kinds.{sample_kinds};
 ghost use Rattle.rmi_cli.specs.Line.{status_of_run};
 ghost use Rattle.rmi_cli.specs.Opening.{served_opening};
-ghost use Rattle.rmi_cli.specs.Options.{IsServeInRange};
+ghost use Rattle.rmi_words.specs.Options.{IsServeInRange};
 ghost use Rattle.rmi_cli.specs.ServedLinks.{serve_plan, IsSampleLink, ListensAlone, Printed, ServeEnds, end_after};
 
 use crate::end::RunEnd;
 use crate::loopback::loopback_host;
 use crate::opening::opened_space;
-use crate::options::ServeWords;
 use call_dispatch::Book;
 use conn_server::{Report, ServePlan, Stop, serve};
+use rmi_words::ServeWords;
 use sample_app::{SampleCrew, SampleHand, sample_book};
 use space::{Space, outline};
 use std::alloc::{AllocError, Global};
@@ -57,6 +58,7 @@ pub fn serve_input<'t, R: Threads + Wait + Sync, L: Listener, K: Sink>(
 ) -> ServeOutcome<L::In, L::Out, L::Ticks, SampleHand<'t, R>>
     requires { IsServeInRange words.now }
     ensures served { IfSome result.report (ServesLinks (IsSampleLink L.In.half L.Out.half L.Ticks.given (serve_plan seed.now words.now))
+        (IsLostLink L.In.half L.Out.half L.Ticks.given)
         (served_opening seed.now words.now.options) words.now.count (L.listening listener.old).accepted (L.listening listener.new).accepted) }
     ensures alone { ListensAlone words.now.port (L.listening listener.old) (L.listening listener.new) result.report }
     ensures ends { ServeEnds (K.half sink.old).held (K.half sink.new).held (K.half sink.old).faults (K.half sink.new).faults result.report result.end }
@@ -83,7 +85,9 @@ fn serve_on<'t, R: Threads + Wait + Sync, L: Listener, K: Sink>(
     requires few { parts.plan.count ≤ MAX_LINKS }
     requires host { length (utf parts.plan.host) ≤ MAX_HOST_BYTES }
     requires book { parts.book ≡ sample_kinds }
+    requires stored { (opening_of parts.lock).configuration.stored ≡ true }
     ensures served { IfSome result.report (ServesLinks (IsSampleLink L.In.half L.Out.half L.Ticks.given parts.entry.plan)
+        (IsLostLink L.In.half L.Out.half L.Ticks.given)
         (opening_of parts.entry.lock) parts.entry.plan.count (L.listening listener.old).accepted (L.listening listener.new).accepted) }
     ensures alone { ListensAlone port (L.listening listener.old) (L.listening listener.new) result.report }
     ensures ends { ServeEnds (K.half sink.old).held (K.half sink.new).held (K.half sink.old).faults (K.half sink.new).faults result.report result.end }
@@ -114,6 +118,7 @@ fn serve_links<'t, R: Threads + Wait + Sync, L: Listener>(
     requires host { length (utf parts.plan.host) ≤ MAX_HOST_BYTES }
     requires book { parts.book ≡ sample_kinds }
     ensures served { ServesLinks (IsSampleLink L.In.half L.Out.half L.Ticks.given parts.entry.plan)
+        (IsLostLink L.In.half L.Out.half L.Ticks.given)
         (opening_of parts.entry.lock) parts.entry.plan.count (L.listening listener.old).accepted (L.listening listener.new).accepted result }
     ensures ports { (L.listening listener.new).ports ≡ (L.listening listener.old).ports }
     ensures fault { result.stop ≡ Stop.AcceptFault → Rose (L.listening listener.old).faults (L.listening listener.new).faults }
@@ -138,6 +143,7 @@ fn nothing_served<I, O, T, H>(end: RunEnd) -> ServeOutcome<I, O, T, H>
 
 /// Writes the outline of the space that is left, and answers how that ended.
 fn print_outline<K: Sink>(alloc: Global, sink: &mut K, space: &Space) -> RunEnd
+    requires { space.now.configuration.stored ≡ true }
     ensures { Printed (K.half sink.old).held (K.half sink.new).held (K.half sink.old).faults (K.half sink.new).faults
         (outline space.now.configuration space.now.events) result }
 {

@@ -62,7 +62,7 @@ pub fn remove(bound: &mut BindingMap, units: &[u16]) -> Option<ObjId>
     bound.shift_remove(units)
 }
 
-/// How many names stand for an object.
+/// The number of names that stand for an object.
 pub fn count(bound: &BindingMap, object: &ObjId) -> usize
     ensures { result ≡ count_of (bindings_of bound.now.entries) object.now }
 {

@@ -14,7 +14,7 @@ use sequence::NameList;
 use std::alloc::{AllocError, Global};
 use std::marker::Model;
 
-/// Why a name is not bound.
+/// The reason why a name is not bound.
 #[derive(Clone, Copy, Debug, PartialEq, Eq)]
 pub enum NameFault {
     /// The name stands for an object.
@@ -145,14 +145,14 @@ impl Names {
         binding_map::bindings(alloc, &self.bound)
     }
 
-    /// How many names stand for an object. It takes no memory.
+    /// The number of names that stand for an object. It takes no memory.
     pub fn binds(&self, object: ObjId) -> u32
         ensures { result ≡ count_of self.now object }
     {
         binding_map::count(&self.bound, &object) as u32
     }
 
-    /// How many names are bound, at most 4,096. None of them stands twice or has more than 255 units.
+    /// The number of bound names, at most 4,096. None of them stands twice or has more than 255 units.
     pub fn len(&self) -> u32
         ensures value { result ≡ length self.now }
         ensures sound { IsRegistry self.now }
@@ -160,7 +160,7 @@ impl Names {
         self.bound.len() as u32
     }
 
-    /// Whether a name stands for an object.
+    /// True where a name stands for an object.
     pub fn is_bound(&self, name: &Name) -> bool
         ensures { result ≡ is_bound self.now name.now }
     {

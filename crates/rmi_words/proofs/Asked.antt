@@ -1,18 +1,18 @@
 -- What holds wherever words ask for a command.
-use Rattle.std.proofs.Common.{◌≡◌, ℕ, ◌≤◌, ◌<◌, ◌^◌, List, [], ◌∷◌, get_or, drop, Bool, true, false, true≢false, ◌==◌, Option, Some, None, codes, refl, ap, sym, subst, ◌∙◌, arith}
+use Rattle.std.proofs.Common.{◌≡◌, ℕ, ◌≤◌, ◌<◌, ◌^◌, List, [], ◌∷◌, get_or, drop, Bool, true, false, true≢false, ◌==◌, Option, Some, None, codes, if◌then◌else◌, refl, ap, sym, subst, ◌∙◌, arith}
 use Rattle.std.specs.Prelude.{slice_get}
-use Rattle.std.proofs.lemmas.Bool.Decides.{Decides-eqb}
 use Rattle.std.proofs.lemmas.Fmt.{decimal_injective}
-use Rattle.std.proofs.lemmas.Bool.{and_from}
-use Rattle.object_ids.specs.Same.{same_bytes}
 use Rattle.history.specs.declared.limits.TheConstants.{MAX_DURATION_MS}
 use Rattle.rmi_words.proofs.DrillWords.{one_drill}
+use Rattle.rmi_words.proofs.Naming.{IsOf, named_by, topic_in}
 use Rattle.rmi_words.specs.Command.{AskFor, IsAnswer, IsServe, IsWordOfDrill, word_of_text, words_of_topic}
 use Rattle.rmi_words.specs.Options.{AreGivenBy, IsInRange, IsServeInRange, IsBindingOf, IsDurationOf, SpellsUpTo}
+use Rattle.rmi_words.specs.Values.{name_of}
 use Rattle.rmi_words.specs.declared.options.ServeWords.{ServeWords}
 use Rattle.rmi_words.specs.declared.options.LeaseOptions.{LeaseOptions}
 use Rattle.rmi_words.specs.declared.command.Command.{Command}
-use Rattle.rmi_words.specs.declared.command.Command.TheVariants.{Answer, Serve, Replay, Show, Drill, Help}
+use Rattle.rmi_words.specs.declared.command.Command.TheVariants.{Answer, Serve, Replay, Show, Drill, World, Class, Help}
+use Rattle.rmi_words.specs.declared.command.ClassOutput.TheVariants as outputs
 use Rattle.rmi_words.specs.declared.command.HelpTopic.{HelpTopic}
 use Rattle.rmi_words.specs.declared.command.HelpTopic.TheVariants as topics
 use Rattle.rmi_words.specs.declared.command.DrillText.{DrillText}
@@ -74,32 +74,19 @@ same_options words a b x y =
     let ack = same_duration 300000 a.ack_ms b.ack_ms (slice_get words 2) x.ack y.ack in
     ap (λ x. options_with x a.lease_ms a.ack_ms) binding ∙ ap (λ n. options_with b.binding n a.ack_ms) lease ∙ ap (λ n. options_with b.binding b.lease_ms n) ack
 
--- the word that asks for a command
-abbrev first_of : Command → List ℕ
-first_of (Answer options) = codes "answer"
-first_of (Serve serve) = codes "serve"
-first_of Replay = codes "replay"
-first_of Show = codes "show"
-first_of (Drill text seed rounds) = word_of_text text
-first_of (Help topic) = codes "help"
-
-first_is : (words : List (List ℕ)) (command : Command) → AskFor words command → get_or words 0 [] ≡ first_of command
+first_is : (words : List (List ℕ)) (command : Command) → AskFor words command → get_or words 0 [] ≡ name_of command
 first_is words (Answer options) asked = ap (λ words. get_or words 0 []) asked.words_are
 first_is words (Serve serve) asked = ap (λ words. get_or words 0 []) asked.words_are
 first_is words Replay asked = ap (λ words. get_or words 0 []) asked
 first_is words Show asked = ap (λ words. get_or words 0 []) asked
+first_is words World asked = ap (λ words. get_or words 0 []) asked
 first_is words (Drill text seed rounds) asked = ap (λ words. get_or words 0 []) asked.words_are
+first_is words (Class output) asked = ap (λ words. get_or words 0 []) asked
 first_is words (Help topic) asked = ap (λ words. get_or words 0 []) asked
 
-same_bytes-self : (word : List ℕ) → same_bytes word word ≡ true
-same_bytes-self [] = refl
-same_bytes-self (x ∷ xs) = and_from (x == x) (same_bytes xs xs) ((Decides-eqb x x).1 refl) (same_bytes-self xs)
-
--- Two commands that begin with other words are not asked for by the same ones.
-apart : (words : List (List ℕ)) (a b : Command) → AskFor words a → AskFor words b → same_bytes (first_of a) (first_of b) ≡ false → ⊥
-apart words a b x y other =
-    let same : first_of a ≡ first_of b = sym (first_is words a x) ∙ first_is words b y in
-    true≢false (sym (same_bytes-self (first_of b)) ∙ subst (λ word. same_bytes word (first_of b) ≡ false) same other)
+-- Of two commands that the same words ask for, the second is of the first's word.
+same_name : (words : List (List ℕ)) (a b : Command) → AskFor words a → AskFor words b → IsOf (topic_in (name_of a)) b
+same_name words a b x y = named_by (name_of a) b (sym (first_is words b y) ∙ first_is words a x)
 
 same_answer : (words : List (List ℕ)) (a b : LeaseOptions) → IsAnswer a words → IsAnswer b words → a ≡ b
 same_answer words a b x y =
@@ -123,124 +110,48 @@ same_drill words text text2 seed rounds seed2 rounds2 x y =
     let seed_same = same.1 in
     let rounds_same = same.2 in cc
 
-differ : (a b : List ℕ) → a ≡ b → same_bytes a b ≡ false → ⊥
-differ a b e other = true≢false (sym (same_bytes-self b) ∙ subst (λ word. same_bytes word b ≡ false) e other)
-
 -- the word that a topic is asked for by, or none
 abbrev topic_word : HelpTopic → List ℕ
 topic_word topic = get_or (words_of_topic topic) 0 []
 
+topic_is : (topic : HelpTopic) → topic_in (topic_word topic) ≡ topic
+topic_is topics.All = refl
+topic_is topics.Answer = refl
+topic_is topics.Serve = refl
+topic_is topics.Replay = refl
+topic_is topics.Show = refl
+topic_is topics.Drill = refl
+topic_is topics.Journal = refl
+topic_is topics.World = refl
+topic_is topics.Suid = refl
+topic_is topics.SuidText = refl
+topic_is topics.Describe = refl
+topic_is topics.Help = refl
+
 same_topic : (a b : HelpTopic) → topic_word a ≡ topic_word b → a ≡ b
-same_topic topics.All topics.All e = refl
-same_topic topics.All topics.Answer e = absurd (differ _ _ e refl)
-same_topic topics.All topics.Serve e = absurd (differ _ _ e refl)
-same_topic topics.All topics.Replay e = absurd (differ _ _ e refl)
-same_topic topics.All topics.Show e = absurd (differ _ _ e refl)
-same_topic topics.All topics.Drill e = absurd (differ _ _ e refl)
-same_topic topics.All topics.Journal e = absurd (differ _ _ e refl)
-same_topic topics.All topics.Help e = absurd (differ _ _ e refl)
-same_topic topics.Answer topics.All e = absurd (differ _ _ e refl)
-same_topic topics.Answer topics.Answer e = refl
-same_topic topics.Answer topics.Serve e = absurd (differ _ _ e refl)
-same_topic topics.Answer topics.Replay e = absurd (differ _ _ e refl)
-same_topic topics.Answer topics.Show e = absurd (differ _ _ e refl)
-same_topic topics.Answer topics.Drill e = absurd (differ _ _ e refl)
-same_topic topics.Answer topics.Journal e = absurd (differ _ _ e refl)
-same_topic topics.Answer topics.Help e = absurd (differ _ _ e refl)
-same_topic topics.Serve topics.All e = absurd (differ _ _ e refl)
-same_topic topics.Serve topics.Answer e = absurd (differ _ _ e refl)
-same_topic topics.Serve topics.Serve e = refl
-same_topic topics.Serve topics.Replay e = absurd (differ _ _ e refl)
-same_topic topics.Serve topics.Show e = absurd (differ _ _ e refl)
-same_topic topics.Serve topics.Drill e = absurd (differ _ _ e refl)
-same_topic topics.Serve topics.Journal e = absurd (differ _ _ e refl)
-same_topic topics.Serve topics.Help e = absurd (differ _ _ e refl)
-same_topic topics.Replay topics.All e = absurd (differ _ _ e refl)
-same_topic topics.Replay topics.Answer e = absurd (differ _ _ e refl)
-same_topic topics.Replay topics.Serve e = absurd (differ _ _ e refl)
-same_topic topics.Replay topics.Replay e = refl
-same_topic topics.Replay topics.Show e = absurd (differ _ _ e refl)
-same_topic topics.Replay topics.Drill e = absurd (differ _ _ e refl)
-same_topic topics.Replay topics.Journal e = absurd (differ _ _ e refl)
-same_topic topics.Replay topics.Help e = absurd (differ _ _ e refl)
-same_topic topics.Show topics.All e = absurd (differ _ _ e refl)
-same_topic topics.Show topics.Answer e = absurd (differ _ _ e refl)
-same_topic topics.Show topics.Serve e = absurd (differ _ _ e refl)
-same_topic topics.Show topics.Replay e = absurd (differ _ _ e refl)
-same_topic topics.Show topics.Show e = refl
-same_topic topics.Show topics.Drill e = absurd (differ _ _ e refl)
-same_topic topics.Show topics.Journal e = absurd (differ _ _ e refl)
-same_topic topics.Show topics.Help e = absurd (differ _ _ e refl)
-same_topic topics.Drill topics.All e = absurd (differ _ _ e refl)
-same_topic topics.Drill topics.Answer e = absurd (differ _ _ e refl)
-same_topic topics.Drill topics.Serve e = absurd (differ _ _ e refl)
-same_topic topics.Drill topics.Replay e = absurd (differ _ _ e refl)
-same_topic topics.Drill topics.Show e = absurd (differ _ _ e refl)
-same_topic topics.Drill topics.Drill e = refl
-same_topic topics.Drill topics.Journal e = absurd (differ _ _ e refl)
-same_topic topics.Drill topics.Help e = absurd (differ _ _ e refl)
-same_topic topics.Journal topics.All e = absurd (differ _ _ e refl)
-same_topic topics.Journal topics.Answer e = absurd (differ _ _ e refl)
-same_topic topics.Journal topics.Serve e = absurd (differ _ _ e refl)
-same_topic topics.Journal topics.Replay e = absurd (differ _ _ e refl)
-same_topic topics.Journal topics.Show e = absurd (differ _ _ e refl)
-same_topic topics.Journal topics.Drill e = absurd (differ _ _ e refl)
-same_topic topics.Journal topics.Journal e = refl
-same_topic topics.Journal topics.Help e = absurd (differ _ _ e refl)
-same_topic topics.Help topics.All e = absurd (differ _ _ e refl)
-same_topic topics.Help topics.Answer e = absurd (differ _ _ e refl)
-same_topic topics.Help topics.Serve e = absurd (differ _ _ e refl)
-same_topic topics.Help topics.Replay e = absurd (differ _ _ e refl)
-same_topic topics.Help topics.Show e = absurd (differ _ _ e refl)
-same_topic topics.Help topics.Drill e = absurd (differ _ _ e refl)
-same_topic topics.Help topics.Journal e = absurd (differ _ _ e refl)
-same_topic topics.Help topics.Help e = refl
+same_topic a b e = sym (topic_is a) ∙ ap topic_in e ∙ topic_is b
 
 -- Words ask for one command.
 pub asked_once : (words : List (List ℕ)) (a b : Command) → AskFor words a → AskFor words b → a ≡ b
-asked_once words (Answer options) (Answer options2) x y = ap Answer (same_answer words options options2 x y)
-asked_once words (Serve serve) (Serve serve2) x y = ap Serve (same_serve words serve serve2 x y)
-asked_once words Replay Replay x y = refl
-asked_once words Show Show x y = refl
-asked_once words (Drill text seed rounds) (Drill text2 seed2 rounds2) x y = same_drill words text text2 seed rounds seed2 rounds2 x y
-asked_once words (Answer options) (Serve serve2) x y = absurd (apart words (Answer options) (Serve serve2) x y refl)
-asked_once words (Answer options) Replay x y = absurd (apart words (Answer options) Replay x y refl)
-asked_once words (Answer options) Show x y = absurd (apart words (Answer options) Show x y refl)
-asked_once words (Answer options) (Drill Summary seed2 rounds2) x y = absurd (apart words (Answer options) (Drill Summary seed2 rounds2) x y refl)
-asked_once words (Answer options) (Drill Journal seed2 rounds2) x y = absurd (apart words (Answer options) (Drill Journal seed2 rounds2) x y refl)
-asked_once words (Serve serve) (Answer options2) x y = absurd (apart words (Serve serve) (Answer options2) x y refl)
-asked_once words (Serve serve) Replay x y = absurd (apart words (Serve serve) Replay x y refl)
-asked_once words (Serve serve) Show x y = absurd (apart words (Serve serve) Show x y refl)
-asked_once words (Serve serve) (Drill Summary seed2 rounds2) x y = absurd (apart words (Serve serve) (Drill Summary seed2 rounds2) x y refl)
-asked_once words (Serve serve) (Drill Journal seed2 rounds2) x y = absurd (apart words (Serve serve) (Drill Journal seed2 rounds2) x y refl)
-asked_once words Replay (Answer options2) x y = absurd (apart words Replay (Answer options2) x y refl)
-asked_once words Replay (Serve serve2) x y = absurd (apart words Replay (Serve serve2) x y refl)
-asked_once words Replay Show x y = absurd (apart words Replay Show x y refl)
-asked_once words Replay (Drill Summary seed2 rounds2) x y = absurd (apart words Replay (Drill Summary seed2 rounds2) x y refl)
-asked_once words Replay (Drill Journal seed2 rounds2) x y = absurd (apart words Replay (Drill Journal seed2 rounds2) x y refl)
-asked_once words Show (Answer options2) x y = absurd (apart words Show (Answer options2) x y refl)
-asked_once words Show (Serve serve2) x y = absurd (apart words Show (Serve serve2) x y refl)
-asked_once words Show Replay x y = absurd (apart words Show Replay x y refl)
-asked_once words Show (Drill Summary seed2 rounds2) x y = absurd (apart words Show (Drill Summary seed2 rounds2) x y refl)
-asked_once words Show (Drill Journal seed2 rounds2) x y = absurd (apart words Show (Drill Journal seed2 rounds2) x y refl)
-asked_once words (Drill Summary seed rounds) (Answer options2) x y = absurd (apart words (Drill Summary seed rounds) (Answer options2) x y refl)
-asked_once words (Drill Summary seed rounds) (Serve serve2) x y = absurd (apart words (Drill Summary seed rounds) (Serve serve2) x y refl)
-asked_once words (Drill Summary seed rounds) Replay x y = absurd (apart words (Drill Summary seed rounds) Replay x y refl)
-asked_once words (Drill Summary seed rounds) Show x y = absurd (apart words (Drill Summary seed rounds) Show x y refl)
-asked_once words (Drill Journal seed rounds) (Answer options2) x y = absurd (apart words (Drill Journal seed rounds) (Answer options2) x y refl)
-asked_once words (Drill Journal seed rounds) (Serve serve2) x y = absurd (apart words (Drill Journal seed rounds) (Serve serve2) x y refl)
-asked_once words (Drill Journal seed rounds) Replay x y = absurd (apart words (Drill Journal seed rounds) Replay x y refl)
-asked_once words (Drill Journal seed rounds) Show x y = absurd (apart words (Drill Journal seed rounds) Show x y refl)
-asked_once words (Help topic) (Help topic2) x y = ap Help (same_topic topic topic2 (ap (λ words. get_or words 1 []) (sym x ∙ y)))
-asked_once words (Answer options) (Help topic2) x y = absurd (apart words (Answer options) (Help topic2) x y refl)
-asked_once words (Help topic) (Answer options) x y = absurd (apart words (Help topic) (Answer options) x y refl)
-asked_once words (Serve serve) (Help topic2) x y = absurd (apart words (Serve serve) (Help topic2) x y refl)
-asked_once words (Help topic) (Serve serve) x y = absurd (apart words (Help topic) (Serve serve) x y refl)
-asked_once words Replay (Help topic2) x y = absurd (apart words Replay (Help topic2) x y refl)
-asked_once words (Help topic) Replay x y = absurd (apart words (Help topic) Replay x y refl)
-asked_once words Show (Help topic2) x y = absurd (apart words Show (Help topic2) x y refl)
-asked_once words (Help topic) Show x y = absurd (apart words (Help topic) Show x y refl)
-asked_once words (Drill Summary seed rounds) (Help topic2) x y = absurd (apart words (Drill Summary seed rounds) (Help topic2) x y refl)
-asked_once words (Help topic) (Drill Summary seed rounds) x y = absurd (apart words (Help topic) (Drill Summary seed rounds) x y refl)
-asked_once words (Drill Journal seed rounds) (Help topic2) x y = absurd (apart words (Drill Journal seed rounds) (Help topic2) x y refl)
-asked_once words (Help topic) (Drill Journal seed rounds) x y = absurd (apart words (Help topic) (Drill Journal seed rounds) x y refl)
+asked_once words (Answer options) b x y =
+    let of = same_name words (Answer options) b x y in
+    ap Answer (same_answer words options of.0 x (subst (AskFor words) of.1 y)) ∙ sym of.1
+asked_once words (Serve serve) b x y =
+    let of = same_name words (Serve serve) b x y in
+    ap Serve (same_serve words serve of.0 x (subst (AskFor words) of.1 y)) ∙ sym of.1
+asked_once words Replay b x y = sym (same_name words Replay b x y)
+asked_once words Show b x y = sym (same_name words Show b x y)
+asked_once words (Drill Summary seed rounds) b x y =
+    let of = same_name words (Drill Summary seed rounds) b x y in
+    same_drill words Summary Summary seed rounds of.0.0 of.0.1 x (subst (AskFor words) of.1 y) ∙ sym of.1
+asked_once words (Drill Journal seed rounds) b x y =
+    let of = same_name words (Drill Journal seed rounds) b x y in
+    same_drill words Journal Journal seed rounds of.0.0 of.0.1 x (subst (AskFor words) of.1 y) ∙ sym of.1
+asked_once words World b x y = sym (same_name words World b x y)
+asked_once words (Class outputs.Number) b x y = sym (same_name words (Class outputs.Number) b x y)
+asked_once words (Class outputs.Text) b x y = sym (same_name words (Class outputs.Text) b x y)
+asked_once words (Class outputs.Description) b x y = sym (same_name words (Class outputs.Description) b x y)
+asked_once words (Help topic) b x y =
+    let of = same_name words (Help topic) b x y in
+    let same : words ≡ codes "help" ∷ words_of_topic of.0 = subst (AskFor words) of.1 y in
+    ap Help (same_topic topic of.0 (ap (λ words. get_or words 1 []) (sym x ∙ same))) ∙ sym of.1

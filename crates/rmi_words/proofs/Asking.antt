@@ -9,19 +9,21 @@ use Rattle.std.proofs.lemmas.Str.Parse.{IsNumeralModel, not_in_digits, numerals_
 use Rattle.clap.specs.Walk.{Row, Text, first_of}
 use Rattle.history.specs.declared.limits.TheConstants.{MAX_DURATION_MS}
 use Rattle.journal.specs.Reading.{Finds}
-use Rattle.rmi_words.proofs.Found.{AreRead, answer_found, answer_read, answer_wrong, drill_found, drill_read, drill_wrong, first_is, help_found, help_read, help_wrong, journal_found, journal_read, journal_wrong, replay_found, replay_read, replay_wrong, serve_found, serve_read, serve_wrong, show_found, show_read, show_wrong}
-use Rattle.rmi_words.proofs.Places.{answer_ack, answer_binding, answer_lease, answer_passes, answer_rows, drill_n, drill_passes, drill_seed, drill_rows, help_command, help_passes, help_rows, journal_n, journal_passes, journal_seed, journal_rows, replay_passes, serve_ack, serve_binding, serve_count, serve_lease, serve_passes, serve_port, serve_rows, show_passes}
+use Rattle.rmi_words.proofs.Found.{AreRead, Takes, answer_takes, describe_takes, drill_takes, first_is, found, help_takes, journal_takes, read, replay_takes, serve_takes, show_takes, suid_takes, suidtext_takes, world_takes, wrong}
+use Rattle.rmi_words.proofs.Places.{answer_ack, answer_binding, answer_lease, answer_passes, bare, bare_passes, drill_n, drill_passes, drill_seed, help_command, help_passes, journal_n, journal_passes, journal_seed, rows_of, serve_ack, serve_binding, serve_count, serve_lease, serve_passes, serve_port}
 use Rattle.rmi_words.proofs.Walking.{ArePlain}
 use Rattle.rmi_words.specs.Command.{AskFor, AreInRange, IsAnswer, IsServe, IsWordOfDrill, word_of_text, words_of_topic}
+use Rattle.rmi_words.specs.Entries.{answer_entry, drill_entry, help_entry, journal_entry, serve_entry}
 use Rattle.rmi_words.specs.Options.{AreGivenBy, IsBindingOf, IsDurationOf, SpellsUpTo}
 use Rattle.rmi_words.specs.Program.{faults_in, found_in, is_option}
 use Rattle.rmi_words.specs.Values.{AreOptionsOf, IsCommandIn, IsCommandOf, IsDrillOf, IsServeOf, IsSmallOf, IsToldIn, Values, name_of}
 use Rattle.rmi_words.specs.declared.options.LeaseOptions.{LeaseOptions}
 use Rattle.rmi_words.specs.declared.options.ServeWords.{ServeWords}
 use Rattle.rmi_words.specs.declared.command.Command.{Command}
-use Rattle.rmi_words.specs.declared.command.Command.TheVariants.{Answer, Serve, Replay, Show, Drill, Help}
+use Rattle.rmi_words.specs.declared.command.Command.TheVariants.{Answer, Serve, Replay, Show, Drill, World, Class, Help}
 use Rattle.rmi_words.specs.declared.command.DrillText.{DrillText}
 use Rattle.rmi_words.specs.declared.command.DrillText.TheVariants.{Summary, Journal}
+use Rattle.rmi_words.specs.declared.command.ClassOutput.TheVariants as outputs
 use Rattle.rmi_words.specs.declared.command.HelpTopic.{HelpTopic}
 use Rattle.rmi_words.specs.declared.command.HelpTopic.TheVariants as topics
 
@@ -64,6 +66,10 @@ plain_topic topics.Replay = (refl, tt)
 plain_topic topics.Show = (refl, tt)
 plain_topic topics.Drill = (refl, tt)
 plain_topic topics.Journal = (refl, tt)
+plain_topic topics.World = (refl, tt)
+plain_topic topics.Suid = (refl, tt)
+plain_topic topics.SuidText = (refl, tt)
+plain_topic topics.Describe = (refl, tt)
 plain_topic topics.Help = (refl, tt)
 
 plain_drill : (seed rounds : ℕ) → AreInRange seed rounds → ArePlain (decimal seed ∷ decimal rounds ∷ [])
@@ -79,8 +85,12 @@ asked_plain words (Answer options) a = subst ArePlain (sym a.words_are) (refl, p
 asked_plain words (Serve serve) a = subst ArePlain (sym a.words_are) (refl, plain_serve serve a.port a.count a.rest a.told.port_is a.told.count_is a.told.options_are)
 asked_plain words Replay a = subst ArePlain (sym a) (refl, tt)
 asked_plain words Show a = subst ArePlain (sym a) (refl, tt)
+asked_plain words World a = subst ArePlain (sym a) (refl, tt)
 asked_plain words (Drill Summary seed rounds) a = subst ArePlain (sym a.words_are) (refl, plain_drill seed rounds a.in_range)
 asked_plain words (Drill Journal seed rounds) a = subst ArePlain (sym a.words_are) (refl, plain_drill seed rounds a.in_range)
+asked_plain words (Class outputs.Number) a = subst ArePlain (sym a) (refl, tt)
+asked_plain words (Class outputs.Text) a = subst ArePlain (sym a) (refl, tt)
+asked_plain words (Class outputs.Description) a = subst ArePlain (sym a) (refl, tt)
 asked_plain words (Help topic) a = subst ArePlain (sym a) (refl, plain_topic topic)
 
 pub any_plain : (words : List (List ℕ)) → ArePlain words → list_any is_option words ≡ false
@@ -107,22 +117,36 @@ topic_short topics.Replay = omega arith
 topic_short topics.Show = omega arith
 topic_short topics.Drill = omega arith
 topic_short topics.Journal = omega arith
+topic_short topics.World = omega arith
+topic_short topics.Suid = omega arith
+topic_short topics.SuidText = omega arith
+topic_short topics.Describe = omega arith
 topic_short topics.Help = omega arith
+
+right_alone : {name does example : List ℕ} → Takes (bare name does example) 0 0 → (words : List (List ℕ)) → words ≡ name ∷ [] → faults_in words ≡ []
+right_alone {name} {does} {example} t words is = ap faults_in is ∙ wrong (bare name does example) 0 0 t [] tt ∙ bare_passes name does example
+
+found_alone : {name does example : List ℕ} → Takes (bare name does example) 0 0 → (words : List (List ℕ)) → words ≡ name ∷ [] → found_in words ≡ Some (name, rows_of (bare name does example) [])
+found_alone {name} {does} {example} t words is = ap found_in is ∙ found (bare name does example) 0 0 t [] tt
 
 -- `clap` takes them.
 pub asked_right : (words : List (List ℕ)) (c : Command) → AskFor words c → faults_in words ≡ []
-asked_right words (Answer options) a = ap faults_in a.words_are ∙ answer_wrong a.rest (plain_options options a.rest a.options_are) ∙ answer_passes a.rest (omega arith) a.options_are.no_more
+asked_right words (Answer options) a = ap faults_in a.words_are ∙ wrong answer_entry 0 3 answer_takes a.rest (plain_options options a.rest a.options_are) ∙ answer_passes a.rest (omega arith) a.options_are.no_more
 asked_right words (Serve serve) a =
     let ws = a.port ∷ a.count ∷ a.rest in
-    ap faults_in a.words_are ∙ serve_wrong ws (plain_serve serve a.port a.count a.rest a.told.port_is a.told.count_is a.told.options_are)
+    ap faults_in a.words_are ∙ wrong serve_entry 2 5 serve_takes ws (plain_serve serve a.port a.count a.rest a.told.port_is a.told.count_is a.told.options_are)
     ∙ serve_passes ws (omega arith) (omega (arith, a.told.options_are.no_more))
-asked_right words Replay a = ap faults_in a ∙ replay_wrong [] tt ∙ replay_passes [] (omega arith) (omega arith)
-asked_right words Show a = ap faults_in a ∙ show_wrong [] tt ∙ show_passes [] (omega arith) (omega arith)
+asked_right words Replay a = right_alone replay_takes words a
+asked_right words Show a = right_alone show_takes words a
+asked_right words World a = right_alone world_takes words a
 asked_right words (Drill Summary seed rounds) a =
-    ap faults_in a.words_are ∙ drill_wrong (decimal seed ∷ decimal rounds ∷ []) (plain_drill seed rounds a.in_range) ∙ drill_passes (decimal seed ∷ decimal rounds ∷ []) (omega arith) (omega arith)
+    ap faults_in a.words_are ∙ wrong drill_entry 2 2 drill_takes (decimal seed ∷ decimal rounds ∷ []) (plain_drill seed rounds a.in_range) ∙ drill_passes (decimal seed ∷ decimal rounds ∷ []) (omega arith) (omega arith)
 asked_right words (Drill Journal seed rounds) a =
-    ap faults_in a.words_are ∙ journal_wrong (decimal seed ∷ decimal rounds ∷ []) (plain_drill seed rounds a.in_range) ∙ journal_passes (decimal seed ∷ decimal rounds ∷ []) (omega arith) (omega arith)
-asked_right words (Help topic) a = ap faults_in a ∙ help_wrong (words_of_topic topic) (plain_topic topic) ∙ help_passes (words_of_topic topic) (omega arith) (topic_short topic)
+    ap faults_in a.words_are ∙ wrong journal_entry 2 2 journal_takes (decimal seed ∷ decimal rounds ∷ []) (plain_drill seed rounds a.in_range) ∙ journal_passes (decimal seed ∷ decimal rounds ∷ []) (omega arith) (omega arith)
+asked_right words (Class outputs.Number) a = right_alone suid_takes words a
+asked_right words (Class outputs.Text) a = right_alone suidtext_takes words a
+asked_right words (Class outputs.Description) a = right_alone describe_takes words a
+asked_right words (Help topic) a = ap faults_in a ∙ wrong help_entry 0 1 help_takes (words_of_topic topic) (plain_topic topic) ∙ help_passes (words_of_topic topic) (omega arith) (topic_short topic)
 
 -- the values in rows
 abbrev values_in : List Row → Values
@@ -149,7 +173,7 @@ options_from options value ws b l k o = record {
 at : (name : List ℕ) (found rows : List Row) (x : Option (List ℕ)) → found ≡ rows → first_of name found ≡ x → first_of name rows ≡ x
 at name found rows x same is = ap (first_of name) (sym same) ∙ is
 
-answer_to : (options : LeaseOptions) (words ws : List (List ℕ)) (rows : List Row) → words ≡ codes "answer" ∷ ws → AreRead 0 3 (answer_rows ws) rows ws → AreOptionsOf options (values_in rows)
+answer_to : (options : LeaseOptions) (words ws : List (List ℕ)) (rows : List Row) → words ≡ codes "answer" ∷ ws → AreRead 0 3 (rows_of answer_entry ws) rows ws → AreOptionsOf options (values_in rows)
     → IsAnswer options words
 answer_to options words ws rows e r o = record {
   rest = ws;
@@ -160,7 +184,7 @@ answer_to options words ws rows e r o = record {
 small_to : (n : ℕ) (o : Option (List ℕ)) (w : List ℕ) → o ≡ Some w → IsSmallOf n o → SpellsUpTo 65535 n w
 small_to n o w is small = subst (IsSmallOf n) is small
 
-serve_to : (serve : ServeWords) (words ws : List (List ℕ)) (rows : List Row) → words ≡ codes "serve" ∷ ws → AreRead 2 5 (serve_rows ws) rows ws → IsServeOf serve (values_in rows)
+serve_to : (serve : ServeWords) (words ws : List (List ℕ)) (rows : List Row) → words ≡ codes "serve" ∷ ws → AreRead 2 5 (rows_of serve_entry ws) rows ws → IsServeOf serve (values_in rows)
     → IsServe serve words
 serve_to serve words [] rows e r o = absurd (omega (arith, r.some))
 serve_to serve words (a ∷ []) rows e r o = absurd (omega (arith, r.some))
@@ -207,27 +231,32 @@ module _ (words : List (List ℕ)) (plain : ArePlain words) (right : faults_in w
   named : (n : List ℕ) → p.0 ≡ n → (ws : List (List ℕ)) × (words ≡ n ∷ ws)
   named n e = let head = first_is words p plain right is in (head.0, head.1 ∙ ap (λ x. x ∷ head.0) e)
 
+  asked_alone : {name does example : List ℕ} → Takes (bare name does example) 0 0 → p.0 ≡ name → words ≡ name ∷ []
+  asked_alone {name} {does} {example} t e =
+      let h = named _ e in
+      h.1 ∙ ap (λ ws. name ∷ ws) (no_word h.0 (read (bare name does example) 0 0 t words h.0 p plain right is h.1).few)
+
   -- What is found is asked for.
   pub found_asked : (c : Command) → IsCommandOf p.0 c (values_in p.1) → AskFor words c
-  found_asked (Answer options) g = let h = named _ g.0 in answer_to options words h.0 p.1 h.1 (answer_read words h.0 p plain right is h.1) g.1
-  found_asked (Serve serve) g = let h = named _ g.0 in serve_to serve words h.0 p.1 h.1 (serve_read words h.0 p plain right is h.1) g.1
-  found_asked Replay g =
-      let h = named _ g.0 in
-      h.1 ∙ ap (λ ws. codes "replay" ∷ ws) (no_word h.0 (replay_read words h.0 p plain right is h.1).few)
-  found_asked Show g =
-      let h = named _ g.0 in
-      h.1 ∙ ap (λ ws. codes "show" ∷ ws) (no_word h.0 (show_read words h.0 p plain right is h.1).few)
+  found_asked (Answer options) g = let h = named _ g.0 in answer_to options words h.0 p.1 h.1 (read answer_entry 0 3 answer_takes words h.0 p plain right is h.1) g.1
+  found_asked (Serve serve) g = let h = named _ g.0 in serve_to serve words h.0 p.1 h.1 (read serve_entry 2 5 serve_takes words h.0 p plain right is h.1) g.1
+  found_asked Replay g = asked_alone replay_takes g.0
+  found_asked Show g = asked_alone show_takes g.0
+  found_asked World g = asked_alone world_takes g.0
   found_asked (Drill Summary seed rounds) g =
       let h = named _ g.0 in
-      let r = drill_read words h.0 p plain right is h.1 in
+      let r = read drill_entry 2 2 drill_takes words h.0 p plain right is h.1 in
       drill_to words h.0 _ (values_in p.1) seed rounds h.1 r.some r.few (at _ _ p.1 _ r.rows_are (drill_seed h.0 r.few)) (at _ _ p.1 _ r.rows_are (drill_n h.0 r.few)) g.1
   found_asked (Drill Journal seed rounds) g =
       let h = named _ g.0 in
-      let r = journal_read words h.0 p plain right is h.1 in
+      let r = read journal_entry 2 2 journal_takes words h.0 p plain right is h.1 in
       drill_to words h.0 _ (values_in p.1) seed rounds h.1 r.some r.few (at _ _ p.1 _ r.rows_are (journal_seed h.0 r.few)) (at _ _ p.1 _ r.rows_are (journal_n h.0 r.few)) g.1
+  found_asked (Class outputs.Number) g = asked_alone suid_takes g.0
+  found_asked (Class outputs.Text) g = asked_alone suidtext_takes g.0
+  found_asked (Class outputs.Description) g = asked_alone describe_takes g.0
   found_asked (Help topic) g =
       let h = named _ g.0 in
-      let r = help_read words h.0 p plain right is h.1 in
+      let r = read help_entry 0 1 help_takes words h.0 p plain right is h.1 in
       h.1 ∙ ap (λ ws. codes "help" ∷ ws) (same_short h.0 (words_of_topic topic) r.few (topic_short topic) (sym (at _ _ p.1 _ r.rows_are (help_command h.0 r.few)) ∙ g.1))
 
 -- The name and the rows that words of a command come to.
@@ -243,36 +272,40 @@ small_from n o w is small = subst (IsSmallOf n) (sym is) small
 pub asked_found : (words : List (List ℕ)) (c : Command) → AskFor words c → ComesTo words c
 asked_found words (Answer options) a =
     let plain = plain_options options a.rest a.options_are in let few = a.options_are.no_more in record {
-      rows = answer_rows a.rest;
-      is = ap found_in a.words_are ∙ answer_found a.rest plain;
-      told = options_from options (values_in (answer_rows a.rest)) a.rest (answer_binding a.rest few) (answer_lease a.rest few) (answer_ack a.rest few) a.options_are;
+      rows = rows_of answer_entry a.rest;
+      is = ap found_in a.words_are ∙ found answer_entry 0 3 answer_takes a.rest plain;
+      told = options_from options (values_in (rows_of answer_entry a.rest)) a.rest (answer_binding a.rest few) (answer_lease a.rest few) (answer_ack a.rest few) a.options_are;
     }
 asked_found words (Serve serve) a =
     let ws = a.port ∷ a.count ∷ a.rest in
     let few : length ws ≤ 5 = omega (arith, a.told.options_are.no_more) in record {
-      rows = serve_rows ws;
-      is = ap found_in a.words_are ∙ serve_found ws (plain_serve serve a.port a.count a.rest a.told.port_is a.told.count_is a.told.options_are);
+      rows = rows_of serve_entry ws;
+      is = ap found_in a.words_are ∙ found serve_entry 2 5 serve_takes ws (plain_serve serve a.port a.count a.rest a.told.port_is a.told.count_is a.told.options_are);
       told = record {
         port = small_from serve.port _ a.port (serve_port ws few) a.told.port_is;
         count = small_from serve.count _ a.count (serve_count ws few) a.told.count_is;
-        options = options_from serve.options (values_in (serve_rows ws)) a.rest (serve_binding ws few) (serve_lease ws few) (serve_ack ws few) a.told.options_are;
+        options = options_from serve.options (values_in (rows_of serve_entry ws)) a.rest (serve_binding ws few) (serve_lease ws few) (serve_ack ws few) a.told.options_are;
       };
     }
-asked_found words Replay a = record { rows = _; is = ap found_in a ∙ replay_found [] tt; told = tt }
-asked_found words Show a = record { rows = _; is = ap found_in a ∙ show_found [] tt; told = tt }
+asked_found words Replay a = record { rows = _; is = found_alone replay_takes words a; told = tt }
+asked_found words Show a = record { rows = _; is = found_alone show_takes words a; told = tt }
+asked_found words World a = record { rows = _; is = found_alone world_takes words a; told = tt }
 asked_found words (Drill Summary seed rounds) a = let ws = decimal seed ∷ decimal rounds ∷ [] in record {
-  rows = drill_rows ws;
-  is = ap found_in a.words_are ∙ drill_found ws (plain_drill seed rounds a.in_range);
+  rows = rows_of drill_entry ws;
+  is = ap found_in a.words_are ∙ found drill_entry 2 2 drill_takes ws (plain_drill seed rounds a.in_range);
   told = record { in_range = a.in_range; seed_is = drill_seed ws (omega arith); rounds_is = drill_n ws (omega arith) };
 }
 asked_found words (Drill Journal seed rounds) a = let ws = decimal seed ∷ decimal rounds ∷ [] in record {
-  rows = journal_rows ws;
-  is = ap found_in a.words_are ∙ journal_found ws (plain_drill seed rounds a.in_range);
+  rows = rows_of journal_entry ws;
+  is = ap found_in a.words_are ∙ found journal_entry 2 2 journal_takes ws (plain_drill seed rounds a.in_range);
   told = record { in_range = a.in_range; seed_is = journal_seed ws (omega arith); rounds_is = journal_n ws (omega arith) };
 }
+asked_found words (Class outputs.Number) a = record { rows = _; is = found_alone suid_takes words a; told = tt }
+asked_found words (Class outputs.Text) a = record { rows = _; is = found_alone suidtext_takes words a; told = tt }
+asked_found words (Class outputs.Description) a = record { rows = _; is = found_alone describe_takes words a; told = tt }
 asked_found words (Help topic) a = let ws = words_of_topic topic in record {
-  rows = help_rows ws;
-  is = ap found_in a ∙ help_found ws (plain_topic topic);
+  rows = rows_of help_entry ws;
+  is = ap found_in a ∙ found help_entry 0 1 help_takes ws (plain_topic topic);
   told = help_command ws (topic_short topic);
 }
 

@@ -4,6 +4,7 @@ pub mod Declaring
 mod DrillWords
 pub mod Found
 pub mod Levels
+pub mod Naming
 mod NotFound
 pub mod OneName
 pub mod Places

@@ -4,7 +4,9 @@ use Rattle.rmi_words.specs.Options.{AreGivenBy, SpellsUpTo}
 use Rattle.rmi_words.specs.declared.options.ServeWords.{ServeWords}
 use Rattle.rmi_words.specs.declared.options.LeaseOptions.{LeaseOptions}
 use Rattle.rmi_words.specs.declared.command.Command.{Command}
-use Rattle.rmi_words.specs.declared.command.Command.TheVariants.{Answer, Serve, Replay, Show, Drill, Help}
+use Rattle.rmi_words.specs.declared.command.Command.TheVariants.{Answer, Serve, Replay, Show, Drill, World, Class, Help}
+use Rattle.rmi_words.specs.declared.command.ClassOutput.{ClassOutput}
+use Rattle.rmi_words.specs.declared.command.ClassOutput.TheVariants as outputs
 use Rattle.rmi_words.specs.declared.command.DrillText.{DrillText}
 use Rattle.rmi_words.specs.declared.command.DrillText.TheVariants.{Summary, Journal}
 use Rattle.rmi_words.specs.declared.command.HelpTopic.{HelpTopic}
@@ -51,6 +53,12 @@ abbrev pub word_of_text : DrillText → List ℕ
 word_of_text Summary = codes "drill"
 word_of_text Journal = codes "journal"
 
+-- the word of what is printed of a class
+abbrev pub word_of_output : ClassOutput → List ℕ
+word_of_output outputs.Number = codes "suid"
+word_of_output outputs.Text = codes "suidtext"
+word_of_output outputs.Description = codes "describe"
+
 -- The words after `help` that name the commands to explain: none for all, or one command's.
 abbrev pub words_of_topic : HelpTopic → List (List ℕ)
 words_of_topic topics.All = []
@@ -60,6 +68,10 @@ words_of_topic topics.Replay = codes "replay" ∷ []
 words_of_topic topics.Show = codes "show" ∷ []
 words_of_topic topics.Drill = codes "drill" ∷ []
 words_of_topic topics.Journal = codes "journal" ∷ []
+words_of_topic topics.World = codes "world" ∷ []
+words_of_topic topics.Suid = codes "suid" ∷ []
+words_of_topic topics.SuidText = codes "suidtext" ∷ []
+words_of_topic topics.Describe = codes "describe" ∷ []
 words_of_topic topics.Help = codes "help" ∷ []
 
 -- These words ask for the command.
@@ -69,4 +81,6 @@ AskFor words (Serve serve) = IsServe serve words
 AskFor words Replay = IsWord words (codes "replay")
 AskFor words Show = IsWord words (codes "show")
 AskFor words (Drill text seed rounds) = IsWordOfDrill words (word_of_text text) seed rounds
+AskFor words World = IsWord words (codes "world")
+AskFor words (Class output) = IsWord words (word_of_output output)
 AskFor words (Help topic) = words ≡ codes "help" ∷ words_of_topic topic

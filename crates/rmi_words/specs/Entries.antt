@@ -39,7 +39,7 @@ abbrev pub binding_word : Word
 binding_word = free (codes "BINDING") (codes "whether clients may bind names: open or closed (closed)")
 
 abbrev pub lease_word : Word
-lease_word = free (codes "LEASE") (codes "how long a lease lasts, in milliseconds: 1 to 1099511627776 (600000)")
+lease_word = free (codes "LEASE") (codes "the longest lease that is granted, in milliseconds: 1 to 1099511627776 (600000)")
 
 abbrev pub ack_word : Word
 ack_word = free (codes "ACK") (codes "how long a returned reference waits for its acknowledgement, in milliseconds: 1 to 1099511627776 (300000)")
@@ -109,6 +109,38 @@ journal_entry = record {
   example = codes "rmi journal 1 1000 > journal.txt";
 }
 
+abbrev pub world_entry : Entry
+world_entry = record {
+  name = codes "world";
+  words = [];
+  does = codes "makes the steps of the script on the standard input between clients and one object table, and prints the end";
+  example = codes "rmi world < script.txt";
+}
+
+abbrev pub suid_entry : Entry
+suid_entry = record {
+  name = codes "suid";
+  words = [];
+  does = codes "prints the serialVersionUID that Java computes for the class that the standard input outlines";
+  example = codes "rmi suid < Point.outline";
+}
+
+abbrev pub suidtext_entry : Entry
+suidtext_entry = record {
+  name = codes "suidtext";
+  words = [];
+  does = codes "prints the bytes of which that serialVersionUID is the hash";
+  example = codes "rmi suidtext < Point.outline";
+}
+
+abbrev pub describe_entry : Entry
+describe_entry = record {
+  name = codes "describe";
+  words = [];
+  does = codes "writes the description of the class that the standard input outlines, as a serialization stream";
+  example = codes "rmi describe < Point.outline | rmi show";
+}
+
 abbrev pub help_entry : Entry
 help_entry = record {
   name = codes "help";
@@ -119,4 +151,4 @@ help_entry = record {
 
 -- All commands.
 abbrev pub entries : List Entry
-entries = answer_entry ∷ serve_entry ∷ replay_entry ∷ show_entry ∷ drill_entry ∷ journal_entry ∷ help_entry ∷ []
+entries = answer_entry ∷ serve_entry ∷ replay_entry ∷ show_entry ∷ drill_entry ∷ journal_entry ∷ world_entry ∷ suid_entry ∷ suidtext_entry ∷ describe_entry ∷ help_entry ∷ []

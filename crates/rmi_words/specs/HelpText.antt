@@ -1,7 +1,7 @@
 -- What `help` prints.
 use Rattle.std.specs.Prelude.{ℕ, Bool, true, false, List, [], ◌∷◌, ◌++◌, codes}
 use Rattle.std.specs.List.{flat_map}
-use Rattle.rmi_words.specs.Entries.{Word, Entry, entries, answer_entry, serve_entry, replay_entry, show_entry, drill_entry, journal_entry, help_entry}
+use Rattle.rmi_words.specs.Entries.{Word, Entry, entries, answer_entry, serve_entry, replay_entry, show_entry, drill_entry, journal_entry, world_entry, suid_entry, suidtext_entry, describe_entry, help_entry}
 use Rattle.rmi_words.specs.declared.command.HelpTopic.{HelpTopic}
 use Rattle.rmi_words.specs.declared.command.HelpTopic.TheVariants as topics
 
@@ -14,6 +14,10 @@ entries_of topics.Replay = replay_entry ∷ []
 entries_of topics.Show = show_entry ∷ []
 entries_of topics.Drill = drill_entry ∷ []
 entries_of topics.Journal = journal_entry ∷ []
+entries_of topics.World = world_entry ∷ []
+entries_of topics.Suid = suid_entry ∷ []
+entries_of topics.SuidText = suidtext_entry ∷ []
+entries_of topics.Describe = describe_entry ∷ []
 entries_of topics.Help = help_entry ∷ []
 
 -- A word in the first line of its command: in brackets where it may be left out.

@@ -2,12 +2,12 @@
 use Rattle.std.specs.Prelude.{◌≡◌, ℕ, codes, decimal, List, Option, Some, None, slice_get}
 use Rattle.clap.specs.Words.{Row, Text, first_of, first_value, found_of}
 use Rattle.clap.specs.declared.ArgMatches.{ArgMatches}
-use Rattle.rmi_words.specs.Command.{AreInRange, word_of_text, words_of_topic}
+use Rattle.rmi_words.specs.Command.{AreInRange, word_of_output, word_of_text, words_of_topic}
 use Rattle.rmi_words.specs.Options.{IsBindingOf, IsDurationOf, SpellsUpTo, default_options}
 use Rattle.rmi_words.specs.declared.options.ServeWords.{ServeWords}
 use Rattle.rmi_words.specs.declared.options.LeaseOptions.{LeaseOptions}
 use Rattle.rmi_words.specs.declared.command.Command.{Command}
-use Rattle.rmi_words.specs.declared.command.Command.TheVariants.{Answer, Serve, Replay, Show, Drill, Help}
+use Rattle.rmi_words.specs.declared.command.Command.TheVariants.{Answer, Serve, Replay, Show, Drill, World, Class, Help}
 use Rattle.rmi_words.specs.declared.command.HelpTopic.{HelpTopic}
 
 -- The word at the place of this name, where there is one.
@@ -52,6 +52,8 @@ name_of (Serve serve) = codes "serve"
 name_of Replay = codes "replay"
 name_of Show = codes "show"
 name_of (Drill text seed rounds) = word_of_text text
+name_of World = codes "world"
+name_of (Class output) = word_of_output output
 name_of (Help topic) = codes "help"
 
 -- What a command is told is given by these words.
@@ -61,6 +63,8 @@ IsToldIn (Serve serve) value = IsServeOf serve value
 IsToldIn Replay value = Unit {0}
 IsToldIn Show value = Unit {0}
 IsToldIn (Drill text seed rounds) value = IsDrillOf seed rounds value
+IsToldIn World value = Unit {0}
+IsToldIn (Class output) value = Unit {0}
 IsToldIn (Help topic) value = IsTopicOf topic (value (codes "COMMAND"))
 
 -- This word names the command, and these are its words.

@@ -19,6 +19,10 @@ pub enum Command {
         seed: u64,
         rounds: u64,
     },
+    /// `world`: print the end of the world that the input's script makes.
+    World,
+    /// `suid`, `suidtext` or `describe`: print this of the class that the input outlines.
+    Class(ClassOutput),
     /// `help [COMMAND]`: print what the commands are, or one of them.
     Help(HelpTopic),
 }
@@ -32,6 +36,17 @@ pub enum DrillText {
     Journal,
 }
 
+/// Which of a class's texts is printed.
+#[derive(Clone, Copy, Debug, PartialEq, Eq)]
+pub enum ClassOutput {
+    /// `suid`: its serialVersionUID, as 16 hexadecimal digits and a line feed.
+    Number,
+    /// `suidtext`: the text of which that number is the hash, in hexadecimal digits, and a line feed.
+    Text,
+    /// `describe`: its description, as a stream.
+    Description,
+}
+
 /// Which commands `help` explains.
 #[derive(Clone, Copy, Debug, PartialEq, Eq)]
 pub enum HelpTopic {
@@ -43,6 +58,10 @@ pub enum HelpTopic {
     Show,
     Drill,
     Journal,
+    World,
+    Suid,
+    SuidText,
+    Describe,
     Help,
 }
 

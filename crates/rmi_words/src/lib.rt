@@ -9,7 +9,7 @@ mod options;
 mod table;
 mod words;
 
-pub use command::{Command, DrillText, HelpTopic, WordsFault};
+pub use command::{ClassOutput, Command, DrillText, HelpTopic, WordsFault};
 pub use help::help_text;
 pub use numbers::MAX_ROUNDS;
 pub use options::{LeaseOptions, ServeWords};

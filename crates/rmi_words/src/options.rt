@@ -12,7 +12,7 @@ use clap::ArgMatches;
 pub struct LeaseOptions {
     /// Whether clients may bind names.
     pub binding: bool,
-    /// How long a lease lasts, in milliseconds.
+    /// The longest lease that is granted, in milliseconds.
     pub lease_ms: u64,
     /// How long a returned reference is awaited, in milliseconds.
     pub ack_ms: u64,
@@ -29,7 +29,7 @@ pub struct ServeWords {
     pub options: LeaseOptions,
 }
 
-/// How long a lease lasts where no word says it, in milliseconds.
+/// The longest lease that is granted where no word says it, in milliseconds.
 const LEASE_MS: u64 = 600_000;
 
 /// How long a returned reference is awaited where no word says it, in milliseconds.

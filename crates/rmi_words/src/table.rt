@@ -36,11 +36,11 @@ const BINDING: WordEntry = WordEntry {
     says: "whether clients may bind names: open or closed (closed)",
 };
 
-/// How long a lease lasts.
+/// The longest lease that is granted.
 const LEASE: WordEntry = WordEntry {
     name: "LEASE",
     required: false,
-    says: "how long a lease lasts, in milliseconds: 1 to 1099511627776 (600000)",
+    says: "the longest lease that is granted, in milliseconds: 1 to 1099511627776 (600000)",
 };
 
 /// How long a returned reference is awaited.
@@ -86,7 +86,7 @@ const COMMAND: WordEntry = WordEntry {
 };
 
 /// All commands, in the order in which `help` prints them.
-static COMMANDS: [CommandEntry; 7] = [
+static COMMANDS: [CommandEntry; 11] = [
     CommandEntry {
         name: "answer",
         words: &[BINDING, LEASE, ACK],
@@ -124,6 +124,30 @@ static COMMANDS: [CommandEntry; 7] = [
         example: "rmi journal 1 1000 > journal.txt",
     },
     CommandEntry {
+        name: "world",
+        words: &[],
+        does: "makes the steps of the script on the standard input between clients and one object table, and prints the end",
+        example: "rmi world < script.txt",
+    },
+    CommandEntry {
+        name: "suid",
+        words: &[],
+        does: "prints the serialVersionUID that Java computes for the class that the standard input outlines",
+        example: "rmi suid < Point.outline",
+    },
+    CommandEntry {
+        name: "suidtext",
+        words: &[],
+        does: "prints the bytes of which that serialVersionUID is the hash",
+        example: "rmi suidtext < Point.outline",
+    },
+    CommandEntry {
+        name: "describe",
+        words: &[],
+        does: "writes the description of the class that the standard input outlines, as a serialization stream",
+        example: "rmi describe < Point.outline | rmi show",
+    },
+    CommandEntry {
         name: "help",
         words: &[COMMAND],
         does: "prints all commands, or one",
@@ -143,7 +167,11 @@ pub fn commands_of(topic: HelpTopic) -> &'static [CommandEntry]
         HelpTopic::Show => &COMMANDS[3..4],
         HelpTopic::Drill => &COMMANDS[4..5],
         HelpTopic::Journal => &COMMANDS[5..6],
-        HelpTopic::Help => &COMMANDS[6..7],
+        HelpTopic::World => &COMMANDS[6..7],
+        HelpTopic::Suid => &COMMANDS[7..8],
+        HelpTopic::SuidText => &COMMANDS[8..9],
+        HelpTopic::Describe => &COMMANDS[9..10],
+        HelpTopic::Help => &COMMANDS[10..11],
     }
 }
 

@@ -8,7 +8,7 @@ ghost use Rattle.rmi_words.specs.Program.{AreTaken, faults_in, is_option};
 ghost use Rattle.rmi_words.specs.Values.{IsCommandIn, IsCommandOf, IsTopicOf, values_of};
 ghost use Rattle.rmi_words.specs.declared.command.Command.{Command as Commands};
 
-use crate::command::{Command, DrillText, HelpTopic, WordsFault};
+use crate::command::{ClassOutput, Command, DrillText, HelpTopic, WordsFault};
 use crate::declared::declared_program;
 use crate::numbers::read_drill;
 use crate::options::{read_lease_options, read_serve};
@@ -120,6 +120,10 @@ fn read_command(name: &str, values: &ArgMatches) -> Option<Command>
         "show" => Some(Command::Show),
         "drill" => read_drill_of(values, DrillText::Summary),
         "journal" => read_drill_of(values, DrillText::Journal),
+        "world" => Some(Command::World),
+        "suid" => Some(Command::Class(ClassOutput::Number)),
+        "suidtext" => Some(Command::Class(ClassOutput::Text)),
+        "describe" => Some(Command::Class(ClassOutput::Description)),
         "help" => Some(Command::Help(read_topic(values.get_str("COMMAND"))?)),
         _ => None,
     }
@@ -145,6 +149,10 @@ fn read_topic(word: Option<&str>) -> Option<HelpTopic>
         Some("show") => Some(HelpTopic::Show),
         Some("drill") => Some(HelpTopic::Drill),
         Some("journal") => Some(HelpTopic::Journal),
+        Some("world") => Some(HelpTopic::World),
+        Some("suid") => Some(HelpTopic::Suid),
+        Some("suidtext") => Some(HelpTopic::SuidText),
+        Some("describe") => Some(HelpTopic::Describe),
         Some("help") => Some(HelpTopic::Help),
         Some(_) => None,
     }

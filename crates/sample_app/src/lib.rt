@@ -14,4 +14,4 @@ pub use crew::{SampleCrew, SampleHand};
 pub use kinds::sample_book;
 pub use opening::sample_space;
 pub use sample_call::SampleCall;
-pub use worker::SampleWorker;
+pub use worker::{CountersChange, SampleWorker};

@@ -1,6 +1,6 @@
 //! Who does the calls of sample objects.
 ghost use Rattle.std.specs.Prelude.{◌≡◌, ◌≢◌, pos, [], ◌⊎◌, Some, None};
-ghost use Rattle.call_dispatch.specs.Acts.{invokes};
+ghost use Rattle.call_dispatch.specs.Acts.{invokes, unreferenced};
 ghost use Rattle.call_dispatch.specs.declared.outcome.Outcome.TheVariants.{OutOfMemory};
 ghost use Rattle.sample_app.specs.Does.{Adds, May, Moves, overflow};
 
@@ -11,6 +11,7 @@ use mod_utf::utf::units_of_ascii;
 use object_ids::ObjId;
 use ser_values::{Graph, Value};
 use std::alloc::Global;
+use std::snapshot::Snapshot;
 
 /// The place of the kind that counts.
 const COUNTER_KIND: u32 = 1;
@@ -24,6 +25,15 @@ pub struct SampleWorker {
     counters: Counters,
     /// How many invocations it was given.
     pub calls: u64,
+}
+
+/// What a worker's objects had counted before a call of it, and after it. It is told to contracts alone.
+#[derive(Drop)]
+pub struct CountersChange {
+    /// What they had counted before.
+    pub before: Snapshot<Counters>,
+    /// What they had counted after.
+    pub after: Snapshot<Counters>,
 }
 
 impl SampleWorker {
@@ -52,6 +62,39 @@ impl SampleWorker {
             Some(SampleCall::Make) => Outcome::NewRemote(COUNTER_KIND),
             None => Outcome::Void,
         }
+    }
+
+    /// Forgets what an object has counted. It takes no memory.
+    pub fn forget(&mut self, object: ObjId)
+        ensures moves { Moves self.old.counters (unreferenced object) self.new.counters }
+        ensures calls { self.new.calls ≡ self.old.calls }
+    {
+        self.counters.forget(&object);
+    }
+
+    /// Does what a call asks for as `perform` does, and tells how that changed what was counted.
+    pub fn perform_told(&mut self, call: Invocation) -> (Outcome, CountersChange)
+        ensures may { May call result.0 }
+        ensures moves { Moves result.1.before.value (invokes call result.0) result.1.after.value }
+        ensures before { result.1.before.value ≡ self.old.counters }
+        ensures after { result.1.after.value ≡ self.new.counters }
+    {
+        let before = Snapshot::of(&self.counters);
+        let outcome = self.perform(call);
+        let after = Snapshot::of(&self.counters);
+        (outcome, CountersChange { before, after })
+    }
+
+    /// Forgets what an object has counted, and tells how that changed what was counted.
+    pub fn forget_told(&mut self, object: ObjId) -> CountersChange
+        ensures moves { Moves result.before.value (unreferenced object) result.after.value }
+        ensures before { result.before.value ≡ self.old.counters }
+        ensures after { result.after.value ≡ self.new.counters }
+    {
+        let before = Snapshot::of(&self.counters);
+        self.forget(object);
+        let after = Snapshot::of(&self.counters);
+        CountersChange { before, after }
     }
 
     /// Adds a number to an object's own, and gives the sum; or the fault where that is past the ends of its type.
@@ -89,11 +132,7 @@ fn graph_of(call: Invocation) -> Graph
 }
 
 impl Worker for SampleWorker {
-    ghost calls = { λ w. w.calls };
-
-    ghost seen = { λ w. None };
-
-    ghost state = { λ w. Some w.counters };
+    ghost shown = { λ w. record { calls = w.calls; seen = None; state = Some w.counters; number = 0 } };
 
     ghost may = { May };
 
@@ -105,6 +144,6 @@ impl Worker for SampleWorker {
     }
 
     fn unreferenced(&mut self, object: ObjId) {
-        self.counters.forget(&object);
+        self.forget(object);
     }
 }

@@ -5,7 +5,7 @@ ghost use Rattle.ser_read.specs.declared.fault.StreamFault.TheVariants.{OutOfMem
 use std::alloc::{AllocError, AllocFailed};
 use wire_io::pull::PullEnd;
 
-/// How bytes break the grammar of streams (Java Object Serialization Specification, 6.4).
+/// A way in which bytes break the grammar of streams (Java Object Serialization Specification, 6.4).
 #[derive(Clone, Copy, Debug, PartialEq, Eq)]
 pub enum StreamKind {
     /// The first byte that differs from `ACED0005`.
@@ -35,7 +35,7 @@ pub enum StreamKind {
     OldExternal,
 }
 
-/// What there is too much of.
+/// A thing that there is too much of.
 #[derive(Clone, Copy, Debug, PartialEq, Eq)]
 pub enum Large {
     /// The message has as many bytes as it may have, and the input goes on.
@@ -46,7 +46,7 @@ pub enum Large {
     Depth,
 }
 
-/// Why a stream could not be read. Positions are those of the `Pull` that is read from.
+/// The reason why a stream could not be read. Positions are those of the `Pull` that is read from.
 #[derive(Clone, Copy, Debug, PartialEq, Eq)]
 pub enum StreamFault {
     /// The bytes are wrong at a position: that of a construct's code, except where the kind says another.
@@ -57,7 +57,8 @@ pub enum StreamFault {
     Truncated { at: u64 },
     /// The source failed, and its count of faults rose.
     ReadFault,
-    /// There was no memory.
+    /// There was no memory. A message gets memory for 2^20 entries of lists, and none for more: values and annotations of objects, items of
+    /// annotations and of the stream, elements of arrays of references, fields of descriptions, and names of proxies' interfaces.
     OutOfMemory,
 }
 

@@ -7,7 +7,7 @@ pub fn wants_are_spelled()
     ensures { WantsAreSpelled }
 {}
 
-/// What is spelled is read, whatever comes behind it.
+/// Bytes that spell wants are read, whatever comes behind them.
 pub fn spelled_is_served()
     ensures { SpelledIsServed }
 {}
@@ -17,7 +17,7 @@ pub fn spelled_is_one()
     ensures { SpelledIsOne }
 {}
 
-/// What wants ask for is a stream of the answers, joined.
+/// Bytes that spell wants are a stream of the answers, joined.
 pub fn spelled_are_streams()
     ensures { SpelledAreStreams }
 {}
@@ -27,33 +27,33 @@ pub fn served_one_after_the_other()
     ensures { ServedOneAfterTheOther }
 {}
 
-/// What is taken for bytes in front of a stream ends in a block.
+/// The front that is taken for bytes before a stream ends in a block.
 pub fn head_ends_in_block()
     ensures { HeadEndsInBlock }
 {}
 
-/// What is read behind such bytes makes the whole what all the wants ask for.
+/// Reading on behind such bytes makes the whole a spelling of all the wants.
 pub fn head_goes_on()
     ensures { HeadGoesOn }
 {}
 
-/// What begins with a want of bytes has such a head.
+/// A spelling that begins with a want of bytes has such a head.
 pub fn spelled_is_headed()
     ensures { SpelledIsHeaded }
 {}
 
-/// Where reading bytes that end at a position answers a fault, as `read_to_end` does, the bytes show it at the fault's position.
+/// A fault that reading answers of bytes that end at a position, as `read_to_end` does, is shown by the bytes at the fault's position.
 pub fn faults_stand_in_bytes()
     ensures { FaultsStandInBytes }
 {}
 
-/// Where wanted bytes answer that a block is missing, fewer are there, up to the end of a block, and a code with which none begins stands at the
+/// A block is missing, as wanted bytes answer, where fewer are there, up to the end of a block, and a code with which none begins stands at the
 /// fault's position.
 pub fn missing_blocks_stand()
     ensures { MissingBlocksStand }
 {}
 
-/// Where a wanted reference answers that a block is left, bytes of the present block are left and the next one stands at the fault's position; or
+/// A block is left, as a wanted reference answers, where bytes of the present block are left and the next one stands at the fault's position; or
 /// none is, and behind empty blocks, if any, stands the header of a block that has bytes, and the fault's position is the one behind it.
 pub fn left_blocks_stand()
     ensures { LeftBlocksStand }

@@ -1,5 +1,5 @@
 //! Codes, handles, names and items by themselves.
-ghost use Rattle.std.specs.Prelude.{◌≡◌, ◌≢◌, List, ℕ, IfOk, OnOk};
+ghost use Rattle.std.specs.Prelude.{◌≡◌, ◌≢◌, List, ℕ, length, IfOk, OnOk};
 ghost use Rattle.class_desc.specs.declared.slot.Slot.TheVariants.{Null};
 ghost use Rattle.ser_values.specs.declared.node.SlotPlace.TheVariants.{Text};
 ghost use Rattle.ser_values.specs.declared.node.Node.TheVariants.{Desc};
@@ -111,8 +111,12 @@ pub(crate) fn handle<S: Source>(
 pub(crate) fn names<S: Source>(
     alloc: Global,
     pull: &mut Pull<'_, S>,
+    table: &mut Table,
     n: u32,
 ) -> Result<NameList, StreamFault>
+    ensures now { now_of table.new ≡ now_of table.old }
+    ensures unread { table.new.unread.items ≡ table.old.unread.items }
+    ensures grows { length table.new.nodes.items ≡ length table.old.nodes.items }
     ensures lent { pull.new.source.ghost_name ≡ pull.old.source.ghost_name }
     ensures reads { (now : Progress) → ReadsTaken S.half pull.old pull.new result (λ end. many_at (plain (short_at end)) n now) (λ x rest. (x, now, rest)) }
     ensures stops { (now : Progress) → StopsTaken S.half pull.old pull.new result (λ end. many_at (plain (short_at end)) n now) }
@@ -120,6 +124,7 @@ pub(crate) fn names<S: Source>(
     let mut names = NameList::new(alloc);
     for _ in 0..n {
         let name = short_text(alloc, pull)?;
+        table.add_entries(1)?;
         names.push(name)?;
     }
     Ok(names)

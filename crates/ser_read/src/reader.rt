@@ -110,6 +110,7 @@ fn slot_in<S: Source>(
         return Err(bad(StreamKind::BlockLeft, pull.at));
     }
     let slot = reference(alloc, pull, &mut stand.table)?;
+    stand.table.add_entries(1)?;
     stand.items.push(Item::Ref(slot))?;
     Ok(slot)
 }
@@ -258,7 +259,7 @@ impl Reader {
         }
     }
 
-    /// What it gives for wants, one after the other.
+    /// Answers wants, one after the other.
     ///
     /// Each fault comes as at [`Reader::bytes`] and [`Reader::slot`].
     pub fn serve<S: Source>(

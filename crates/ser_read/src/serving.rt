@@ -15,7 +15,7 @@ use std::alloc::Global;
 use wire_io::pull::Pull;
 use wire_io::source::Source;
 
-/// What is asked of a stream next.
+/// A request of a stream: what is to come of it next.
 #[derive(Clone, Copy, Debug, PartialEq, Eq)]
 pub enum Want {
     /// So many bytes of block data.

@@ -194,14 +194,14 @@ impl Builder {
         }
     }
 
-    /// How many loose nodes there are: at most 65,536.
+    /// The number of loose nodes: at most 65,536.
     pub fn len(&self) -> usize
         ensures { result ≡ length self.now }
     {
         self.nodes.len()
     }
 
-    /// Whether there are none.
+    /// True where there are none.
     pub fn is_empty(&self) -> bool
         ensures { IsTrue result ↔ (self.now ≡ []) }
     {

@@ -5,7 +5,7 @@ ghost use Rattle.ser_values.specs.declared.fault.BuildFault.TheVariants.{OutOfMe
 use std::alloc::AllocError;
 use thiserror::Error;
 
-/// Why a builder or a graph refuses.
+/// The reason why a builder or a graph refuses.
 #[derive(Clone, Copy, Debug, PartialEq, Eq, Error)]
 pub enum BuildFault {
     /// A builder has 65,536 loose nodes.

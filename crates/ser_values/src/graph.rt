@@ -69,7 +69,7 @@ impl Graph {
         &self.items
     }
 
-    /// How many nodes there are: at most 65,536.
+    /// The number of nodes: at most 65,536.
     pub fn count(&self) -> u32
         ensures { result ≡ length self.now.nodes }
     {
@@ -108,7 +108,7 @@ impl Graph {
     }
 }
 
-/// Whether two graphs are equal: the same nodes under the same numbers, and the same items.
+/// True where two graphs are equal: the same nodes under the same numbers, and the same items.
 pub fn same_graph(a: &Graph, b: &Graph) -> bool
     ensures { IsTrue result ↔ (a.now.nodes ≡ b.now.nodes) × (a.now.items ≡ b.now.items) }
 {

@@ -4,7 +4,7 @@ use crate::value::{PartList, Values};
 use class_desc::{ClassDesc, ProxyDesc};
 use sequence::{Sequence, Units};
 
-/// What has a handle in a stream. It names other nodes by their numbers.
+/// One thing that has a handle in a stream. It names other nodes by their numbers.
 #[derive(Debug)]
 pub enum Node {
     /// A string.
@@ -65,7 +65,7 @@ pub type NumberList = Sequence<u32>;
 /// The handle of a stream's first node (Object Serialization 6.4.2, `baseWireHandle`); each further node has the next one.
 pub const FIRST_HANDLE: u32 = 0x7E_0000;
 
-/// Where in a stream a reference stands.
+/// The kind of place in a stream at which a reference stands.
 #[derive(Clone, Copy, Debug, PartialEq, Eq)]
 pub enum SlotPlace {
     /// As a value, an element or an item: any node and null may stand there.

@@ -11,7 +11,7 @@ use sequence::ByteList;
 use std::alloc::Global;
 use std::mem;
 
-/// Where a byte stands in an object's note. Each number counts from 0.
+/// The place of a byte in an object's note. Each number counts from 0.
 #[derive(Clone, Copy, Debug, PartialEq, Eq)]
 pub struct NotePlace {
     /// The object's node.

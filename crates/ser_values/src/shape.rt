@@ -15,7 +15,7 @@ use class_desc::{
 use mod_utf::utf::encoded_len;
 use sequence::Units;
 
-/// Whether a node is a description, of a class or of a proxy class.
+/// True where a node is a description, of a class or of a proxy class.
 #[tactic(auto, unfolding(crate::specs::Node::is_desc))]
 pub fn is_desc(node: &Node) -> bool
     ensures { result ≡ is_desc node.now }
@@ -31,7 +31,7 @@ pub fn is_desc(node: &Node) -> bool
     }
 }
 
-/// Whether a node is a text.
+/// True where a node is a text.
 #[tactic(auto, unfolding(crate::specs::Node::is_text))]
 pub fn is_text(node: &Node) -> bool
     ensures { result ≡ is_text node.now }
@@ -240,7 +240,7 @@ pub(crate) fn parts_of(node: &Node) -> usize
     }
 }
 
-/// Whether a node is a text that names a type of a code. `elements` is what the node's text says of an array's elements.
+/// True where a node is a text that names a type of a code. `elements` is what the node's text says of an array's elements.
 pub fn fits_node(code: TypeCode, node: &Node, elements: Option<TypeCode>) -> bool
     requires { elements ≡ elements_in node.now }
     ensures { result ≡ fits_node code (Some node.now) }

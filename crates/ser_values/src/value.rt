@@ -70,12 +70,12 @@ impl Drop for Values {
     }
 }
 
-/// What an object holds of one class of its chain.
+/// The values and the annotation that an object holds of one class of its chain.
 #[derive(Debug)]
 pub struct Part {
     /// The values of the class's fields, in their order.
     pub values: ValueList,
-    /// What the class's own write method wrote.
+    /// The items that the class's own write method wrote.
     pub note: Items,
 }
 
@@ -94,7 +94,7 @@ pub type ValueList = Sequence<Value>;
 pub type PartList = Sequence<Part>;
 
 impl Values {
-    /// How many elements there are.
+    /// The number of elements.
     pub fn len(&self) -> usize
         ensures { result ≡ count_of self.now }
     {
@@ -111,7 +111,7 @@ impl Values {
         }
     }
 
-    /// Whether there are none.
+    /// True where there are none.
     pub fn is_empty(&self) -> bool
         ensures { IsTrue result ↔ (count_of self.now ≡ 0) }
     {

@@ -8,7 +8,8 @@ use Rattle.history.specs.declared.places.Exported.{Exported}
 use Rattle.history.specs.declared.asks.SpaceConfig.{SpaceConfig}
 use Rattle.history.specs.declared.asks.Event.{Event}
 use Rattle.history.specs.declared.asks.Ask.TheVariants.{Abandon}
-use Rattle.history.specs.declared.limits.TheConstants.{MAX_HISTORY_UNITS, MAX_EXPORTS, END_OF_TIME}
+use Rattle.history.specs.declared.limits.TheConstants.{MAX_EXPORTS, END_OF_TIME}
+use Rattle.history.specs.Limits.{units_limit}
 use Rattle.history.specs.declared.places.Withdrawal.{Withdrawal}
 use Rattle.history.specs.Running.{running_calls_by}
 use Rattle.history.specs.Steps.{Step, turn_of}
@@ -70,8 +71,8 @@ runs-fewer config events by o leases exports runs withdrawn reported opened used
     none-left (is_run by o) runs (effective-is config events by (Abandon o) exports.rows runs k.stands.rows_are k.stands.runs_stand ∙ runs-effective config events by o r)
 
 -- The unit that was reserved for the end, and the object stays.
-end-unrefused : (used running exported : ℕ) (o : ObjId) → used + running ≤ MAX_HISTORY_UNITS → exported ≤ MAX_EXPORTS → room_refusal used running exported true (Abandon o) ≡ None
-end-unrefused used running exported o few rows = rw (le-ltb (MAX_HISTORY_UNITS + 1) (used + running + 1 + 0) (omega (arith, few)), le-ltb MAX_EXPORTS (exported + 0) (omega (arith, rows))) refl
+end-unrefused : (stored : Bool) (used running exported : ℕ) (o : ObjId) → used + running ≤ units_limit stored → exported ≤ MAX_EXPORTS → room_refusal stored used running exported true (Abandon o) ≡ None
+end-unrefused stored used running exported o few rows = rw (le-ltb (units_limit stored + 1) (used + running + 1 + 0) (omega (arith, few)), le-ltb MAX_EXPORTS (exported + 0) (omega (arith, rows))) refl
 
 pub rows-length : (config : SpaceConfig) (events : List Event) (leases : LeaseTable) (exports : ExportTable) (runs : List Run) (withdrawn : List Withdrawal) (reported opened used moment : ℕ) → Keeps config events leases exports runs withdrawn reported opened used moment → length exports.rows ≤ MAX_EXPORTS
 rows-length config events leases exports runs withdrawn reported opened used moment k = (let same = ap length k.stands.rows_are in let long = mapped (table config (places config events)) in let few = k.stands.within.exports in omega (arith, same, long, few))
@@ -89,7 +90,7 @@ pub end-acted : (config : SpaceConfig) (events : List Event) (by m : ℕ) (o : O
 end-acted config events by m o leases leases1 exports t runs withdrawn reported opened used moment time k r early at lapsed act = record {
   asked = end-asked config events by m o leases exports runs withdrawn reported opened used moment k r;
   early = early;
-  room = end-unrefused used (length runs) (length exports.rows) o (let units = k.stands.used_is in let calls = k.stands.runs_stand.all in let few = k.stands.within.history in omega (arith, units, calls, few))
+  room = end-unrefused config.stored used (length runs) (length exports.rows) o (let units = k.stands.used_is in let calls = k.stands.runs_stand.all in let few = k.stands.within.history in omega (arith, units, calls, few))
       (rows-length config events leases exports runs withdrawn reported opened used moment k);
   fit = refl;
   unrefused = λ lease n calls s le. refl;

@@ -107,4 +107,4 @@ room-nothing events runs withdrawn x events_room withdrawn_room ev ru wi ex =
 
 -- There are not too many running calls.
 pub few-calls : (config : SpaceConfig) (events : List Event) (leases : LeaseTable) (exports : ExportTable) (runs : List Run) (withdrawn : List Withdrawal) (reported opened used moment : ℕ) → Keeps config events leases exports runs withdrawn reported opened used moment → length runs < 2 ^ 31
-few-calls config events leases exports runs withdrawn reported opened used moment k = let all = k.stands.runs_stand.all in let few = k.stands.within.history in omega (arith, all, few)
+few-calls config events leases exports runs withdrawn reported opened used moment k = let all = k.stands.runs_stand.all in let few = k.stands.within.calls in omega (arith, all, few)

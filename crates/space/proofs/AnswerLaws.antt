@@ -1,6 +1,6 @@
 -- What an event is answered is one of its ask's row.
 use Rattle.std.proofs.Common.{◌≡◌, ℕ, ◌+◌, ◌<◌, ◌≤◌, List, [], length, refl, sym, subst, ◌∙◌, max, arith, inl, inr, Option, Some, None, Ok, Err}
-use Rattle.std.specs.Prelude.{Bool, true, false, ◌&&◌, ◌⊎◌, Result, nat_lt, if◌then◌else◌}
+use Rattle.std.specs.Prelude.{Bool, true, false, ◌&&◌, ◌⊎◌, Result, nat_le, nat_lt, if◌then◌else◌}
 use Rattle.std.specs.List.{AllByRecursion}
 use Rattle.std.proofs.lemmas.Bool.{lt-ltb, ltb-true}
 use Rattle.std.proofs.lemmas.List.{length-map}
@@ -13,7 +13,7 @@ use Rattle.history.specs.declared.asks.Ask.{Ask}
 use Rattle.history.specs.declared.asks.Ask.TheVariants.{Open, Begin, Finish, Abandon, Dirty, Clean, Ack, Bind, Rebind, Unbind, Lookup, List as ListNames, Tick}
 use Rattle.history.specs.declared.calls.Call.{Call}
 use Rattle.history.specs.declared.calls.CallKind.TheVariants.{Weak, Strong}
-use Rattle.history.specs.declared.limits.TheConstants.{MAX_EXPORTS, MAX_NAMES, MAX_NAME_UNITS}
+use Rattle.history.specs.declared.limits.TheConstants.{MAX_EXPORTS, MAX_NAMES, MAX_NAME_UNITS, MAX_RUNNING_CALLS}
 use Rattle.history.specs.declared.places.Exported.{Exported}
 use Rattle.history.specs.declared.places.Withdrawal.{Withdrawal}
 use Rattle.history.specs.declared.replies.Refused.{Refused}
@@ -22,7 +22,7 @@ use Rattle.history.specs.declared.replies.Turn.{Turn}
 use Rattle.history.specs.LeaseCalls.{call_with, lease_calls}
 use Rattle.history.proofs.GrantLaws.{grant-within}
 use Rattle.history.specs.Leases.{is_dirty_kind}
-use Rattle.history.specs.Limits.{limits, refusal}
+use Rattle.history.specs.Limits.{is_begin, is_end, limits, refusal, units_limit, units_of}
 use Rattle.history.specs.Steps.{Step}
 use Rattle.history.specs.declared.replies.Reply.{Reply}
 use Rattle.history.specs.declared.replies.Reply.TheVariants.{Started, NoObject, Finished, NotRunning, Done, Bound, AlreadyBound, Unbound, NotBound}
@@ -37,7 +37,7 @@ use Rattle.export_table.specs.declared.rows.Export.{Export}
 use Rattle.export_table.specs.declared.waits.Wait.{Wait}
 use Rattle.export_table.specs.Table.{ExportTable}
 use Rattle.space.specs.declared.runs.Run.{Run}
-use Rattle.space.specs.Acts.{room_refusal, await_refusal, lease_refusal, told_refusal, first_of_two}
+use Rattle.space.specs.Acts.{opens, room_refusal, await_refusal, lease_refusal, told_refusal, first_of_two}
 use Rattle.space.specs.Built.{SpaceHistory}
 use Rattle.space.specs.Kept.{live_calls, HasDurations, Keeps}
 use Rattle.space.proofs.Acting.{stood_for}
@@ -101,11 +101,19 @@ reply-row config h e d few short = go e.ask
 
 -- ---- refusals
 
-fills : (a : Ask) (x y : Bool) (rest : Option Refused) (refused : Refused) → (y ≡ true → MayFill a Exports) → (rest ≡ Some refused → IsRefusalOf a refused) →
-    first_of_two (if x then Some HistoryFull else if y then Some (Full Exports) else None) rest ≡ Some refused → IsRefusalOf a refused
-fills a true y rest refused f g s = subst (λ (r : Refused). IsRefusalOf a r) (let same : HistoryFull ≡ refused = (cc) in same) tt
-fills a false true rest refused f g s = subst (λ (r : Refused). IsRefusalOf a r) (let same : Full Exports ≡ refused = (cc) in same) (f refl)
-fills a false false rest refused f g s = g s
+fills : (a : Ask) (x z y : Bool) (rest : Option Refused) (refused : Refused) → (y ≡ true → MayFill a Exports) → (rest ≡ Some refused → IsRefusalOf a refused) →
+    first_of_two (if x then Some HistoryFull else if z then Some HistoryFull else if y then Some (Full Exports) else None) rest ≡ Some refused → IsRefusalOf a refused
+fills a true z y rest refused f g s = subst (λ (r : Refused). IsRefusalOf a r) (let same : HistoryFull ≡ refused = (cc) in same) tt
+fills a false true y rest refused f g s = subst (λ (r : Refused). IsRefusalOf a r) (let same : HistoryFull ≡ refused = (cc) in same) tt
+fills a false false true rest refused f g s = subst (λ (r : Refused). IsRefusalOf a r) (let same : Full Exports ≡ refused = (cc) in same) (f refl)
+fills a false false false rest refused f g s = g s
+
+-- The same of the refusal that there is no room.
+room-fills : (stored : Bool) (used running exported : ℕ) (v : Bool) (a : Ask) (rest : Option Refused) (refused : Refused) → (nat_lt MAX_EXPORTS (exported + opens v a) ≡ true → MayFill a Exports) → (rest ≡ Some refused → IsRefusalOf a refused) →
+    first_of_two (room_refusal stored used running exported v a) rest ≡ Some refused → IsRefusalOf a refused
+room-fills stored used running exported v a rest refused f g s =
+    fills a (nat_lt (units_limit stored + (if v && is_end a then 1 else 0)) (used + running + units_of a + (if v && is_begin a then 1 else 0))) ((v && is_begin a) && nat_le MAX_RUNNING_CALLS running)
+    (nat_lt MAX_EXPORTS (exported + opens v a)) rest refused f g s
 
 lease-fills : (a : Ask) (x y : Bool) (refused : Refused) → (x ≡ true → MayFill a Clients) → MayFill a Pairs → (if x then Some (Full Clients) else if y then Some (Full Pairs) else None) ≡ Some refused → IsRefusalOf a refused
 lease-fills a true y refused f g s = subst (λ (r : Refused). IsRefusalOf a r) (let same : Full Clients ≡ refused = (cc) in same) (f refl)
@@ -137,38 +145,38 @@ ends : (o last : Option Refused) → last ≡ None → first_of_two o last ≡ o
 ends None last e = e
 ends (Some r) last e = refl
 
-refused-row : (a : Ask) (used running exported : ℕ) (v : Bool) (lease n m count : ℕ) (before : List Call) (names_it : ObjId → Bool) (rows : List Export) (waits : List Wait) (stood : Option ObjId) (refused : Refused) → exported ≤ MAX_EXPORTS →
-    first_of_two (room_refusal used running exported v a) (first_of_two (await_refusal n rows waits stood v a) (told_refusal lease n before (call_with names_it m a) count stood v a)) ≡ Some refused → IsRefusalOf a refused
-refused-row (Begin o) used running exported v lease n m count before names_it rows waits stood refused few s =
-    fills (Begin o) _ _ (first_of_two (await_refusal n rows waits stood v (Begin o)) (told_refusal lease n before (call_with names_it m (Begin o)) count stood v (Begin o))) refused (λ t. exports-stay exported few t) (λ t. absurd (cc)) s
-refused-row (Abandon o) used running exported v lease n m count before names_it rows waits stood refused few s =
-    fills (Abandon o) _ _ (first_of_two (await_refusal n rows waits stood v (Abandon o)) (told_refusal lease n before (call_with names_it m (Abandon o)) count stood v (Abandon o))) refused (λ t. exports-stay exported few t) (λ t. absurd (cc)) s
-refused-row (Ack u) used running exported v lease n m count before names_it rows waits stood refused few s =
-    fills (Ack u) _ _ (first_of_two (await_refusal n rows waits stood v (Ack u)) (told_refusal lease n before (call_with names_it m (Ack u)) count stood v (Ack u))) refused (λ t. exports-stay exported few t) (λ t. absurd (cc)) s
-refused-row Tick used running exported v lease n m count before names_it rows waits stood refused few s =
-    fills Tick _ _ (first_of_two (await_refusal n rows waits stood v Tick) (told_refusal lease n before (call_with names_it m Tick) count stood v Tick)) refused (λ t. exports-stay exported few t) (λ t. absurd (cc)) s
-refused-row (Unbind x) used running exported v lease n m count before names_it rows waits stood refused few s =
-    fills (Unbind x) _ _ (first_of_two (await_refusal n rows waits stood v (Unbind x)) (told_refusal lease n before (call_with names_it m (Unbind x)) count stood v (Unbind x))) refused (λ t. exports-stay exported few t) (λ t. absurd (cc)) s
-refused-row ListNames used running exported v lease n m count before names_it rows waits stood refused few s =
-    fills ListNames _ _ (first_of_two (await_refusal n rows waits stood v ListNames) (told_refusal lease n before (call_with names_it m ListNames) count stood v ListNames)) refused (λ t. exports-stay exported few t) (λ t. absurd (cc)) s
-refused-row (Open kind pinned) used running exported v lease n m count before names_it rows waits stood refused few s =
-    fills (Open kind pinned) _ _ (first_of_two (await_refusal n rows waits stood v (Open kind pinned)) (told_refusal lease n before (call_with names_it m (Open kind pinned)) count stood v (Open kind pinned))) refused (λ t. tt) (λ t. absurd (cc)) s
-refused-row (Dirty x y z w) used running exported v lease n m count before names_it rows waits stood refused few s =
-    fills (Dirty x y z w) _ _ (first_of_two (await_refusal n rows waits stood v (Dirty x y z w)) (told_refusal lease n before (call_with names_it m (Dirty x y z w)) count stood v (Dirty x y z w))) refused (λ t. absurd (exports-stay exported few t))
+refused-row : (a : Ask) (stored : Bool) (used running exported : ℕ) (v : Bool) (lease n m count : ℕ) (before : List Call) (names_it : ObjId → Bool) (rows : List Export) (waits : List Wait) (stood : Option ObjId) (refused : Refused) → exported ≤ MAX_EXPORTS →
+    first_of_two (room_refusal stored used running exported v a) (first_of_two (await_refusal n rows waits stood v a) (told_refusal lease n before (call_with names_it m a) count stood v a)) ≡ Some refused → IsRefusalOf a refused
+refused-row (Begin o) stored used running exported v lease n m count before names_it rows waits stood refused few s =
+    fills (Begin o) _ _ _ (first_of_two (await_refusal n rows waits stood v (Begin o)) (told_refusal lease n before (call_with names_it m (Begin o)) count stood v (Begin o))) refused (λ t. exports-stay exported few t) (λ t. absurd (cc)) s
+refused-row (Abandon o) stored used running exported v lease n m count before names_it rows waits stood refused few s =
+    fills (Abandon o) _ _ _ (first_of_two (await_refusal n rows waits stood v (Abandon o)) (told_refusal lease n before (call_with names_it m (Abandon o)) count stood v (Abandon o))) refused (λ t. exports-stay exported few t) (λ t. absurd (cc)) s
+refused-row (Ack u) stored used running exported v lease n m count before names_it rows waits stood refused few s =
+    fills (Ack u) _ _ _ (first_of_two (await_refusal n rows waits stood v (Ack u)) (told_refusal lease n before (call_with names_it m (Ack u)) count stood v (Ack u))) refused (λ t. exports-stay exported few t) (λ t. absurd (cc)) s
+refused-row Tick stored used running exported v lease n m count before names_it rows waits stood refused few s =
+    fills Tick _ _ _ (first_of_two (await_refusal n rows waits stood v Tick) (told_refusal lease n before (call_with names_it m Tick) count stood v Tick)) refused (λ t. exports-stay exported few t) (λ t. absurd (cc)) s
+refused-row (Unbind x) stored used running exported v lease n m count before names_it rows waits stood refused few s =
+    fills (Unbind x) _ _ _ (first_of_two (await_refusal n rows waits stood v (Unbind x)) (told_refusal lease n before (call_with names_it m (Unbind x)) count stood v (Unbind x))) refused (λ t. exports-stay exported few t) (λ t. absurd (cc)) s
+refused-row ListNames stored used running exported v lease n m count before names_it rows waits stood refused few s =
+    fills ListNames _ _ _ (first_of_two (await_refusal n rows waits stood v ListNames) (told_refusal lease n before (call_with names_it m ListNames) count stood v ListNames)) refused (λ t. exports-stay exported few t) (λ t. absurd (cc)) s
+refused-row (Open kind pinned) stored used running exported v lease n m count before names_it rows waits stood refused few s =
+    room-fills stored used running exported v (Open kind pinned) (first_of_two (await_refusal n rows waits stood v (Open kind pinned)) (told_refusal lease n before (call_with names_it m (Open kind pinned)) count stood v (Open kind pinned))) refused (λ t. tt) (λ t. absurd (cc)) s
+refused-row (Dirty x y z w) stored used running exported v lease n m count before names_it rows waits stood refused few s =
+    fills (Dirty x y z w) _ _ _ (first_of_two (await_refusal n rows waits stood v (Dirty x y z w)) (told_refusal lease n before (call_with names_it m (Dirty x y z w)) count stood v (Dirty x y z w))) refused (λ t. absurd (exports-stay exported few t))
     (λ t. lease-fills (Dirty x y z w) _ _ refused (λ u. tt) tt (sym (ends (lease_refusal lease n before (call_with names_it m (Dirty x y z w))) None refl) ∙ t)) s
-refused-row (Clean x y z w) used running exported v lease n m count before names_it rows waits stood refused few s =
-    fills (Clean x y z w) _ _ (first_of_two (await_refusal n rows waits stood v (Clean x y z w)) (told_refusal lease n before (call_with names_it m (Clean x y z w)) count stood v (Clean x y z w))) refused (λ t. absurd (exports-stay exported few t))
+refused-row (Clean x y z w) stored used running exported v lease n m count before names_it rows waits stood refused few s =
+    fills (Clean x y z w) _ _ _ (first_of_two (await_refusal n rows waits stood v (Clean x y z w)) (told_refusal lease n before (call_with names_it m (Clean x y z w)) count stood v (Clean x y z w))) refused (λ t. absurd (exports-stay exported few t))
     (λ t. lease-fills (Clean x y z w) _ _ refused (λ u. absurd (no-dirty w _ u)) tt (sym (ends (lease_refusal lease n before (call_with names_it m (Clean x y z w))) None refl) ∙ t)) s
-refused-row (Finish x y z w) used running exported v lease n m count before names_it rows waits stood refused few s =
-    fills (Finish x y z w) _ _ (first_of_two (await_refusal n rows waits stood v (Finish x y z w)) (told_refusal lease n before (call_with names_it m (Finish x y z w)) count stood v (Finish x y z w))) refused (λ t. tt)
+refused-row (Finish x y z w) stored used running exported v lease n m count before names_it rows waits stood refused few s =
+    room-fills stored used running exported v (Finish x y z w) (first_of_two (await_refusal n rows waits stood v (Finish x y z w)) (told_refusal lease n before (call_with names_it m (Finish x y z w)) count stood v (Finish x y z w))) refused (λ t. tt)
     (λ t. return-fills (Finish x y z w) v _ refused tt t) s
-refused-row (Lookup x y) used running exported v lease n m count before names_it rows waits stood refused few s =
-    fills (Lookup x y) _ _ (first_of_two (await_refusal n rows waits stood v (Lookup x y)) (told_refusal lease n before (call_with names_it m (Lookup x y)) count stood v (Lookup x y))) refused (λ t. absurd (exports-stay exported few t))
+refused-row (Lookup x y) stored used running exported v lease n m count before names_it rows waits stood refused few s =
+    fills (Lookup x y) _ _ _ (first_of_two (await_refusal n rows waits stood v (Lookup x y)) (told_refusal lease n before (call_with names_it m (Lookup x y)) count stood v (Lookup x y))) refused (λ t. absurd (exports-stay exported few t))
     (λ t. lookup-fills (Lookup x y) _ refused tt t) s
-refused-row (Bind x y) used running exported v lease n m count before names_it rows waits stood refused few s =
-    fills (Bind x y) _ _ (first_of_two (await_refusal n rows waits stood v (Bind x y)) (told_refusal lease n before (call_with names_it m (Bind x y)) count stood v (Bind x y))) refused (λ t. absurd (exports-stay exported few t)) (λ t. name-fills (Bind x y) _ refused tt t) s
-refused-row (Rebind x y) used running exported v lease n m count before names_it rows waits stood refused few s =
-    fills (Rebind x y) _ _ (first_of_two (await_refusal n rows waits stood v (Rebind x y)) (told_refusal lease n before (call_with names_it m (Rebind x y)) count stood v (Rebind x y))) refused (λ t. absurd (exports-stay exported few t)) (λ t. name-fills (Rebind x y) _ refused tt t) s
+refused-row (Bind x y) stored used running exported v lease n m count before names_it rows waits stood refused few s =
+    fills (Bind x y) _ _ _ (first_of_two (await_refusal n rows waits stood v (Bind x y)) (told_refusal lease n before (call_with names_it m (Bind x y)) count stood v (Bind x y))) refused (λ t. absurd (exports-stay exported few t)) (λ t. name-fills (Bind x y) _ refused tt t) s
+refused-row (Rebind x y) stored used running exported v lease n m count before names_it rows waits stood refused few s =
+    fills (Rebind x y) _ _ _ (first_of_two (await_refusal n rows waits stood v (Rebind x y)) (told_refusal lease n before (call_with names_it m (Rebind x y)) count stood v (Rebind x y))) refused (λ t. absurd (exports-stay exported few t)) (λ t. name-fills (Rebind x y) _ refused tt t) s
 
 -- WHAT AN EVENT IS ANSWERED is one of its ask's row.
 pub answer-row : {shown : List Exported} (config : SpaceConfig) (events h2 : List Event) (e : Event) (leases : LeaseTable) (exports : ExportTable) (runs : List Run) (withdrawn : List Withdrawal) (reported opened used moment : ℕ) (s : SpaceHistory) (answer : Result Turn Refused) →
@@ -183,8 +191,8 @@ answer-row config events h2 e leases exports runs withdrawn reported opened used
     go (Ok turn) t = subst (λ (x : Turn). IsReplyTo (λ o. 0 < running_calls_by (places config events) e.by o) e.ask x.reply) (sym (taken-turn config events h2 e turn t).0) (reply-row config (places config events) e k.durations k.stands.within.names short)
     go (Err refused) t = why refused (refused-turn config events h2 e refused t).0
       where
-        why : (x : Refused) → (refusal limits config (places config events) e ≡ Some x) ⊎ (x ≡ OutOfMemory) → IsRefusalOf e.ask x
-        why x (inl r) = refused-row e.ask used (length runs) (length exports.rows) (is_effective config (places config events) e.by e.ask) config.lease_ms (max e.moment (now (places config events))) (max e.moment (now (places config events))) (length (names (places config events)))
+        why : (x : Refused) → (refusal (limits config) config (places config events) e ≡ Some x) ⊎ (x ≡ OutOfMemory) → IsRefusalOf e.ask x
+        why x (inl r) = refused-row e.ask config.stored used (length runs) (length exports.rows) (is_effective config (places config events) e.by e.ask) config.lease_ms (max e.moment (now (places config events))) (max e.moment (now (places config events))) (length (names (places config events)))
             (live_calls (table config (places config events)) (lease_calls (places config events))) (has (table config (places config events))) exports.rows exports.waits (stood_for (places config events) e.ask) x (rows-length config events leases exports runs withdrawn reported opened used moment k) (sym (refusal-kept config events e leases exports runs withdrawn reported opened used moment k) ∙ r)
         why x (inr m) = subst (λ (y : Refused). IsRefusalOf e.ask y) (sym m) tt
 

@@ -1,6 +1,6 @@
 -- What a turn requires of its parts, by what is kept.
 use Rattle.std.proofs.Common.{◌≡◌, ℕ, ◌+◌, ◌<◌, ◌≤◌, ◌^◌, suc, List, [], ◌∷◌, ◌++◌, length, refl, ap, sym, subst, ◌∙◌, cond, map, max, arith, Option, Some, None, length-append}
-use Rattle.std.specs.Prelude.{Bool, true, false, not, ◌&&◌, ◌==◌, filter, nat_lt, is_none, option_and_then, option_map, unwrap_or, if◌then◌else◌}
+use Rattle.std.specs.Prelude.{Bool, true, false, not, ◌&&◌, ◌==◌, filter, nat_lt, nat_le, is_none, option_and_then, option_map, unwrap_or, if◌then◌else◌}
 use Rattle.std.proofs.lemmas.Bool.{and_parts, ltb-true, ltb-false}
 use Rattle.object_ids.specs.declared.ids.Uid.{Uid}
 use Rattle.object_ids.specs.declared.ids.ObjId.{ObjId}
@@ -10,13 +10,13 @@ use Rattle.history.specs.declared.asks.SpaceConfig.{SpaceConfig}
 use Rattle.history.specs.declared.asks.Event.{Event}
 use Rattle.history.specs.declared.asks.Ask.{Ask}
 use Rattle.history.specs.declared.asks.Ask.TheVariants.{Open, Begin, Finish, Abandon, Dirty, Clean, Ack, Bind, Rebind, Unbind, Lookup, List as ListNames, Tick}
-use Rattle.history.specs.declared.limits.TheConstants.{MAX_EXPORTS, MAX_AWAITING, MAX_HISTORY_UNITS}
+use Rattle.history.specs.declared.limits.TheConstants.{MAX_EXPORTS, MAX_AWAITING, MAX_RUNNING_CALLS}
 use Rattle.history.specs.declared.places.Withdrawal.{Withdrawal}
 use Rattle.history.specs.declared.replies.Refused.{Refused}
 use Rattle.history.specs.declared.replies.Refused.TheVariants.{HistoryFull, Full}
 use Rattle.history.specs.Names.{name_in, object_bound, stands_for}
 use Rattle.history.specs.Places.{History, now, id_at, exported_count}
-use Rattle.history.specs.Limits.{units_of, is_begin, is_end}
+use Rattle.history.specs.Limits.{units_of, is_begin, is_end, units_limit}
 use Rattle.history.specs.Running.{running_calls_by, running_calls}
 use Rattle.history.specs.Table.{is_effective, table, places}
 use Rattle.dgc_server.specs.StandsForCalls.{LeaseTable}
@@ -60,11 +60,11 @@ asked config events e leases x y runs seen withdrawn reported opened used moment
 }
 
 -- The room, by what was counted.
-pub room-as : (used running count : ℕ) (effective : Bool) (a : Ask) (runs : List Run) (x y : ExportTable) (room answer : Option Refused) → room ≡ room_refusal used running count effective a → running ≡ length runs → count ≡ length x.rows → y ≡ record x { room = y.room } →
-    room ≡ answer → room_refusal used (length runs) (length y.rows) effective a ≡ answer
-room-as used running count effective a runs x y room answer e n m r s =
-    ap (λ l. room_refusal used (length runs) (length l) effective a) (ap (λ (t : ExportTable). t.rows) r)
-    ∙ ap (λ k. room_refusal used (length runs) k effective a) (sym m) ∙ ap (λ k. room_refusal used k count effective a) (sym n) ∙ sym e ∙ s
+pub room-as : (stored : Bool) (used running count : ℕ) (effective : Bool) (a : Ask) (runs : List Run) (x y : ExportTable) (room answer : Option Refused) → room ≡ room_refusal stored used running count effective a → running ≡ length runs → count ≡ length x.rows → y ≡ record x { room = y.room } →
+    room ≡ answer → room_refusal stored used (length runs) (length y.rows) effective a ≡ answer
+room-as stored used running count effective a runs x y room answer e n m r s =
+    ap (λ l. room_refusal stored used (length runs) (length l) effective a) (ap (λ (t : ExportTable). t.rows) r)
+    ∙ ap (λ k. room_refusal stored used (length runs) k effective a) (sym m) ∙ ap (λ k. room_refusal stored used k count effective a) (sym n) ∙ sym e ∙ s
 
 -- ---- running calls
 
@@ -94,7 +94,7 @@ few-run config events leases exports runs withdrawn reported opened used moment 
     let calls = k.stands.runs_stand.calls o in
     let all = k.stands.runs_stand.all in
     let short = shorter (is_run_on object_of o) runs in
-    let units_few = k.stands.within.history in
+    let units_few = k.stands.within.calls in
     omega (arith, rows, few, calls, all, short, units_few)
 
 -- Where a connection runs a call of an object, its row has one.
@@ -215,43 +215,17 @@ bound-exported rows runs stood by _ o e b = absurd (cc)
 
 -- ---- what room leaves
 
--- Where there is room, the event's units and the objects that it exports are within their limits.
-pub room-units : (used running exported : ℕ) (effective : Bool) (a : Ask) → room_refusal used running exported effective a ≡ None → used + running + units_of a ≤ MAX_HISTORY_UNITS + 1
-room-units used running exported effective a h = go (effective && is_end a) (effective && is_begin a) (nat_lt MAX_EXPORTS (exported + opens effective a)) h
-  where
-    unfull : (b c : Bool) → (if b then Some HistoryFull else if c then Some (Full Exports) else None) ≡ None → b ≡ false
-    unfull true c h = absurd (cc)
-    unfull false c h = refl
-
-    go : (v w c : Bool) → (if nat_lt (MAX_HISTORY_UNITS + (if v then 1 else 0)) (used + running + units_of a + (if w then 1 else 0)) then Some HistoryFull else if c then Some (Full Exports) else None) ≡ None → used + running + units_of a ≤ MAX_HISTORY_UNITS + 1
-    go v w c h = one v w (ltb-false (MAX_HISTORY_UNITS + (if v then 1 else 0)) (used + running + units_of a + (if w then 1 else 0)) (unfull _ c h))
-      where
-        one : (v w : Bool) → used + running + units_of a + (if w then 1 else 0) ≤ MAX_HISTORY_UNITS + (if v then 1 else 0) → used + running + units_of a ≤ MAX_HISTORY_UNITS + 1
-        one true true h = omega (arith, h)
-        one true false h = omega (arith, h)
-        one false true h = omega (arith, h)
-        one false false h = omega (arith, h)
-
-pub room-exports : (used running exported : ℕ) (effective : Bool) (a : Ask) → room_refusal used running exported effective a ≡ None → exported + opens effective a ≤ MAX_EXPORTS
-room-exports used running exported effective a h =
+-- Where there is room, the objects that the event exports are within their limit.
+pub room-exports : (stored : Bool) (used running exported : ℕ) (effective : Bool) (a : Ask) → room_refusal stored used running exported effective a ≡ None → exported + opens effective a ≤ MAX_EXPORTS
+room-exports stored used running exported effective a h =
     ltb-false MAX_EXPORTS (exported + opens effective a)
-    (unfull (nat_lt (MAX_HISTORY_UNITS + (if effective && is_end a then 1 else 0)) (used + running + units_of a + (if effective && is_begin a then 1 else 0))) (nat_lt MAX_EXPORTS (exported + opens effective a)) h)
+    (unfull (nat_lt (units_limit stored + (if effective && is_end a then 1 else 0)) (used + running + units_of a + (if effective && is_begin a then 1 else 0))) ((effective && is_begin a) && nat_le MAX_RUNNING_CALLS running) (nat_lt MAX_EXPORTS (exported + opens effective a)) h)
   where
-    unfull : (b c : Bool) → (if b then Some HistoryFull else if c then Some (Full Exports) else None) ≡ None → c ≡ false
-    unfull true c h = absurd (cc)
-    unfull false true h = absurd (cc)
-    unfull false false h = refl
-
--- What is returned has no more entries than the event has units.
-pub returned-few : (space : Uid) (k : ℕ) (rows : List Export) (stood : Option ObjId) (effective : Bool) (a : Ask) → length (returned_by space k rows stood effective a) ≤ units_of a
-returned-few space k rows stood true (Finish o made listed u) =
-    let both = length-append (new_ids space k made) (filter (is_exported rows) listed) in let new = new-length space k made in let live = shorter (is_exported rows) listed in omega (arith, both, new, live)
-returned-few space k rows stood false (Finish o made listed u) = omega arith
-returned-few space k rows None effective (Lookup n u) = omega arith
-returned-few space k rows (Some o) effective (Lookup n u) = omega arith
-returned-few space k rows stood effective (Dirty y z v w) = omega arith
-returned-few space k rows stood effective (Clean y z v w) = omega arith
-returned-few space k rows stood effective _ = omega arith
+    unfull : (b z c : Bool) → (if b then Some HistoryFull else if z then Some HistoryFull else if c then Some (Full Exports) else None) ≡ None → c ≡ false
+    unfull true z c h = absurd (cc)
+    unfull false true c h = absurd (cc)
+    unfull false false true h = absurd (cc)
+    unfull false false false h = refl
 
 -- ---- rows
 

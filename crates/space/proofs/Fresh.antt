@@ -31,7 +31,7 @@ nothing_exported config = record { space = config.uid; ack = config.ack_ms; adde
 within-nothing : (config : SpaceConfig) → IsWithin config []
 unfolding now reserved_units lease_calls clients_with_time_left clients pairs_with references awaiting_references names
 within-nothing config =
-    record { history = (let none = units-none in omega arith); exports = (let none = ap length (table-none config) in omega arith); awaits = omega arith; clients = omega arith; pairs = omega arith; names = omega arith }
+    record { history = (let none = units-none in omega arith); countable = (let none = units-none in omega arith); calls = omega arith; exports = (let none = ap length (table-none config) in omega arith); awaits = omega arith; clients = omega arith; pairs = omega arith; names = omega arith }
 
 stands-nothing : (config : SpaceConfig) (leases : LeaseTable) → StandsFor config.lease_ms leases 0 [] → Stands config [] leases (nothing_exported config) [] [] 0 0 0 0
 unfolding now exported_count lease_calls

@@ -196,7 +196,7 @@ abbrev pub withdrawn_then : SpaceConfig → List Event → Event → ExportTable
 withdrawn_then config events e t withdrawn = withdrawn ++ map (withdrawal_at (length events)) (going_now config events e t)
 
 stands-push : (config : SpaceConfig) (events : List Event) (e : Event) (leases leases1 leases2 : LeaseTable) (exports t : ExportTable) (runs runs1 : List Run) (withdrawn : List Withdrawal) (reported opened used moment : ℕ) (effective : Bool) → effective ≡ is_effective config (places config events) e.by e.ask →
-    Keeps config events leases exports runs withdrawn reported opened used moment → refusal limits config (places config events) e ≡ None →
+    Keeps config events leases exports runs withdrawn reported opened used moment → refusal (limits config) config (places config events) e ≡ None →
     IsActed config events e leases1 t runs1 → t.space ≡ config.uid → t.ack ≡ config.ack_ms → t.added ≡ opened + opens effective e.ask →
     StandsFor config.lease_ms leases2 (max e.moment (now (places config events))) (map (without_all (going_now config events e t)) (told_calls config events e)) →
     Stands config (place_of config (places config events) e ∷ places config events) leases2 (left config events e t) runs1 (withdrawn_then config events e t withdrawn)
@@ -229,7 +229,7 @@ stands-push config events e leases leases1 leases2 exports t runs runs1 withdraw
       reported_within = reported-few (is_abandon e.ask) reported withdrawn (map (withdrawal_at (length events)) (going_now config events e t)) k.stands.reported_within;
       used_is = omega arith;
       moment_is = sym (now-push config (places config events) e);
-      within = within-next config events e r;
+      within = within-next config events e k.stands.within.calls r;
     }
   where
     reported-few : (b : Bool) (n : ℕ) (xs ys : List Withdrawal) → n ≤ length xs → (if b then n else length (xs ++ ys)) ≤ length (xs ++ ys)
@@ -238,19 +238,19 @@ stands-push config events e leases leases1 leases2 exports t runs runs1 withdraw
 
 -- ---- the answer
 
-pub step-refused : (config : SpaceConfig) (events : List Event) (e : Event) (refused : Refused) → refusal limits config (places config events) e ≡ Some refused → Step config events e (Err refused) events
+pub step-refused : (config : SpaceConfig) (events : List Event) (e : Event) (refused : Refused) → refusal (limits config) config (places config events) e ≡ Some refused → Step config events e (Err refused) events
 step-refused config events e refused r = inl (ap (answer_with config events e) (sym r), ap (history_with events e) (sym r))
 
-pub step-taken : (config : SpaceConfig) (events : List Event) (e : Event) (turn : Turn) → refusal limits config (places config events) e ≡ None → turn ≡ turn_of config events e → Step config events e (Ok turn) (events ++ e ∷ [])
+pub step-taken : (config : SpaceConfig) (events : List Event) (e : Event) (turn : Turn) → refusal (limits config) config (places config events) e ≡ None → turn ≡ turn_of config events e → Step config events e (Ok turn) (events ++ e ∷ [])
 step-taken config events e turn r t = inl (ap (λ x. Ok x) t ∙ ap (answer_with config events e) (sym r), ap (history_with events e) (sym r))
 
 -- An answer that agrees with the refusal is a step.
-pub step-agrees : (config : SpaceConfig) (events : List Event) (e : Event) (refused : Refused) → Agrees {T = Unit {0}} (refusal limits config (places config events) e) (Err refused) → Step config events e (Err refused) events
+pub step-agrees : (config : SpaceConfig) (events : List Event) (e : Event) (refused : Refused) → Agrees {T = Unit {0}} (refusal (limits config) config (places config events) e) (Err refused) → Step config events e (Err refused) events
 step-agrees config events e refused (inl r) = step-refused config events e refused r
 step-agrees config events e refused (inr m) = inr (ap (λ x. Err x) m, refl)
 
 pub keeps-push : (config : SpaceConfig) (events : List Event) (e : Event) (leases leases1 leases2 : LeaseTable) (exports t : ExportTable) (runs runs1 : List Run) (withdrawn : List Withdrawal) (reported opened used moment : ℕ) (effective : Bool) → effective ≡ is_effective config (places config events) e.by e.ask →
-    Keeps config events leases exports runs withdrawn reported opened used moment → e.moment < END_OF_TIME → refusal limits config (places config events) e ≡ None →
+    Keeps config events leases exports runs withdrawn reported opened used moment → e.moment < END_OF_TIME → refusal (limits config) config (places config events) e ≡ None →
     IsActed config events e leases1 t runs1 → t.space ≡ config.uid → t.ack ≡ config.ack_ms → t.added ≡ opened + opens effective e.ask →
     StandsFor config.lease_ms leases2 (max e.moment (now (places config events))) (map (without_all (going_now config events e t)) (told_calls config events e)) →
     Keeps config (events ++ e ∷ []) leases2 (left config events e t) runs1 (withdrawn_then config events e t withdrawn)
@@ -292,8 +292,8 @@ rows-length h (x ∷ xs) = ap suc (rows-length h xs)
 -- The refusal, by what is kept: for want of room, for the references that are returned, and then as the lease table says after the calls
 -- that it stands for.
 pub refusal-kept : (config : SpaceConfig) (events : List Event) (e : Event) (leases : LeaseTable) (exports : ExportTable) (runs : List Run) (withdrawn : List Withdrawal) (reported opened used moment : ℕ) → Keeps config events leases exports runs withdrawn reported opened used moment →
-    refusal limits config (places config events) e
-    ≡ first_of_two (room_refusal used (length runs) (length exports.rows) (is_effective config (places config events) e.by e.ask) e.ask)
+    refusal (limits config) config (places config events) e
+    ≡ first_of_two (room_refusal config.stored used (length runs) (length exports.rows) (is_effective config (places config events) e.by e.ask) e.ask)
     (first_of_two (await_refusal (max e.moment (now (places config events))) exports.rows exports.waits (stood_for (places config events) e.ask) (is_effective config (places config events) e.by e.ask) e.ask)
     (first_of_two (lease_refusal config.lease_ms (max e.moment (now (places config events))) (live_calls (table config (places config events)) (lease_calls (places config events))) (call_with (has (table config (places config events))) (max e.moment (now (places config events))) e.ask))
     (name_refusal (length (names (places config events))) (stood_for (places config events) e.ask) (is_effective config (places config events) e.by e.ask) e.ask)))
@@ -311,8 +311,8 @@ refusal-kept config events e leases exports runs withdrawn reported opened used 
         (name_refusal (length (names (places config events))) (stood_for (places config events) e.ask) (is_effective config (places config events) e.by e.ask) e.ask))
 
     three : (u v r s n m : ℕ) → u ≡ v → r ≡ s → n ≡ m →
-        first_of_two (room_refusal u r n (is_effective config (places config events) e.by e.ask) e.ask) later
-        ≡ first_of_two (room_refusal v s m (is_effective config (places config events) e.by e.ask) e.ask) later
+        first_of_two (room_refusal config.stored u r n (is_effective config (places config events) e.by e.ask) e.ask) later
+        ≡ first_of_two (room_refusal config.stored v s m (is_effective config (places config events) e.by e.ask) e.ask) later
     three u v r s n m p q t = rw (p, q, t) refl
 
 -- ---- steps

@@ -33,7 +33,9 @@ pub mod RunLists
 pub mod RunSteps
 pub mod Settling
 pub mod StepsLaws
+pub mod StoredLaws
 pub mod SummaryLaws
 pub mod TextLaws
+pub mod ToldLaws
 pub mod TurnLaws
 pub mod WithdrawalLaws

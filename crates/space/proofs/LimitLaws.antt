@@ -1,8 +1,8 @@
 -- The entries of a history's tables and their limits, generic in the ask: what an event that is not refused leaves, and what time leaves.
 use Rattle.std.proofs.Common.{◌≡◌, ℕ, ◌+◌, ◌≤◌, ◌⊎◌, inl, inr, List, [], ◌∷◌, ◌++◌, length, refl, ap, sym, subst, ◌∙◌, map, max, arith, Option, Some, None, append-nil, length-append}
-use Rattle.std.specs.Prelude.{Bool, true, false, ◌&&◌, ◌||◌, not, filter, flat_map, nat_lt, if◌then◌else◌, option_to_list, is_none}
+use Rattle.std.specs.Prelude.{Bool, true, false, ◌&&◌, ◌||◌, not, filter, flat_map, nat_lt, nat_le, if◌then◌else◌, option_to_list, is_none}
 use Rattle.std.specs.List.{list_any}
-use Rattle.std.proofs.lemmas.Bool.{ltb-false, and_parts, and_from, or_left, or_right, or_cases}
+use Rattle.std.proofs.lemmas.Bool.{ltb-false, leb-false, and_parts, and_from, or_left, or_right, or_cases}
 use Rattle.std.proofs.lemmas.List.Folds.{list_any-append}
 use Rattle.sequence.proofs.Lists.{filter-shorter}
 use Rattle.object_ids.specs.declared.ids.ObjId.{ObjId}
@@ -14,14 +14,14 @@ use Rattle.history.specs.declared.asks.Ask.{Ask}
 use Rattle.history.specs.declared.asks.Ask.TheVariants.{Dirty, Clean}
 use Rattle.history.specs.declared.calls.Call.{Call}
 use Rattle.history.specs.declared.calls.Pair.{Pair}
-use Rattle.history.specs.declared.limits.TheConstants.{MAX_EXPORTS, MAX_AWAITING, MAX_CLIENTS, MAX_PAIRS, MAX_NAMES, MAX_HISTORY_UNITS}
+use Rattle.history.specs.declared.limits.TheConstants.{MAX_EXPORTS, MAX_AWAITING, MAX_CLIENTS, MAX_PAIRS, MAX_NAMES, MAX_ERASED_UNITS, MAX_RUNNING_CALLS}
 use Rattle.history.specs.declared.places.Exported.{Exported}
 use Rattle.history.specs.declared.places.Returned.{Returned}
 use Rattle.history.specs.declared.replies.Refused.TheVariants.{HistoryFull, Full}
 use Rattle.history.specs.Awaiting.{same_returned, returned_references, returns, is_ack_of, awaits, awaiting_references, until_of}
 use Rattle.history.specs.LeaseCalls.{call_with, lease_calls}
 use Rattle.history.specs.Leases.{is_dirty, calls_of, clients_with_time_left, is_remembered, same_pair, pairs_with, pairs, new_pairs}
-use Rattle.history.specs.Limits.{units_of, units, starts, ends, reserved_units, limits, exports_with_event, awaiting_with_event, lease_call, clients_with_event, pairs_with_event, names_with_event, is_full, refusal}
+use Rattle.history.specs.Limits.{units_of, units, starts, ends, reserved_units, limits, exports_with_event, awaiting_with_event, lease_call, clients_with_event, pairs_with_event, names_with_event, units_limit, is_full, starts_too_many, refusal}
 use Rattle.history.specs.Lists.{distinct, AllOnce}
 use Rattle.history.specs.Names.{name_bound, names}
 use Rattle.history.specs.Places.{History, has, now, ever_exported}
@@ -51,29 +51,31 @@ use Rattle.dgc_server.proofs.Steps.{earlier}
 -- ---- an event that is not refused
 
 pub record IsTaken (config : SpaceConfig) (h : History) (e : Event) : Type 0 where
-  pub history : is_full MAX_HISTORY_UNITS config h e ≡ false
+  pub history : is_full (units_limit config.stored) config h e ≡ false
+  pub calls : starts_too_many MAX_RUNNING_CALLS config h e ≡ false
   pub exports : nat_lt MAX_EXPORTS (exports_with_event config h e) ≡ false
   pub awaits : nat_lt MAX_AWAITING (awaiting_with_event config h e) ≡ false
   pub clients : nat_lt MAX_CLIENTS (clients_with_event config h e) ≡ false
   pub pairs : nat_lt MAX_PAIRS (pairs_with_event config h e) ≡ false
   pub names : nat_lt MAX_NAMES (names_with_event config h e) ≡ false
 
-unchained : (a b c d e f : Bool) →
-    (if a then Some HistoryFull else if b then Some (Full Exports) else if c then Some (Full Awaiting) else if d then Some (Full Clients) else if e then Some (Full Pairs) else if f then Some (Full Names) else None) ≡ None →
-    (a ≡ false) × (b ≡ false) × (c ≡ false) × (d ≡ false) × (e ≡ false) × (f ≡ false)
-unchained true b c d e f h = absurd (cc)
-unchained false true c d e f h = absurd (cc)
-unchained false false true d e f h = absurd (cc)
-unchained false false false true e f h = absurd (cc)
-unchained false false false false true f h = absurd (cc)
-unchained false false false false false true h = absurd (cc)
-unchained false false false false false false h = (refl, refl, refl, refl, refl, refl)
+unchained : (a z b c d e f : Bool) →
+    (if a then Some HistoryFull else if z then Some HistoryFull else if b then Some (Full Exports) else if c then Some (Full Awaiting) else if d then Some (Full Clients) else if e then Some (Full Pairs) else if f then Some (Full Names) else None) ≡ None →
+    (a ≡ false) × (z ≡ false) × (b ≡ false) × (c ≡ false) × (d ≡ false) × (e ≡ false) × (f ≡ false)
+unchained true z b c d e f h = absurd (cc)
+unchained false true b c d e f h = absurd (cc)
+unchained false false true c d e f h = absurd (cc)
+unchained false false false true d e f h = absurd (cc)
+unchained false false false false true e f h = absurd (cc)
+unchained false false false false false true f h = absurd (cc)
+unchained false false false false false false true h = absurd (cc)
+unchained false false false false false false false h = (refl, refl, refl, refl, refl, refl, refl)
 
-pub taken-all : (config : SpaceConfig) (h : History) (e : Event) → refusal limits config h e ≡ None → IsTaken config h e
+pub taken-all : (config : SpaceConfig) (h : History) (e : Event) → refusal (limits config) config h e ≡ None → IsTaken config h e
 unfolding refusal
 taken-all config h e r =
-    let all = unchained (is_full MAX_HISTORY_UNITS config h e) (nat_lt MAX_EXPORTS (exports_with_event config h e)) (nat_lt MAX_AWAITING (awaiting_with_event config h e)) (nat_lt MAX_CLIENTS (clients_with_event config h e)) (nat_lt MAX_PAIRS (pairs_with_event config h e)) (nat_lt MAX_NAMES (names_with_event config h e)) r in
-    record { history = all.0; exports = all.1; awaits = all.2; clients = all.3; pairs = all.4; names = all.5 }
+    let all = unchained (is_full (units_limit config.stored) config h e) (starts_too_many MAX_RUNNING_CALLS config h e) (nat_lt MAX_EXPORTS (exports_with_event config h e)) (nat_lt MAX_AWAITING (awaiting_with_event config h e)) (nat_lt MAX_CLIENTS (clients_with_event config h e)) (nat_lt MAX_PAIRS (pairs_with_event config h e)) (nat_lt MAX_NAMES (names_with_event config h e)) r in
+    record { history = all.0; calls = all.1; exports = all.2; awaits = all.3; clients = all.4; pairs = all.5; names = all.6 }
 
 -- ---- units
 
@@ -97,6 +99,27 @@ units-next limit config events e f =
     go true false f m s r = omega arith
     go false true f m s r = omega arith
     go false false f m s r = omega arith
+
+-- The history with the event has no more running calls than were tested.
+pub calls-next : (limit : ℕ) (config : SpaceConfig) (events : List Event) (e : Event) → reserved_units (places config events) ≤ limit → starts_too_many limit config (places config events) e ≡ false →
+    reserved_units (place_of config (places config events) e ∷ places config events) ≤ limit
+unfolding starts_too_many one_if
+calls-next limit config events e w f =
+    go (starts (place_of config (places config events) e)) (ends (place_of config (places config events) e)) (nat_le limit (reserved_units (places config events))) refl f (reserved_units-push config events e)
+  where
+    go : (b a c : Bool) → nat_le limit (reserved_units (places config events)) ≡ c → (b && c) ≡ false →
+        reserved_units (place_of config (places config events) e ∷ places config events) + one_if a ≡ reserved_units (places config events) + one_if b →
+        reserved_units (place_of config (places config events) e ∷ places config events) ≤ limit
+    go true a true t f s = absurd (cc)
+    go true true false t f s = let few = leb-false limit (reserved_units (places config events)) t in omega (arith, few, s)
+    go true false false t f s = let few = leb-false limit (reserved_units (places config events)) t in omega (arith, few, s)
+    go false true c t f s = omega (arith, w, s)
+    go false false c t f s = omega (arith, w, s)
+
+-- Each limit of units can be counted.
+pub units-countable : (stored : Bool) → units_limit stored ≤ MAX_ERASED_UNITS
+units-countable true = omega arith
+units-countable false = omega arith
 
 -- ---- exported objects
 
@@ -316,11 +339,13 @@ names-next config events e =
         ∙ begun n (place_of config (places config events) e).effective (is_none (place_of config (places config events) e).name_stood_for) (name_bound (place_of config (places config events) e).event.ask) h)
 
 -- ---- ALL TABLES after an event that is not refused.
-pub within-next : (config : SpaceConfig) (events : List Event) (e : Event) → refusal limits config (places config events) e ≡ None → IsWithin config (place_of config (places config events) e ∷ places config events)
-within-next config events e r =
+pub within-next : (config : SpaceConfig) (events : List Event) (e : Event) → reserved_units (places config events) ≤ MAX_RUNNING_CALLS → refusal (limits config) config (places config events) e ≡ None → IsWithin config (place_of config (places config events) e ∷ places config events)
+within-next config events e before r =
     let t = taken-all config (places config events) e r in
     record {
-      history = units-next MAX_HISTORY_UNITS config events e t.history;
+      history = units-next (units_limit config.stored) config events e t.history;
+      countable = (let some = units-next (units_limit config.stored) config events e t.history in let most = units-countable config.stored in omega (arith, some, most));
+      calls = calls-next MAX_RUNNING_CALLS config events e before t.calls;
       exports = (let few = ltb-false MAX_EXPORTS (exports_with_event config (places config events) e) t.exports in omega (arith, few, exports-next config events e));
       awaits = (let few = ltb-false MAX_AWAITING (awaiting_with_event config (places config events) e) t.awaits in omega (arith, few, awaiting-next config events e));
       clients = (let few = ltb-false MAX_CLIENTS (clients_with_event config (places config events) e) t.clients in omega (arith, few, clients-next config (places config events) e));

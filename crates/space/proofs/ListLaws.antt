@@ -28,7 +28,7 @@ use Rattle.export_table.specs.StandsForHistory.{rows_of}
 
 -- An event that has a turn stands at the end of the history then.
 pub taken-after : (config : SpaceConfig) (h h2 : List Event) (e : Event) (turn : Turn) → Step config h e (Ok turn) h2 → h2 ≡ h ++ e ∷ []
-taken-after config h h2 e turn (inl p) = go (refusal limits config (places config h) e) p.0 p.1
+taken-after config h h2 e turn (inl p) = go (refusal (limits config) config (places config h) e) p.0 p.1
   where
     go : (r : Option Refused) → Ok turn ≡ answer_with config h e r → h2 ≡ history_with h e r → h2 ≡ h ++ e ∷ []
     go None a b = b

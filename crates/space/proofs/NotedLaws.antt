@@ -26,7 +26,7 @@ use Rattle.space.specs.Noted.{NoteFitsIn, made_by, turn_answer}
 
 -- An event that was taken is answered by its turn.
 pub taken-turn : (config : SpaceConfig) (h h2 : List Event) (e : Event) (turn : Turn) → Step config h e (Ok turn) h2 → (turn ≡ turn_of config h e) × (h2 ≡ h ++ e ∷ [])
-taken-turn config h h2 e turn (inl s) = go (refusal limits config (places config h) e) s.0 s.1
+taken-turn config h h2 e turn (inl s) = go (refusal (limits config) config (places config h) e) s.0 s.1
   where
     go : (r : Option Refused) → Ok turn ≡ answer_with config h e r → h2 ≡ history_with h e r → (turn ≡ turn_of config h e) × (h2 ≡ h ++ e ∷ [])
     go None a b = ((cc), b)
@@ -34,10 +34,10 @@ taken-turn config h h2 e turn (inl s) = go (refusal limits config (places config
 taken-turn config h h2 e turn (inr s) = absurd (let never = s.0 in cc)
 
 -- One that was refused, for its cause or for want of memory, leaves all as it was.
-pub refused-turn : (config : SpaceConfig) (h h2 : List Event) (e : Event) (refused : Refused) → Step config h e (Err refused) h2 → ((refusal limits config (places config h) e ≡ Some refused) ⊎ (refused ≡ OutOfMemory)) × (h2 ≡ h)
-refused-turn config h h2 e refused (inl s) = go (refusal limits config (places config h) e) refl s.0 s.1
+pub refused-turn : (config : SpaceConfig) (h h2 : List Event) (e : Event) (refused : Refused) → Step config h e (Err refused) h2 → ((refusal (limits config) config (places config h) e ≡ Some refused) ⊎ (refused ≡ OutOfMemory)) × (h2 ≡ h)
+refused-turn config h h2 e refused (inl s) = go (refusal (limits config) config (places config h) e) refl s.0 s.1
   where
-    go : (r : Option Refused) → refusal limits config (places config h) e ≡ r → Err refused ≡ answer_with config h e r → h2 ≡ history_with h e r → ((refusal limits config (places config h) e ≡ Some refused) ⊎ (refused ≡ OutOfMemory)) × (h2 ≡ h)
+    go : (r : Option Refused) → refusal (limits config) config (places config h) e ≡ r → Err refused ≡ answer_with config h e r → h2 ≡ history_with h e r → ((refusal (limits config) config (places config h) e ≡ Some refused) ⊎ (refused ≡ OutOfMemory)) × (h2 ≡ h)
     go None q a b = absurd (cc)
     go (Some x) q a b = (let same : x ≡ refused = (cc) in inl (q ∙ ap (λ y. Some y) same), b)
 refused-turn config h h2 e refused (inr s) = (let same : refused ≡ OutOfMemory = (let first = s.0 in cc) in inr same, s.1)

@@ -1,6 +1,6 @@
 -- A turn that nothing can refuse any more: what it may rely on, by what its parts answered, and what follows.
-use Rattle.std.proofs.Common.{◌≡◌, ℕ, ◌+◌, ◌<◌, ◌≤◌, ◌^◌, List, [], ◌∷◌, ◌++◌, length, refl, ap, sym, subst, ◌∙◌, map, max, arith, Option, Some, None, Ok}
-use Rattle.std.specs.Prelude.{Bool, true, drop, option_and_then, vec_len, vec_capacity}
+use Rattle.std.proofs.Common.{◌≡◌, ℕ, ◌+◌, ◌<◌, ◌≤◌, ◌^◌, List, [], ◌∷◌, ◌++◌, length, refl, ap, sym, subst, ◌∙◌, map, max, arith, Option, Some, None, Ok, ◌⊎◌, length-append}
+use Rattle.std.specs.Prelude.{Bool, true, false, drop, option_and_then, vec_len, vec_capacity}
 use Rattle.object_ids.specs.declared.ids.Uid.{Uid}
 use Rattle.object_ids.specs.declared.ids.ObjId.{ObjId}
 use Rattle.history.specs.declared.asks.Ask.TheVariants.{Finish, Abandon, Lookup}
@@ -11,6 +11,7 @@ use Rattle.history.specs.LeaseCalls.{call_with}
 use Rattle.history.specs.Limits.{units_of}
 use Rattle.history.specs.Names.{name_in, names, object_bound}
 use Rattle.history.specs.Places.{id_at}
+use Rattle.history.specs.Replies.{is_abandon}
 use Rattle.history.specs.Steps.{Step}
 use Rattle.history.specs.Table.{places}
 use Rattle.dgc_server.specs.StandsForCalls.{LeaseTable, StandsFor, ForEachLog}
@@ -30,6 +31,7 @@ use Rattle.space.specs.Doubts.{AreInDoubt, HasLog, taken_by}
 use Rattle.space.specs.Kept.{Keeps}
 use Rattle.space.specs.Ready.{IsReady}
 use Rattle.space.specs.RunTable.{AreSame, RunTable}
+use Rattle.space.specs.Stored.{IsStoredAs}
 use Rattle.space.specs.Whole.{IsWhole}
 use Rattle.space.specs.Withdrawals.{WithdrawalTable}
 use Rattle.space.proofs.Acting.{stood_for}
@@ -37,6 +39,7 @@ use Rattle.space.proofs.AheadLaws.{few-calls, room-turned}
 use Rattle.space.proofs.AskLaws.{abandon-counted, acted-few, bound-exported, few-pins, few-run, finish-counted, finish-few, lookup-fits, room-exports, stood-is, stood-pinned}
 use Rattle.space.proofs.Bindings.{bindings-counted, names-next}
 use Rattle.space.proofs.EndLaws.{has-log}
+use Rattle.space.proofs.StoredLaws.{stored-kept, stored-told}
 use Rattle.space.proofs.Settling.{settled-but, settled-roomy}
 use Rattle.space.proofs.TurnLaws.{HasActed, HasWithdrawn, IsAsked, is-effective, keeps-room, turn-keeps, turn-step}
 
@@ -45,7 +48,7 @@ use Rattle.space.proofs.TurnLaws.{HasActed, HasWithdrawn, IsAsked, is-effective,
 -- WHAT A TURN MAY RELY ON, by what its parts answered of the tables `t`: these were told of the event, and room was made in them.
 pub is-ready : (t : Tables) {e : Event} {a : Admitted} {p : Prepared} {noted : Bool} {time counted : ℕ} {events : EventRecord} {runs : RunTable} {withdrawn : WithdrawalTable} {exports : ExportTable} {leases : LeaseTable} {bindings : List Binding} →
     IsWhole t → e.moment < END_OF_TIME → time ≡ max e.moment t.moment →
-    a.stood ≡ option_and_then (object_of t.names) (name_in e.ask) → a.effective ≡ effective_by t.exports.rows t.runs.items a.stood e.by e.ask → room_refusal t.units (length t.runs.items) (length t.exports.rows) a.effective e.ask ≡ None →
+    a.stood ≡ option_and_then (object_of t.names) (name_in e.ask) → a.effective ≡ effective_by t.exports.rows t.runs.items a.stood e.by e.ask → room_refusal t.config.stored t.units (length t.runs.items) (length t.exports.rows) a.effective e.ask ≡ None →
     p.opened ≡ opens a.effective e.ask → p.objects ≡ length t.exports.rows + opens a.effective e.ask → p.listed.references.items ≡ returned_by t.config.uid t.added t.exports.rows a.stood a.effective e.ask →
     AreInDoubt t.leases time t.exports.waits (taken_by t.exports.waits (id_at t.config.uid t.added) a.stood p.listed.references.items e.ask) p.listed.doubtful.items →
     p.untold.gone.items ≡ map (λ (w : Withdrawal). w.object) (drop t.reported t.withdrawn.items) → vec_len p.untold.gone + length p.listed.doubtful.items ≤ vec_capacity p.untold.gone →
@@ -53,11 +56,12 @@ pub is-ready : (t : Tables) {e : Event} {a : Admitted} {p : Prepared} {noted : B
     await_refusal time t.exports.rows t.exports.waits a.stood a.effective e.ask ≡ None →
     counted ≡ length p.listed.references.items →
     length events.items + length runs.items + 2 ≤ events.capacity → 0 < runs.room → length withdrawn.items + p.objects ≤ withdrawn.room → p.opened ≤ exports.room.exports → counted ≤ exports.room.waits →
+    events.stored ≡ t.events.stored → withdrawn.told ≡ t.withdrawn.told →
     events.items ≡ t.events.items → runs.items ≡ t.runs.items → withdrawn.items ≡ t.withdrawn.items → exports ≡ record t.exports { room = exports.room } →
     ForEachLogBy time t.leases (λ lease calls. StandsFor lease leases time (call_with (is_exported exports.rows) time e.ask ++ calls)) → bindings ≡ acted_names a.effective e.ask t.names →
     ForEachLogBy time t.leases (λ lease calls. told_refusal lease time calls (call_with (is_exported exports.rows) time e.ask) (length t.names) (option_and_then (object_of t.names) (name_in e.ask)) a.effective e.ask ≡ None) →
     IsReady (record t { events = events; runs = runs; withdrawn = withdrawn; exports = exports; leases = leases; names = bindings }) e a p noted
-is-ready t {e} {a} {p} {noted} {time} {counted} {events} {runs} {withdrawn} {exports} {leases} {bindings} (k, r, b) early at st f full op ob refs doubt gone gone_room copy_room reply fit count er rr wr xr waits_room ev ru wi ex ok ns refusal =
+is-ready t {e} {a} {p} {noted} {time} {counted} {events} {runs} {withdrawn} {exports} {leases} {bindings} (k, r, b, s) early at st f full op ob refs doubt gone gone_room copy_room reply fit count er rr wr xr waits_room same_kind told ev ru wi ex ok ns refusal =
     let E : List Event → Type 0 = λ es. IsReady (record t { events = record events { items = es }; runs = runs; withdrawn = withdrawn; exports = exports; leases = leases; names = bindings }) e a p noted in
     let R : List Run → Type 0 = λ rs. IsReady (record t { events = record events { items = t.events.items }; runs = record runs { items = rs }; withdrawn = withdrawn; exports = exports; leases = leases; names = bindings }) e a p noted in
     let W : List Withdrawal → Type 0 = λ ws. IsReady (record t { events = record events { items = t.events.items }; runs = record runs { items = t.runs.items }; withdrawn = record withdrawn { items = ws }; exports = exports; leases = leases; names = bindings }) e a p noted in
@@ -73,6 +77,7 @@ is-ready t {e} {a} {p} {noted} {time} {counted} {events} {runs} {withdrawn} {exp
       before = t.leases;
       keeps = keeps-room t.config t.events.items t.leases t.exports (record t.exports { room = exports.room }) t.runs.items t.withdrawn.items t.reported t.added t.units t.moment exports.room refl k;
       leases_told = subst (λ n. O (record t.exports { room = exports.room }) n) at (subst (λ x. O x time) ex ok);
+      stored_so = stored-kept s same_kind told;
       names_told = names-next t.config t.events.items e a.effective t.names bindings b (is-effective t.config t.events.items e t.leases t.exports t.runs.items t.withdrawn.items t.reported t.added t.units t.moment a.effective asked) ns;
       early = early;
       stood_is = stood;
@@ -144,6 +149,15 @@ whole-when-ready {t} {e} {a} {p} {noted} {time} {place} {reported} {added} {used
       r.names_told,
     )
 
+-- WHAT IT LEAVES STORED.
+pub stored-when-ready : {t : Tables} {e : Event} {a : Admitted} {p : Prepared} {noted : Bool} {reported : ℕ} {withdrawn' : WithdrawalTable} (place : ℕ) (gone : List ObjId) (withdrawn : WithdrawalTable) → IsReady t e a p noted →
+    withdrawn.told ≡ t.withdrawn.told → withdrawn.items ≡ t.withdrawn.items ++ map (withdrawal_at place) gone → withdrawn'.items ≡ withdrawn.items → reported ≡ reported_after t.reported (length withdrawn'.items) e.ask →
+    (withdrawn'.told ≡ withdrawn.told) ⊎ ((is_abandon e.ask ≡ false) × withdrawn'.told ≤ length withdrawn'.items) → (t.config.stored ≡ true → withdrawn'.told ≡ withdrawn.told) →
+    IsStoredAs t.config t.events withdrawn' reported
+stored-when-ready {t} {e} {a} {p} {noted} {reported} {withdrawn'} place gone withdrawn r same wi seen is told kept =
+    let within = r.keeps.stands.reported_within in let longer = ap length (seen ∙ wi) in let sum = length-append t.withdrawn.items (map (withdrawal_at place) gone) in
+    stored-told e.ask (stored-kept {withdrawn' = withdrawn} r.stored_so refl same) (omega (arith, within, longer, sum)) is told kept
+
 -- ---- what its parts require of the exported objects
 
 pub few-when-ready : {t : Tables} {e : Event} {a : Admitted} {p : Prepared} {noted : Bool} → IsReady t e a p noted → (o : ObjId) → running_of t.exports.rows o < 2 ^ 31
@@ -157,12 +171,12 @@ finished-when-ready {t} {e} {a} r o made listed u f s = finish-counted t.config 
 
 pub countable-when-ready : {t : Tables} {e : Event} {a : Admitted} {p : Prepared} {noted : Bool} → IsReady t e a p noted → t.exports.added + opens a.effective e.ask < END_OF_OBJECT_COUNT
 countable-when-ready {t} {e} {a} r =
-    let within = r.keeps.stands.within.history in let few = r.keeps.few_opened in let used = r.keeps.stands.used_is in let added = r.keeps.stands.added_is in
-    let exported = room-exports t.units (length t.runs.items) (length t.exports.rows) a.effective e.ask r.unfilled in
+    let within = r.keeps.stands.within.countable in let few = r.keeps.few_opened in let used = r.keeps.stands.used_is in let added = r.keeps.stands.added_is in
+    let exported = room-exports t.config.stored t.units (length t.runs.items) (length t.exports.rows) a.effective e.ask r.unfilled in
     omega (arith, within, few, used, added, exported)
 
 pub within-when-ready : {t : Tables} {e : Event} {a : Admitted} {p : Prepared} {noted : Bool} → IsReady t e a p noted → length t.exports.rows + opens a.effective e.ask ≤ MAX_EXPORTS
-within-when-ready {t} {e} {a} r = room-exports t.units (length t.runs.items) (length t.exports.rows) a.effective e.ask r.unfilled
+within-when-ready {t} {e} {a} r = room-exports t.config.stored t.units (length t.runs.items) (length t.exports.rows) a.effective e.ask r.unfilled
 
 pub early-when-ready : {t : Tables} {e : Event} {a : Admitted} {p : Prepared} {noted : Bool} {time : ℕ} → IsReady t e a p noted → time ≡ max e.moment t.moment → time < END_OF_TIME
 early-when-ready r at = let before = r.keeps.early in let early = r.early in omega (arith, at, before, early)

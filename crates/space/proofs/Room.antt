@@ -12,13 +12,13 @@ use Rattle.history.specs.declared.asks.SpaceConfig.{SpaceConfig}
 use Rattle.history.specs.declared.asks.Event.{Event}
 use Rattle.history.specs.declared.asks.Ask.{Ask}
 use Rattle.history.specs.declared.asks.Ask.TheVariants.{Dirty, Clean, Bind, Rebind}
-use Rattle.history.specs.declared.limits.TheConstants.{MAX_EXPORTS, MAX_AWAITING, MAX_CLIENTS, MAX_PAIRS, MAX_NAMES, MAX_HISTORY_UNITS}
+use Rattle.history.specs.declared.limits.TheConstants.{MAX_EXPORTS, MAX_AWAITING, MAX_CLIENTS, MAX_PAIRS, MAX_NAMES, MAX_RUNNING_CALLS}
 use Rattle.history.specs.declared.replies.Refused.{Refused}
 use Rattle.history.specs.declared.replies.Refused.TheVariants.{HistoryFull, Full}
 use Rattle.history.specs.Awaiting.{same_returned, returned_references, awaiting_references}
 use Rattle.history.specs.LeaseCalls.{lease_calls}
 use Rattle.history.specs.Leases.{clients_with_time_left, same_pair, pairs_with}
-use Rattle.history.specs.Limits.{units_of, units, reserved_units, is_begin, is_end, limits, exports_with_event, awaiting_with_event, lease_call, clients_with_event, pairs_with_event, names_with_event, is_full, refusal}
+use Rattle.history.specs.Limits.{units_of, units, reserved_units, is_begin, is_end, limits, exports_with_event, awaiting_with_event, lease_call, clients_with_event, pairs_with_event, names_with_event, units_limit, is_full, starts_too_many, refusal}
 use Rattle.history.specs.Lists.{distinct, AllOnce}
 use Rattle.history.specs.Names.{name_bound, names, stands_for}
 use Rattle.history.specs.Places.{History, has, now}
@@ -44,6 +44,11 @@ pub full-is : (limit : ℕ) (config : SpaceConfig) (h : History) (e : Event) →
     ≡ nat_lt (limit + (if is_effective config h e.by e.ask && is_end e.ask then 1 else 0)) (units h + reserved_units h + units_of e.ask + (if is_effective config h e.by e.ask && is_begin e.ask then 1 else 0))
 unfolding is_full place_of
 full-is limit config h e = refl
+
+pub calls-are : (limit : ℕ) (config : SpaceConfig) (h : History) (e : Event) →
+    starts_too_many limit config h e ≡ ((is_effective config h e.by e.ask && is_begin e.ask) && nat_le limit (reserved_units h))
+unfolding starts_too_many place_of
+calls-are limit config h e = refl
 
 pub exports-is : (config : SpaceConfig) (h : History) (e : Event) → exports_with_event config h e ≡ length (table config h) + opens (is_effective config h e.by e.ask) e.ask
 unfolding exports_with_event
@@ -188,35 +193,36 @@ call-is config h e w = go e.ask
 
 -- ---- the first cause
 
-chain : (a b c d e f : Bool) (await more named : Option Refused) → (if c then Some (Full Awaiting) else None) ≡ await → (if f then Some (Full Names) else None) ≡ named → (if d then Some (Full Clients) else if e then Some (Full Pairs) else None) ≡ more →
-    (if a then Some HistoryFull else if b then Some (Full Exports) else if c then Some (Full Awaiting) else if d then Some (Full Clients) else if e then Some (Full Pairs) else if f then Some (Full Names) else None)
-    ≡ first_of_two (if a then Some HistoryFull else if b then Some (Full Exports) else None) (first_of_two await (first_of_two more named))
-chain true b c d e f await more named g h m = refl
-chain false true c d e f await more named g h m = refl
-chain false false true d e f await more named g h m = ap (λ o. first_of_two o (first_of_two more named)) g
-chain false false false true e f await more named g h m = ap (λ o. first_of_two o named) m ∙ ap (λ o. first_of_two o (first_of_two more named)) g
-chain false false false false true f await more named g h m = ap (λ o. first_of_two o named) m ∙ ap (λ o. first_of_two o (first_of_two more named)) g
-chain false false false false false f await more named g h m = h ∙ ap (λ o. first_of_two o named) m ∙ ap (λ o. first_of_two o (first_of_two more named)) g
+chain : (a z b c d e f : Bool) (await more named : Option Refused) → (if c then Some (Full Awaiting) else None) ≡ await → (if f then Some (Full Names) else None) ≡ named → (if d then Some (Full Clients) else if e then Some (Full Pairs) else None) ≡ more →
+    (if a then Some HistoryFull else if z then Some HistoryFull else if b then Some (Full Exports) else if c then Some (Full Awaiting) else if d then Some (Full Clients) else if e then Some (Full Pairs) else if f then Some (Full Names) else None)
+    ≡ first_of_two (if a then Some HistoryFull else if z then Some HistoryFull else if b then Some (Full Exports) else None) (first_of_two await (first_of_two more named))
+chain true z b c d e f await more named g h m = refl
+chain false true b c d e f await more named g h m = refl
+chain false false true c d e f await more named g h m = refl
+chain false false false true d e f await more named g h m = ap (λ o. first_of_two o (first_of_two more named)) g
+chain false false false false true e f await more named g h m = ap (λ o. first_of_two o named) m ∙ ap (λ o. first_of_two o (first_of_two more named)) g
+chain false false false false false true f await more named g h m = ap (λ o. first_of_two o named) m ∙ ap (λ o. first_of_two o (first_of_two more named)) g
+chain false false false false false false f await more named g h m = h ∙ ap (λ o. first_of_two o named) m ∙ ap (λ o. first_of_two o (first_of_two more named)) g
 
 -- THE REFUSAL of an event is that for want of room, then that of the references that it returns, then that of its lease call, and then that
 -- of the name that it binds.
 pub refusal-is : (config : SpaceConfig) (h : History) (e : Event) (await named : Option Refused) → IsWithin config h →
     (if nat_lt MAX_AWAITING (awaiting_with_event config h e) then Some (Full Awaiting) else None) ≡ await →
     (if nat_lt MAX_NAMES (names_with_event config h e) then Some (Full Names) else None) ≡ named →
-    refusal limits config h e
-    ≡ first_of_two (room_refusal (units h) (reserved_units h) (length (table config h)) (is_effective config h e.by e.ask) e.ask)
+    refusal (limits config) config h e
+    ≡ first_of_two (room_refusal config.stored (units h) (reserved_units h) (length (table config h)) (is_effective config h e.by e.ask) e.ask)
     (first_of_two await (first_of_two (lease_refusal config.lease_ms (max e.moment (now h)) (live_calls (table config h) (lease_calls h)) (lease_call config h e)) named))
 unfolding refusal
 refusal-is config h e await named w g k =
-    chain (is_full MAX_HISTORY_UNITS config h e) (nat_lt MAX_EXPORTS (exports_with_event config h e)) (nat_lt MAX_AWAITING (awaiting_with_event config h e)) (nat_lt MAX_CLIENTS (clients_with_event config h e)) (nat_lt MAX_PAIRS (pairs_with_event config h e)) (nat_lt MAX_NAMES (names_with_event config h e))
+    chain (is_full (units_limit config.stored) config h e) (starts_too_many MAX_RUNNING_CALLS config h e) (nat_lt MAX_EXPORTS (exports_with_event config h e)) (nat_lt MAX_AWAITING (awaiting_with_event config h e)) (nat_lt MAX_CLIENTS (clients_with_event config h e)) (nat_lt MAX_PAIRS (pairs_with_event config h e)) (nat_lt MAX_NAMES (names_with_event config h e))
     await (lease_refusal config.lease_ms (max e.moment (now h)) (live_calls (table config h) (lease_calls h)) (lease_call config h e)) named
     g k (call-is config h e w)
-    ∙ two _ _ _ _ (full-is MAX_HISTORY_UNITS config h e) (exports-is config h e)
+    ∙ two _ _ _ _ _ _ (full-is (units_limit config.stored) config h e) (calls-are MAX_RUNNING_CALLS config h e) (exports-is config h e)
   where
     later : Option Refused
     later = first_of_two await (first_of_two (lease_refusal config.lease_ms (max e.moment (now h)) (live_calls (table config h) (lease_calls h)) (lease_call config h e)) named)
 
-    two : (a b : Bool) (n m : ℕ) → a ≡ b → n ≡ m →
-        first_of_two (if a then Some HistoryFull else if nat_lt MAX_EXPORTS n then Some (Full Exports) else None) later
-        ≡ first_of_two (if b then Some HistoryFull else if nat_lt MAX_EXPORTS m then Some (Full Exports) else None) later
-    two a b n m p r = rw (p, r) refl
+    two : (a b y z : Bool) (n m : ℕ) → a ≡ b → y ≡ z → n ≡ m →
+        first_of_two (if a then Some HistoryFull else if y then Some HistoryFull else if nat_lt MAX_EXPORTS n then Some (Full Exports) else None) later
+        ≡ first_of_two (if b then Some HistoryFull else if z then Some HistoryFull else if nat_lt MAX_EXPORTS m then Some (Full Exports) else None) later
+    two a b y z n m p q r = rw (p, q, r) refl

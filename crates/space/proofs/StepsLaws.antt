@@ -44,13 +44,13 @@ answered-all config h events left given h2 none t =
     subst P (sym (t.events_are ∙ ap (λ l. t.front ++ l) none ∙ append-nil t.front)) t.steps
 
 -- Where memory was never wanting, the answers are those of the definition.
-pub answered-exact : (config : SpaceConfig) (h events : List Event) (given : List (Result Turn Refused)) (h2 : List Event) → Steps config h events given h2 → AllByRecursion (λ a. a ≢ Err OutOfMemory) given → given ≡ answers limits config h events
+pub answered-exact : (config : SpaceConfig) (h events : List Event) (given : List (Result Turn Refused)) (h2 : List Event) → Steps config h events given h2 → AllByRecursion (λ a. a ≢ Err OutOfMemory) given → given ≡ answers (limits config) config h events
 unfolding answers
 answered-exact config h [] [] h2 s n = refl
 answered-exact config h (e ∷ events) (a ∷ given) h2 s n = step s.1 (answered-exact config s.0 events given h2 s.2 n.1)
   where
-    step : Step config h e a s.0 → given ≡ answers limits config s.0 events → a ∷ given ≡ answers limits config h (e ∷ events)
-    step (inl p) rest = ap (λ x. x ∷ given) p.0 ∙ ap (λ l. answer_to limits config h e ∷ l) (rest ∙ ap (λ g. answers limits config g events) p.1)
+    step : Step config h e a s.0 → given ≡ answers (limits config) config s.0 events → a ∷ given ≡ answers (limits config) config h (e ∷ events)
+    step (inl p) rest = ap (λ x. x ∷ given) p.0 ∙ ap (λ l. answer_to (limits config) config h e ∷ l) (rest ∙ ap (λ g. answers (limits config) config g events) p.1)
     step (inr p) rest = absurd (n.0 p.0)
 answered-exact config h [] (a ∷ given) h2 s n = absurd s
 answered-exact config h (e ∷ events) [] h2 s n = absurd s

@@ -1,6 +1,6 @@
 -- The summary and the journal, by what is kept.
 use Rattle.std.proofs.Common.{◌≡◌, ℕ, ◌<◌, List, [], ◌∷◌, ◌++◌, length, refl, ap, sym, subst, ◌∙◌, arith, max, flat_map}
-use Rattle.std.specs.Prelude.{pos}
+use Rattle.std.specs.Prelude.{pos, true}
 use Rattle.std.specs.List.{AllByRecursion}
 use Rattle.std.proofs.lemmas.List.{length-map}
 use Rattle.history.specs.declared.places.Exported.{Exported}
@@ -147,13 +147,13 @@ events-fit config events moment is early fit = both events (moments-early config
 -- It is the journal of the configuration and the events.
 pub journal_spelled : {shown : List Exported} (config : SpaceConfig) (events : List Event) (text : List ℕ) (s : SpaceHistory) → record { configuration = config; events = events; rows = shown } ≡ s → HasDurations config
     → (ConfigFits config → SpellsConfig config (config_text config)) → AllByRecursion EventFits events → text ≡ journal_text s.configuration s.events
-    → s.configuration.uid.count ≡ pos 0 → JournalText text s.configuration s.events
+    → s.configuration.stored ≡ true → s.configuration.uid.count ≡ pos 0 → JournalText text s.configuration s.events
 journal_spelled config events text s v durations spells fit is =
-    let P : SpaceHistory → Type 0 = λ x. text ≡ journal_text x.configuration x.events → x.configuration.uid.count ≡ pos 0 → JournalText text x.configuration x.events in
+    let P : SpaceHistory → Type 0 = λ x. text ≡ journal_text x.configuration x.events → x.configuration.stored ≡ true → x.configuration.uid.count ≡ pos 0 → JournalText text x.configuration x.events in
     subst P v of_config is
   where
-    of_config : text ≡ journal_text config events → config.uid.count ≡ pos 0 → JournalText text config events
-    of_config same count =
-        let first = spells (record { some_lease = durations.some_lease; short_lease = durations.short_lease; some_ack = durations.some_ack; short_ack = durations.short_ack; count = count }) in
+    of_config : text ≡ journal_text config events → config.stored ≡ true → config.uid.count ≡ pos 0 → JournalText text config events
+    of_config same stored count =
+        let first = spells (record { some_lease = durations.some_lease; short_lease = durations.short_lease; some_ack = durations.some_ack; short_ack = durations.short_ack; count = count; stored = stored }) in
         let Q : List ℕ → Type 0 = λ t. JournalText t config events in
         subst Q (sym same) (journal_after config events first fit)

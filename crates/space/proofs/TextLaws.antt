@@ -3,7 +3,7 @@ use Rattle.std.proofs.Common.{◌≡◌, ℕ, ◌+◌, ◌<◌, ◌≤◌, List,
 use Rattle.std.specs.Prelude.{true, false, flat_map, codes, option_map, option_to_list, if◌then◌else◌}
 use Rattle.std.specs.List.{list_any, AllByRecursion}
 use Rattle.std.proofs.lemmas.Bool.{or_parts}
-use Rattle.std.proofs.lemmas.List.{take_all, take_more}
+use Rattle.std.proofs.lemmas.List.{take_all, take_more, append_cancel_right}
 use Rattle.std.proofs.lemmas.List.Concat.{flat_map-append}
 use Rattle.history.specs.declared.asks.SpaceConfig.{SpaceConfig}
 use Rattle.history.specs.declared.asks.Event.{Event}
@@ -37,6 +37,7 @@ use Rattle.space.specs.declared.runs.Run.{Run}
 use Rattle.space.specs.Built.{SpaceHistory}
 use Rattle.space.specs.Kept.{live_calls, Keeps}
 use Rattle.space.specs.OutlineRows.{held_row, binding_text}
+use Rattle.space.specs.Standing.{standing}
 use Rattle.export_table.specs.StandsForHistory.{WaitsStand, reference_of, end_of, row_of, rows_of}
 use Rattle.space.proofs.LiveLaws.{holders-live, lease_rows-live}
 use Rattle.rmi_registry.specs.declared.binding.Binding.{Binding}
@@ -156,7 +157,7 @@ max_same : (m : ℕ) → max m m ≡ m
 max_same m = omega arith
 
 -- What was written, part after part.
-pub written : {shown : List Exported} (config : SpaceConfig) (events : List Event) (leases : LeaseTable) (exports : ExportTable) (runs : List Run) (withdrawn : List Withdrawal) (reported opened used moment count : ℕ) (bindings : List Binding) (start first second third fourth fifth : List ℕ) (s : SpaceHistory) →
+written : {shown : List Exported} (config : SpaceConfig) (events : List Event) (leases : LeaseTable) (exports : ExportTable) (runs : List Run) (withdrawn : List Withdrawal) (reported opened used moment count : ℕ) (bindings : List Binding) (start first second third fourth fifth : List ℕ) (s : SpaceHistory) →
     record { configuration = config; events = events; rows = shown } ≡ s → Keeps config events leases exports runs withdrawn reported opened used moment → AreBindings (places config events) bindings →
     count ≡ length events → first ≡ start ++ events_text count used moment →
     ((lease m : ℕ) (calls : List Call) → StandsFor lease leases m calls → second ≡ first ++ flat_map (λ r. object_line config (held_row lease (max moment m) calls r)) (map (row_at moment exports.waits) exports.rows)) →
@@ -187,3 +188,40 @@ written config events leases exports runs withdrawn reported opened used moment 
 
     after_start : (x a b c n d : List ℕ) → x ++ a ++ b ++ c ++ n ++ d ≡ x ++ (a ++ b ++ c ++ n ++ d)
     after_start x a b c n d = simp append_assoc refl
+
+-- The outline is what stands, and then the withdrawals.
+outline-standing : (config : SpaceConfig) (events : List Event) → outline config events ≡ standing config events ++ flat_map (withdrawal_line config) (withdrawals config (places config events))
+unfolding outline standing
+outline-standing config events =
+    parted (events_line (places config events)) (flat_map (object_line config) (map (object_row config (places config events)) (table config (places config events))))
+    (flat_map lease_line (lease_rows config.lease_ms (now (places config events)) (lease_calls (places config events)))) (flat_map (name_line config (places config events)) (names (places config events)))
+    (flat_map (withdrawal_line config) (withdrawals config (places config events)))
+  where
+    parted : (a b c n d : List ℕ) → a ++ b ++ c ++ n ++ d ≡ (a ++ b ++ c ++ n) ++ d
+    parted a b c n d = simp append_assoc refl
+
+-- What was written of what stands, part after part.
+pub standing-written : {shown : List Exported} (config : SpaceConfig) (events : List Event) (leases : LeaseTable) (exports : ExportTable) (runs : List Run) (withdrawn : List Withdrawal) (reported opened used moment count : ℕ) (bindings : List Binding) (start first second third fourth : List ℕ) (s : SpaceHistory) →
+    record { configuration = config; events = events; rows = shown } ≡ s → Keeps config events leases exports runs withdrawn reported opened used moment → AreBindings (places config events) bindings →
+    count ≡ length events → first ≡ start ++ events_text count used moment →
+    ((lease m : ℕ) (calls : List Call) → StandsFor lease leases m calls → second ≡ first ++ flat_map (λ r. object_line config (held_row lease (max moment m) calls r)) (map (row_at moment exports.waits) exports.rows)) →
+    ((lease m : ℕ) (calls : List Call) → StandsFor lease leases m calls → third ≡ second ++ flat_map lease_line (lease_rows lease (max moment m) calls)) →
+    fourth ≡ third ++ flat_map (binding_text config) bindings →
+    fourth ≡ start ++ standing s.configuration s.events
+standing-written {shown} config events leases exports runs withdrawn reported opened used moment count bindings start first second third fourth s v k bs n b c d f =
+    let P : SpaceHistory → Type 0 = λ x. fourth ≡ start ++ standing x.configuration x.events in
+    let last = flat_map (withdrawal_line config) withdrawn in
+    subst P v (append_cancel_right fourth (start ++ standing config events) last
+    (written {shown = shown} config events leases exports runs withdrawn reported opened used moment count bindings start first second third fourth (fourth ++ last) (record { configuration = config; events = events; rows = shown }) refl k bs n b c d f refl
+    ∙ ap (λ t. start ++ t) (outline-standing config events ∙ ap (λ ws. standing config events ++ flat_map (withdrawal_line config) ws) (sym k.stands.withdrawn_are))
+    ∙ sym (append_assoc start (standing config events) last)))
+
+-- The outline, where the withdrawals are written after it.
+pub outline-written : {shown : List Exported} (config : SpaceConfig) (events : List Event) (withdrawn : List Withdrawal) (start fourth fifth : List ℕ) (s : SpaceHistory) →
+    record { configuration = config; events = events; rows = shown } ≡ s → withdrawn ≡ withdrawals config (places config events) → fourth ≡ start ++ standing s.configuration s.events →
+    fifth ≡ fourth ++ flat_map (withdrawal_line config) withdrawn → fifth ≡ start ++ outline s.configuration s.events
+outline-written config events withdrawn start fourth fifth s v are f e =
+    let P : SpaceHistory → Type 0 = λ x. fourth ≡ start ++ standing x.configuration x.events → fifth ≡ start ++ outline x.configuration x.events in
+    subst P v (λ g.
+    e ∙ ap (λ t. t ++ flat_map (withdrawal_line config) withdrawn) g ∙ append_assoc start (standing config events) (flat_map (withdrawal_line config) withdrawn)
+    ∙ ap (λ ws. start ++ (standing config events ++ flat_map (withdrawal_line config) ws)) are ∙ ap (λ t. start ++ t) (sym (outline-standing config events))) f

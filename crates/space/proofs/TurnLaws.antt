@@ -53,8 +53,8 @@ is-effective config events e leases exports runs withdrawn reported opened used 
 -- The refusal, by the tests.
 refused-as : (config : SpaceConfig) (events : List Event) (e : Event) (leases : LeaseTable) (exports : ExportTable) (runs : List Run) (withdrawn : List Withdrawal) (reported opened used moment : ℕ) (effective : Bool) →
     IsAsked config events e leases exports runs withdrawn reported opened used moment effective →
-    refusal limits config (places config events) e
-    ≡ first_of_two (room_refusal used (length runs) (length exports.rows) effective e.ask)
+    refusal (limits config) config (places config events) e
+    ≡ first_of_two (room_refusal config.stored used (length runs) (length exports.rows) effective e.ask)
     (first_of_two (await_refusal (max e.moment moment) exports.rows exports.waits (stood_for (places config events) e.ask) effective e.ask)
     (told_refusal config.lease_ms (max e.moment moment) (live_calls (table config (places config events)) (lease_calls (places config events))) (call_with (is_exported exports.rows) (max e.moment moment) e.ask) (length (names (places config events))) (stood_for (places config events) e.ask) effective e.ask))
 refused-as config events e leases exports runs withdrawn reported opened used moment effective q =
@@ -64,15 +64,15 @@ refused-as config events e leases exports runs withdrawn reported opened used mo
     ∙ ap (λ n. call_with (is_exported exports.rows) n e.ask) (ap (max e.moment) (sym q.keeps.stands.moment_is)))
   where
     three : (a b : Bool) (n m : ℕ) (x y : List _) → a ≡ b → n ≡ m → x ≡ y →
-        first_of_two (room_refusal used (length runs) (length exports.rows) a e.ask) (first_of_two (await_refusal n exports.rows exports.waits (stood_for (places config events) e.ask) a e.ask)
+        first_of_two (room_refusal config.stored used (length runs) (length exports.rows) a e.ask) (first_of_two (await_refusal n exports.rows exports.waits (stood_for (places config events) e.ask) a e.ask)
         (told_refusal config.lease_ms n (live_calls (table config (places config events)) (lease_calls (places config events))) x (length (names (places config events))) (stood_for (places config events) e.ask) a e.ask))
-        ≡ first_of_two (room_refusal used (length runs) (length exports.rows) b e.ask) (first_of_two (await_refusal m exports.rows exports.waits (stood_for (places config events) e.ask) b e.ask)
+        ≡ first_of_two (room_refusal config.stored used (length runs) (length exports.rows) b e.ask) (first_of_two (await_refusal m exports.rows exports.waits (stood_for (places config events) e.ask) b e.ask)
         (told_refusal config.lease_ms m (live_calls (table config (places config events)) (lease_calls (places config events))) y (length (names (places config events))) (stood_for (places config events) e.ask) b e.ask))
     three a b n m x y p r s = rw (p, r, s) refl
 
 -- There was no room.
 pub room-step : (config : SpaceConfig) (events : List Event) (e : Event) (leases : LeaseTable) (exports : ExportTable) (runs : List Run) (withdrawn : List Withdrawal) (reported opened used moment : ℕ) (effective : Bool) (refused : Refused) →
-    IsAsked config events e leases exports runs withdrawn reported opened used moment effective → room_refusal used (length runs) (length exports.rows) effective e.ask ≡ Some refused → Step config events e (Err refused) events
+    IsAsked config events e leases exports runs withdrawn reported opened used moment effective → room_refusal config.stored used (length runs) (length exports.rows) effective e.ask ≡ Some refused → Step config events e (Err refused) events
 room-step config events e leases exports runs withdrawn reported opened used moment effective refused q r =
     step-refused config events e refused (
     refused-as config events e leases exports runs withdrawn reported opened used moment effective q
@@ -81,8 +81,8 @@ room-step config events e leases exports runs withdrawn reported opened used mom
 
 -- The refusal where there was room.
 refused-then : (config : SpaceConfig) (events : List Event) (e : Event) (leases : LeaseTable) (exports : ExportTable) (runs : List Run) (withdrawn : List Withdrawal) (reported opened used moment : ℕ) (effective : Bool) →
-    IsAsked config events e leases exports runs withdrawn reported opened used moment effective → room_refusal used (length runs) (length exports.rows) effective e.ask ≡ None →
-    refusal limits config (places config events) e
+    IsAsked config events e leases exports runs withdrawn reported opened used moment effective → room_refusal config.stored used (length runs) (length exports.rows) effective e.ask ≡ None →
+    refusal (limits config) config (places config events) e
     ≡ first_of_two (await_refusal (max e.moment moment) exports.rows exports.waits (stood_for (places config events) e.ask) effective e.ask)
     (told_refusal config.lease_ms (max e.moment moment) (live_calls (table config (places config events)) (lease_calls (places config events))) (call_with (is_exported exports.rows) (max e.moment moment) e.ask) (length (names (places config events))) (stood_for (places config events) e.ask) effective e.ask)
 refused-then config events e leases exports runs withdrawn reported opened used moment effective q none =
@@ -92,7 +92,7 @@ refused-then config events e leases exports runs withdrawn reported opened used 
 
 -- There was room, and none for the references that are returned.
 pub await-step : (config : SpaceConfig) (events : List Event) (e : Event) (leases : LeaseTable) (exports : ExportTable) (runs : List Run) (withdrawn : List Withdrawal) (reported opened used moment : ℕ) (effective : Bool) (refused : Refused) →
-    IsAsked config events e leases exports runs withdrawn reported opened used moment effective → room_refusal used (length runs) (length exports.rows) effective e.ask ≡ None →
+    IsAsked config events e leases exports runs withdrawn reported opened used moment effective → room_refusal config.stored used (length runs) (length exports.rows) effective e.ask ≡ None →
     Agrees {T = Unit {0}} (await_refusal (max e.moment moment) exports.rows exports.waits (stood_for (places config events) e.ask) effective e.ask) (Err refused) → Step config events e (Err refused) events
 await-step config events e leases exports runs withdrawn reported opened used moment effective refused q none answer =
     let P : Option Refused → Type 0 = λ x. Agrees {T = Unit {0}} x (Err refused) in
@@ -107,7 +107,7 @@ await-step config events e leases exports runs withdrawn reported opened used mo
 
 -- There was room for both, and the lease table refused.
 pub reported-step : (config : SpaceConfig) (events : List Event) (e : Event) (leases : LeaseTable) (exports : ExportTable) (runs : List Run) (withdrawn : List Withdrawal) (reported opened used moment : ℕ) (effective : Bool) (refused : Refused) →
-    IsAsked config events e leases exports runs withdrawn reported opened used moment effective → room_refusal used (length runs) (length exports.rows) effective e.ask ≡ None → await_refusal (max e.moment moment) exports.rows exports.waits (stood_for (places config events) e.ask) effective e.ask ≡ None →
+    IsAsked config events e leases exports runs withdrawn reported opened used moment effective → room_refusal config.stored used (length runs) (length exports.rows) effective e.ask ≡ None → await_refusal (max e.moment moment) exports.rows exports.waits (stood_for (places config events) e.ask) effective e.ask ≡ None →
     ForEachLogBy (max e.moment moment) leases (λ lease calls. Agrees {T = Unit {0}} (told_refusal lease (max e.moment moment) calls (call_with (is_exported exports.rows) (max e.moment moment) e.ask) (length (names (places config events))) (stood_for (places config events) e.ask) effective e.ask) (Err refused)) → Step config events e (Err refused) events
 reported-step config events e leases exports runs withdrawn reported opened used moment effective refused q none fit answer =
     let P : Option Refused → Type 0 = λ x. Agrees {T = Unit {0}} x (Err refused) in
@@ -117,8 +117,8 @@ reported-step config events e leases exports runs withdrawn reported opened used
     (answer config.lease_ms moment (live_calls (table config (places config events)) (lease_calls (places config events))) q.keeps.stands.leases_stand (omega arith)))
 
 pub taken : (config : SpaceConfig) (events : List Event) (e : Event) (leases : LeaseTable) (exports : ExportTable) (runs : List Run) (withdrawn : List Withdrawal) (reported opened used moment : ℕ) (effective : Bool) →
-    IsAsked config events e leases exports runs withdrawn reported opened used moment effective → room_refusal used (length runs) (length exports.rows) effective e.ask ≡ None → await_refusal (max e.moment moment) exports.rows exports.waits (stood_for (places config events) e.ask) effective e.ask ≡ None →
-    ForEachLogBy (max e.moment moment) leases (λ lease calls. told_refusal lease (max e.moment moment) calls (call_with (is_exported exports.rows) (max e.moment moment) e.ask) (length (names (places config events))) (stood_for (places config events) e.ask) effective e.ask ≡ None) → refusal limits config (places config events) e ≡ None
+    IsAsked config events e leases exports runs withdrawn reported opened used moment effective → room_refusal config.stored used (length runs) (length exports.rows) effective e.ask ≡ None → await_refusal (max e.moment moment) exports.rows exports.waits (stood_for (places config events) e.ask) effective e.ask ≡ None →
+    ForEachLogBy (max e.moment moment) leases (λ lease calls. told_refusal lease (max e.moment moment) calls (call_with (is_exported exports.rows) (max e.moment moment) e.ask) (length (names (places config events))) (stood_for (places config events) e.ask) effective e.ask ≡ None) → refusal (limits config) config (places config events) e ≡ None
 taken config events e leases exports runs withdrawn reported opened used moment effective q none fit answer =
     refused-then config events e leases exports runs withdrawn reported opened used moment effective q none
     ∙ ap (λ x. first_of_two x (told_refusal config.lease_ms (max e.moment moment) (live_calls (table config (places config events)) (lease_calls (places config events))) (call_with (is_exported exports.rows) (max e.moment moment) e.ask) (length (names (places config events))) (stood_for (places config events) e.ask) effective e.ask)) fit
@@ -128,7 +128,7 @@ taken config events e leases exports runs withdrawn reported opened used moment 
 pub record HasActed (config : SpaceConfig) (events : List Event) (e : Event) (leases leases1 : LeaseTable) (exports t : ExportTable) (runs : List Run) (withdrawn : List Withdrawal) (reported opened used moment : ℕ) (effective : Bool) : Type 0 where
   pub asked : IsAsked config events e leases exports runs withdrawn reported opened used moment effective
   pub early : e.moment < END_OF_TIME
-  pub room : room_refusal used (length runs) (length exports.rows) effective e.ask ≡ None
+  pub room : room_refusal config.stored used (length runs) (length exports.rows) effective e.ask ≡ None
   pub fit : await_refusal (max e.moment moment) exports.rows exports.waits (stood_for (places config events) e.ask) effective e.ask ≡ None
   pub unrefused : ForEachLogBy (max e.moment moment) leases (λ lease calls. told_refusal lease (max e.moment moment) calls (call_with (is_exported exports.rows) (max e.moment moment) e.ask) (length (names (places config events))) (stood_for (places config events) e.ask) effective e.ask ≡ None)
   pub told_leases : ForEachLogBy (max e.moment moment) leases (λ lease calls. StandsFor lease leases1 (max e.moment moment) (call_with (is_exported exports.rows) (max e.moment moment) e.ask ++ calls))
@@ -336,6 +336,6 @@ pub memory-step : (config : SpaceConfig) (events events' : List Event) (e : Even
 memory-step config events events' e refused r s = inr (ap (λ x. Err x) r, s)
 
 -- What holds in any case holds of a refusal.
-pub whole-err : {T E A B C : Type 0} (r : Result T E) → A → B → C → OnErr r (A × B × C)
-whole-err (Ok x) a b d = tt
-whole-err (Err e) a b d = (a, b, d)
+pub whole-err : {T E A B C D : Type 0} (r : Result T E) → A → B → C → D → OnErr r (A × B × C × D)
+whole-err (Ok x) a b d s = tt
+whole-err (Err e) a b d s = (a, b, d, s)

@@ -1,5 +1,5 @@
 -- Withdrawals by their objects and their places.
-use Rattle.std.proofs.Common.{◌≡◌, ℕ, zero, suc, ◌≤◌, List, [], ◌∷◌, ◌++◌, length, drop, map, max, replicate, refl, ap, sym, ◌∙◌, arith, Some, slice_get, length-append}
+use Rattle.std.proofs.Common.{◌≡◌, ℕ, zero, suc, ◌≤◌, List, [], ◌∷◌, ◌++◌, length, drop, map, max, replicate, refl, ap, sym, ◌∙◌, arith, Some, slice_get, length-append, append_assoc, ◌-◌}
 use Rattle.std.proofs.Math.Seq.{drop-append_seam}
 use Rattle.std.proofs.lemmas.List.{length-replicate}
 use Rattle.std.proofs.lemmas.Option.{none-some, same_Some}
@@ -57,6 +57,21 @@ pub noted-even : (os all gone : List ObjId) (ps places : List ℕ) (place count 
 noted-even os all gone ps places place count e objects more many =
     let a = ap length objects in let b = length-append os gone in let c = ap length more in let d = length-append ps (replicate count place) in let n = length-replicate {A = ℕ} count place in
     omega (arith, a, b, c, d, n, e, many)
+
+-- ---- after those that are kept no longer
+
+pub none-in : {X : Type 0} (xs : List X) → length xs ≡ 0 → xs ≡ []
+none-in [] none = refl
+none-in (x ∷ xs) none = absurd (omega (arith, none))
+
+pub drop-past : {X : Type 0} (k : ℕ) (xs ys : List X) → length xs ≤ k → drop k (xs ++ ys) ≡ drop (k - length xs) ys
+drop-past k [] ys le = let same : k ≡ k - 0 = omega arith in ap (λ n. drop n ys) same
+drop-past zero (x ∷ xs) ys le = absurd (omega (arith, le))
+drop-past (suc k) (x ∷ xs) ys le =
+    let same : k - length xs ≡ suc k - length (x ∷ xs) = omega arith in drop-past k xs ys (omega (arith, le)) ∙ ap (λ n. drop n ys) same
+
+pub told-noted : (told before all more : List Withdrawal) → all ≡ before ++ more → told ++ all ≡ (told ++ before) ++ more
+told-noted told before all more is = ap (λ l. told ++ l) is ∙ sym (append_assoc told before more)
 
 -- ---- what goes, after others
 

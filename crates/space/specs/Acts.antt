@@ -10,7 +10,7 @@ use Rattle.history.specs.declared.asks.Event.{Event}
 use Rattle.history.specs.declared.asks.Ask.{Ask}
 use Rattle.history.specs.declared.asks.Ask.TheVariants.{Open, Begin, Finish, Abandon, Dirty, Ack, Bind, Rebind, Unbind, Lookup, List as ListNames}
 use Rattle.history.specs.declared.calls.Call.{Call}
-use Rattle.history.specs.declared.limits.TheConstants.{MAX_EXPORTS, MAX_AWAITING, MAX_CLIENTS, MAX_PAIRS, MAX_NAMES, MAX_HISTORY_UNITS}
+use Rattle.history.specs.declared.limits.TheConstants.{MAX_EXPORTS, MAX_AWAITING, MAX_CLIENTS, MAX_PAIRS, MAX_NAMES, MAX_RUNNING_CALLS}
 use Rattle.history.specs.declared.places.Withdrawal.{Withdrawal}
 use Rattle.history.specs.Awaiting.{same_returned}
 use Rattle.history.specs.declared.replies.Refused.{Refused}
@@ -18,7 +18,7 @@ use Rattle.history.specs.declared.replies.Refused.TheVariants.{HistoryFull, Full
 use Rattle.history.specs.declared.replies.Reply.{Reply}
 use Rattle.history.specs.declared.replies.Reply.TheVariants.{Opened, Started, NoObject, Finished, NotRunning, Granted, Done, Bound, AlreadyBound, Unbound, NotBound, Found, Names}
 use Rattle.history.specs.Leases.{is_dirty, grant}
-use Rattle.history.specs.Limits.{units_of, is_begin, is_end}
+use Rattle.history.specs.Limits.{units_of, is_begin, is_end, units_limit}
 use Rattle.history.specs.Lists.{distinct}
 use Rattle.history.specs.Places.{id_at}
 use Rattle.history.specs.Replies.{is_abandon}
@@ -151,11 +151,12 @@ reported_after reported all ask = if is_abandon ask then reported else all
 
 -- ---- refusals
 
--- Whether there is no room for an ask: in the history, which has so many units and so many running calls, or among so many exported
--- objects.
-abbrev pub room_refusal : ℕ → ℕ → ℕ → Bool → Ask → Option Refused
-room_refusal used running exported effective ask =
-    if nat_lt (MAX_HISTORY_UNITS + (if effective && is_end ask then 1 else 0)) (used + running + units_of ask + (if effective && is_begin ask then 1 else 0)) then Some HistoryFull
+-- Whether there is no room for an ask: in the history, which is stored or exists in proofs alone, and has so many units and so many running
+-- calls, or among so many exported objects.
+abbrev pub room_refusal : Bool → ℕ → ℕ → ℕ → Bool → Ask → Option Refused
+room_refusal stored used running exported effective ask =
+    if nat_lt (units_limit stored + (if effective && is_end ask then 1 else 0)) (used + running + units_of ask + (if effective && is_begin ask then 1 else 0)) then Some HistoryFull
+    else if (effective && is_begin ask) && nat_le MAX_RUNNING_CALLS running then Some HistoryFull
     else if nat_lt MAX_EXPORTS (exported + opens effective ask) then Some (Full Exports)
     else None
 

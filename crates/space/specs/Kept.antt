@@ -4,13 +4,13 @@ use Rattle.object_ids.specs.Same.{same_client}
 use Rattle.history.specs.declared.asks.SpaceConfig.{SpaceConfig}
 use Rattle.history.specs.declared.asks.Event.{Event}
 use Rattle.history.specs.declared.calls.Call.{Call}
-use Rattle.history.specs.declared.limits.TheConstants.{MAX_EXPORTS, MAX_AWAITING, MAX_CLIENTS, MAX_PAIRS, MAX_NAMES, MAX_HISTORY_UNITS, END_OF_TIME, MAX_DURATION_MS}
+use Rattle.history.specs.declared.limits.TheConstants.{MAX_EXPORTS, MAX_AWAITING, MAX_CLIENTS, MAX_PAIRS, MAX_NAMES, MAX_ERASED_UNITS, MAX_RUNNING_CALLS, END_OF_TIME, MAX_DURATION_MS}
 use Rattle.history.specs.declared.places.Exported.{Exported}
 use Rattle.history.specs.declared.places.Withdrawal.{Withdrawal}
 use Rattle.history.specs.Awaiting.{awaiting_references}
 use Rattle.history.specs.LeaseCalls.{lease_calls}
 use Rattle.history.specs.Leases.{clients_with_time_left, same_pair, pairs_with}
-use Rattle.history.specs.Limits.{units, reserved_units}
+use Rattle.history.specs.Limits.{units, reserved_units, units_limit}
 use Rattle.history.specs.Lists.{distinct}
 use Rattle.history.specs.Names.{names}
 use Rattle.history.specs.Places.{History, has, now, exported_count}
@@ -39,7 +39,9 @@ pub record HasDurations (config : SpaceConfig) : Type 0 where
 
 -- The tables of a history have no more entries than their limits.
 pub record IsWithin (config : SpaceConfig) (h : History) : Type 0 where
-  pub history : units h + reserved_units h ≤ MAX_HISTORY_UNITS
+  pub history : units h + reserved_units h ≤ units_limit config.stored
+  pub countable : units h + reserved_units h ≤ MAX_ERASED_UNITS
+  pub calls : reserved_units h ≤ MAX_RUNNING_CALLS
   pub exports : length (table config h) ≤ MAX_EXPORTS
   pub awaits : length (awaiting_references config.ack_ms (now h) h) ≤ MAX_AWAITING
   pub clients : length (distinct same_client (clients_with_time_left config.lease_ms (now h) (lease_calls h))) ≤ MAX_CLIENTS

@@ -11,7 +11,10 @@ pub mod Ready
 pub mod OutlineRows
 pub mod Runs
 pub mod RunTable
+pub mod Standing
+pub mod Stored
 pub mod Summary
+pub mod ToldBatches
 pub mod Whole
 pub mod Withdrawals
 pub mod TurnAnswers

@@ -15,6 +15,7 @@ use Rattle.space.specs.declared.tables.Tables.{Tables}
 use Rattle.space.specs.Acts.{ForEachLogBy, await_refusal, effective_by, opens, reply_at, returned_by, room_refusal, told_refusal}
 use Rattle.space.specs.Doubts.{AreInDoubt, taken_by}
 use Rattle.space.specs.Kept.{Keeps}
+use Rattle.space.specs.Stored.{IsStoredAs}
 
 -- These are the tables of a space that is about to take an event: they are what is kept of the events before it, but that the leases and the names know
 -- of it already. `before` is what the leases were. The ask was admitted, none of the limits refuses it, this was prepared for it, and there is room for
@@ -24,12 +25,13 @@ pub record IsReady (t : Tables) (e : Event) (a : Admitted) (p : Prepared) (noted
   pub keeps : Keeps t.config t.events.items before t.exports t.runs.items t.withdrawn.items t.reported t.added t.units t.moment
   pub leases_told : ForEachLogBy (max e.moment t.moment) before (λ lease calls.
       StandsFor lease t.leases (max e.moment t.moment) (call_with (is_exported t.exports.rows) (max e.moment t.moment) e.ask ++ calls))
+  pub stored_so : IsStoredAs t.config t.events t.withdrawn t.reported
   pub names_told : AreBindings (places t.config (with_event t.events.items e)) t.names
   -- what was admitted
   pub early : e.moment < END_OF_TIME
   pub stood_is : a.stood ≡ option_and_then (stands_for (places t.config t.events.items)) (name_in e.ask)
   pub effective_is : a.effective ≡ effective_by t.exports.rows t.runs.items a.stood e.by e.ask
-  pub unfilled : room_refusal t.units (length t.runs.items) (length t.exports.rows) a.effective e.ask ≡ None
+  pub unfilled : room_refusal t.config.stored t.units (length t.runs.items) (length t.exports.rows) a.effective e.ask ≡ None
   pub unawaited : await_refusal (max e.moment t.moment) t.exports.rows t.exports.waits a.stood a.effective e.ask ≡ None
   pub unrefused : ForEachLogBy (max e.moment t.moment) before (λ lease calls.
       told_refusal lease (max e.moment t.moment) calls (call_with (is_exported t.exports.rows) (max e.moment t.moment) e.ask)

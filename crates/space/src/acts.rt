@@ -13,7 +13,7 @@ ghost use Rattle.space.specs.Acts.{acted_exports, awaiting_with, new_rows, opens
 ghost use Rattle.export_table.specs.StandsForHistory.{waits_once, reference_of};
 ghost use Rattle.export_table.specs.Waits.{with_each_listed};
 
-use event_log::EventLog;
+use event_log::SpaceEvents;
 use export_table::Exports;
 use history::{Ask, Event};
 use object_ids::{ObjId, ObjIds, Uid};
@@ -223,11 +223,12 @@ pub(crate) fn filled(mut room: Vec<ObjId>, objects: &ObjIds) -> ObjIds
 }
 
 /// Appends an event, for which there is room.
-pub(crate) fn put_event(events: &mut EventLog, event: Event)
+pub(crate) fn put_event(events: &mut SpaceEvents, event: Event)
     requires room { length events.old.items < events.old.capacity }
     requires spare { IsPlain events.old.space event.ask ⊎ (events.old.spare ≡ true) }
     ensures items { events.new.items ≡ events.old.items ++ event ∷ [] }
     ensures capacity { events.old.capacity ≤ events.new.capacity }
+    ensures stored { events.new.stored ≡ events.old.stored }
 {
     events.push_reserved(event);
 }

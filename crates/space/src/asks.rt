@@ -1,6 +1,6 @@
 //! Whether an ask is effective, whether there is room for it, and what it is answered.
 ghost use Rattle.std.specs.Prelude.{◌≡◌, ◌+◌, ◌<◌, ◌^◌, option_and_then, IfOk};
-ghost use Rattle.history.specs.declared.limits.TheConstants.{MAX_HISTORY_UNITS, END_OF_OBJECT_COUNT};
+ghost use Rattle.history.specs.declared.limits.TheConstants.{END_OF_OBJECT_COUNT};
 ghost use Rattle.history.specs.Names.{name_in};
 ghost use Rattle.export_table.specs.ExportRows.{is_exported};
 ghost use Rattle.rmi_registry.specs.Bindings.{names_in, object_of};
@@ -10,7 +10,7 @@ use crate::returns::new_ids;
 use crate::runs::Runs;
 use export_table::Exports;
 use history::asks::{is_abandon, is_begin, is_end, units_of};
-use history::limits::{MAX_EXPORTS, MAX_HISTORY_UNITS, is_past};
+use history::limits::{MAX_EXPORTS, MAX_RUNNING_CALLS, is_past, units_limit};
 use history::places::id_at;
 use history::{Ask, Refused, Reply, SpaceConfig, grant};
 use object_ids::{FullKind, ObjId, ObjIds};
@@ -87,24 +87,27 @@ pub(crate) fn opens(effective: bool, ask: &Ask) -> u64
     }
 }
 
-/// Why there is no room for an ask, if there is none: in a history of so many units and running calls, or
+/// Why there is no room for an ask, if there is none: in a history, stored or not, of so many units and running calls, or
 /// among so many exported objects.
 pub(crate) fn room_refusal(
+    stored: bool,
     units: u64,
     running: usize,
     exported: u32,
     effective: bool,
     ask: &Ask,
 ) -> Option<Refused>
-    ensures { result ≡ room_refusal units running exported effective ask.now }
+    ensures { result ≡ room_refusal stored units running exported effective ask.now }
 {
     let used = u128::from(units) + running as u128 + u128::from(units_of(ask));
     if is_past(
-        MAX_HISTORY_UNITS,
+        units_limit(stored),
         used,
         effective && is_begin(ask),
         effective && is_end(ask),
     ) {
+        Some(Refused::HistoryFull)
+    } else if effective && is_begin(ask) && running as u64 >= MAX_RUNNING_CALLS {
         Some(Refused::HistoryFull)
     } else if u64::from(exported) + opens(effective, ask) > MAX_EXPORTS {
         Some(Refused::Full(FullKind::Exports))

@@ -1,5 +1,5 @@
 //! The journal and the summary of a space.
-ghost use Rattle.std.specs.Prelude.{◌≡◌, ◌<◌, ◌++◌, flat_map, length, pos, slice_get, Some, OnOk, IfOk};
+ghost use Rattle.std.specs.Prelude.{◌≡◌, ◌<◌, ◌++◌, true, flat_map, length, pos, slice_get, Some, OnOk, IfOk};
 ghost use Rattle.std.specs.List.{AllByRecursion};
 ghost use Rattle.history.specs.Outline as lines;
 ghost use Rattle.history.specs.declared.asks.Event.{Event};
@@ -9,7 +9,7 @@ ghost use Rattle.journal.specs.Written as written;
 ghost use Rattle.space.specs.Summary.{counts_text};
 
 use crate::turns::Space;
-use event_log::EventLog;
+use event_log::SpaceEvents;
 use journal::Word;
 use journal::outline::{put_events_line, put_line};
 use journal::write::{put_event_line, put_first_line};
@@ -17,9 +17,10 @@ use object_ids::Uid;
 use sequence::ByteList;
 use std::alloc::{AllocError, Global};
 
-/// The journal of a space: a line of its configuration, then a line for each event that it took, in order. It spells these events and
-/// this configuration, where its identifier's count is 0.
+/// The journal of a space that keeps its events: a line of its configuration, then a line for each event that it took, in order. It spells
+/// these events and this configuration, where its identifier's count is 0.
 pub fn journal(alloc: Global, space: &Space) -> Result<ByteList, AllocError>
+    requires stored { space.now.configuration.stored ≡ true }
     ensures text { IfOk result (λ text. text ≡ written.journal_text space.now.configuration space.now.events) }
     ensures spelled { IfOk result (λ text. space.now.configuration.uid.count ≡ pos 0 → JournalText text space.now.configuration space.now.events) }
 {
@@ -30,7 +31,8 @@ pub fn journal(alloc: Global, space: &Space) -> Result<ByteList, AllocError>
 }
 
 /// Appends the lines of events.
-fn put_events(text: &mut ByteList, space: Uid, events: &EventLog) -> Result<(), AllocError>
+fn put_events(text: &mut ByteList, space: Uid, events: &SpaceEvents) -> Result<(), AllocError>
+    requires { events.now.stored ≡ true }
     ensures text { OnOk result (text.new ≡ text.old ++ flat_map (written.event_line space) events.now.items) }
     ensures fits { OnOk result (AllByRecursion (λ e. e.moment < END_OF_TIME → written.EventFits e) events.now.items) }
 {
@@ -44,10 +46,11 @@ fn put_events(text: &mut ByteList, space: Uid, events: &EventLog) -> Result<(), 
 fn put_line_at(
     text: &mut ByteList,
     space: Uid,
-    events: &EventLog,
+    events: &SpaceEvents,
     place: usize,
 ) -> Result<(), AllocError>
-    requires { place < length events.now.items }
+    requires stored { events.now.stored ≡ true }
+    requires place { place < length events.now.items }
     ensures text { OnOk result ((e : Event) → slice_get events.now.items place ≡ Some e → text.new ≡ text.old ++ written.event_line space e) }
     ensures fits { OnOk result ((e : Event) → slice_get events.now.items place ≡ Some e → e.moment < END_OF_TIME → written.EventFits e) }
 {

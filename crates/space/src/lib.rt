@@ -18,6 +18,7 @@ mod rooms;
 mod runs;
 mod tables;
 pub mod texts;
+mod told;
 pub mod turns;
 mod withdrawals;
 
@@ -26,5 +27,5 @@ pub use history::{Ask, Event, Refused, Reply, SpaceConfig, Turn};
 pub use journal_text::{journal, summary};
 pub use lists::{ObjectKind, Turns};
 pub use object_ids::FullKind;
-pub use texts::outline;
+pub use texts::{outline, standing};
 pub use turns::Space;

@@ -95,7 +95,7 @@ impl Space {
 
         // No memory wanting, there is one list of answers.
         ensures exact { IfOk result (λ answers. AllByRecursion (λ a. a ≢ Err Refused.OutOfMemory) answers.items →
-            answers.items ≡ answers_to limits self.old.configuration self.old.events events.items) }
+            answers.items ≡ answers_to (limits self.old.configuration) self.old.configuration self.old.events events.items) }
         ensures config { self.new.configuration ≡ self.old.configuration }
         ensures err { OnErr result (self.new ≡ self.old) }
     {

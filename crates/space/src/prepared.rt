@@ -31,17 +31,24 @@ pub(crate) struct Admitted {
 pub(crate) fn admit(tables: &Tables, by: u32, ask: &Ask) -> Result<Admitted, Refused>
     ensures stood { IfOk result (λ a. a.stood ≡ option_and_then (object_of tables.now.names) (name_in ask.now)) }
     ensures effective { IfOk result (λ a. a.effective ≡ effective_by tables.now.exports.rows tables.now.runs.items a.stood by ask.now) }
-    ensures room { IfOk result (λ a. room_refusal tables.now.units (length tables.now.runs.items) (length tables.now.exports.rows) a.effective ask.now ≡ None) }
+    ensures room { IfOk result (λ a. room_refusal tables.now.config.stored tables.now.units (length tables.now.runs.items) (length tables.now.exports.rows) a.effective ask.now ≡ None) }
     ensures refused { IfErr result (λ refused.
         let stood = option_and_then (object_of tables.now.names) (name_in ask.now) in
         let effective = effective_by tables.now.exports.rows tables.now.runs.items stood by ask.now in
-        room_refusal tables.now.units (length tables.now.runs.items) (length tables.now.exports.rows) effective ask.now ≡ Some refused) }
+        room_refusal tables.now.config.stored tables.now.units (length tables.now.runs.items) (length tables.now.exports.rows) effective ask.now ≡ Some refused) }
 {
     let stood = stood_for(&tables.names, ask);
     let effective = is_effective(&tables.exports, &tables.runs, stood, by, ask);
     let running = tables.runs.len();
     let exported = tables.exports.count();
-    match room_refusal(tables.units, running, exported, effective, ask) {
+    match room_refusal(
+        tables.config.stored,
+        tables.units,
+        running,
+        exported,
+        effective,
+        ask,
+    ) {
         Some(refused) => Err(refused),
         None => Ok(Admitted { stood, effective }),
     }
@@ -163,6 +170,7 @@ pub(crate) fn prepare(
     ask: &Ask,
 ) -> Result<Prepared, Refused>
     requires countable { tables.now.added + opens effective ask.now < END_OF_OBJECT_COUNT }
+    requires told { tables.now.withdrawn.told ≤ tables.now.reported }
     requires reported { tables.now.reported ≤ length tables.now.withdrawn.items }
     ensures opened { IfOk result (λ p. p.opened ≡ opens effective ask.now) }
     ensures objects { IfOk result (λ p. p.objects ≡ length tables.now.exports.rows + opens effective ask.now) }
@@ -208,6 +216,7 @@ fn listed_and_untold(
     ask: &Ask,
 ) -> Result<(Listed, Untold), Refused>
     requires countable { tables.now.added + opens effective ask.now < END_OF_OBJECT_COUNT }
+    requires told { tables.now.withdrawn.told ≤ tables.now.reported }
     requires reported { tables.now.reported ≤ length tables.now.withdrawn.items }
     ensures references { IfOk result (λ x. x.0.references.items ≡ returned_by tables.now.config.uid tables.now.added tables.now.exports.rows stood effective ask.now) }
     ensures doubtful { IfOk result (λ x. AreInDoubt tables.now.leases now tables.now.exports.waits
@@ -269,7 +278,8 @@ fn listed_by(
 
 /// The objects that are still to be told as gone, with room for so many more, and for a copy of them all, where one is asked for.
 fn untold_with(tables: &Tables, noted: bool, most: usize) -> Result<Untold, AllocError>
-    requires { tables.now.reported ≤ length tables.now.withdrawn.items }
+    requires told { tables.now.withdrawn.told ≤ tables.now.reported }
+    requires reported { tables.now.reported ≤ length tables.now.withdrawn.items }
     ensures gone { IfOk result (λ u. u.gone.items ≡ map (λ w. w.object) (drop tables.now.reported tables.now.withdrawn.items)) }
     ensures room { IfOk result (λ u. vec_len u.gone + most ≤ vec_capacity u.gone) }
     ensures spare { IfOk result (λ u. noted ≡ true → vec_len u.gone + most ≤ vec_capacity u.spare) }

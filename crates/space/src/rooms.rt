@@ -4,13 +4,13 @@ ghost use Rattle.history.specs.declared.replies.Refused.TheVariants.{OutOfMemory
 
 use crate::runs::Runs;
 use crate::withdrawals::Withdrawals;
-use event_log::EventLog;
+use event_log::SpaceEvents;
 use export_table::Exports;
 use history::Refused;
 
 /// Makes room for all that an event adds: itself and a call, so many withdrawals, exported objects, and references that await.
 pub(crate) fn room_for_all(
-    events: &mut EventLog,
+    events: &mut SpaceEvents,
     runs: &mut Runs,
     withdrawn: &mut Withdrawals,
     exports: &mut Exports,
@@ -20,7 +20,6 @@ pub(crate) fn room_for_all(
 ) -> Result<(), Refused>
     requires few_runs { length runs.old.items < 2 ^ 32 }
     requires few_opened { opened < 2 ^ 32 }
-    requires few_returned { returned < 2 ^ 32 }
     ensures event { OnOk result (length events.new.items + length runs.new.items + 2 ≤ events.new.capacity) }
     ensures spare { OnOk result (events.new.spare ≡ true) }
     ensures run { OnOk result (0 < runs.new.room) }
@@ -33,6 +32,8 @@ pub(crate) fn room_for_all(
     ensures withdrawn { withdrawn.new.items ≡ withdrawn.old.items }
     ensures rest { exports.new ≡ record exports.old { room = exports.new.room } }
     ensures grow { events.old.capacity ≤ events.new.capacity }
+    ensures stored { events.new.stored ≡ events.old.stored }
+    ensures told { withdrawn.new.told ≡ withdrawn.old.told }
     ensures grow_withdrawn { withdrawn.old.room ≤ withdrawn.new.room }
 {
     room_for_event(events, runs)?;
@@ -41,7 +42,7 @@ pub(crate) fn room_for_all(
 }
 
 /// Makes room for an event, for the events that end the calls that then run, and for a call that it starts.
-fn room_for_event(events: &mut EventLog, runs: &mut Runs) -> Result<(), Refused>
+fn room_for_event(events: &mut SpaceEvents, runs: &mut Runs) -> Result<(), Refused>
     requires { length runs.old.items < 2 ^ 32 }
     ensures event { OnOk result (length events.new.items + length runs.new.items + 2 ≤ events.new.capacity) }
     ensures spare { OnOk result (events.new.spare ≡ true) }
@@ -50,6 +51,7 @@ fn room_for_event(events: &mut EventLog, runs: &mut Runs) -> Result<(), Refused>
     ensures events { events.new.items ≡ events.old.items }
     ensures runs { runs.new.items ≡ runs.old.items }
     ensures grow { events.old.capacity ≤ events.new.capacity }
+    ensures stored { events.new.stored ≡ events.old.stored }
 {
     events.reserve(runs.len() + 2)?;
     runs.reserve()?;
@@ -62,20 +64,25 @@ fn room_for_gone(withdrawn: &mut Withdrawals, objects: usize) -> Result<(), Refu
     ensures refusal { IfErr result (λ refused. refused ≡ OutOfMemory) }
     ensures withdrawn { withdrawn.new.items ≡ withdrawn.old.items }
     ensures grow { withdrawn.old.room ≤ withdrawn.new.room }
+    ensures told { withdrawn.new.told ≡ withdrawn.old.told }
 {
     withdrawn.reserve(objects)?;
     Ok(())
 }
 
-/// Makes room for so many exported objects, and for so many references that await.
+/// Makes room for so many exported objects, and for so many references that await. There is none for 2^32 of these.
 fn room_in_table(exports: &mut Exports, opened: u64, returned: usize) -> Result<(), Refused>
     requires few_opened { opened < 2 ^ 32 }
-    requires few_returned { returned < 2 ^ 32 }
     ensures opened { OnOk result (opened ≤ exports.new.room.exports) }
     ensures returned { OnOk result (returned ≤ exports.new.room.waits) }
     ensures refusal { IfErr result (λ refused. refused ≡ OutOfMemory) }
     ensures rest { exports.new ≡ record exports.old { room = exports.new.room } }
 {
-    exports.reserve(opened as u32, returned as u32)?;
-    Ok(())
+    match u32::try_from(returned) {
+        Ok(returned) => {
+            exports.reserve(opened as u32, returned)?;
+            Ok(())
+        }
+        Err(_) => Err(Refused::OutOfMemory),
+    }
 }

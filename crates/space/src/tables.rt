@@ -12,9 +12,9 @@ use crate::names::settle;
 use crate::prepared::{Admitted, Prepared, admit, prepare};
 use crate::rooms::room_for_all;
 use crate::runs::{Runs, act_on_runs};
-use crate::withdrawals::Withdrawals;
+use crate::withdrawals::{Withdrawals, forget_told};
 use dgc_server::Leases;
-use event_log::EventLog;
+use event_log::SpaceEvents;
 use export_table::Exports;
 use history::asks::units_of;
 use history::{Ask, Refused, SpaceConfig, Turn};
@@ -42,7 +42,7 @@ pub struct Tables {
     /// The calls that run.
     pub runs: Runs,
     /// The events.
-    pub events: EventLog,
+    pub events: SpaceEvents,
     /// The withdrawals, in their order.
     pub withdrawn: Withdrawals,
     /// How many withdrawals were told as gone.
@@ -137,6 +137,7 @@ impl Tables {
             place,
             &mut ready.untold.gone,
         );
+        forget_told(&mut self.withdrawn, self.config.stored, ask);
         self.reported = reported_after(self.reported, self.withdrawn.len(), ask);
         self.added += ready.opened;
         self.units += units_of(ask);

@@ -1,10 +1,11 @@
 //! The texts of a space.
-ghost use Rattle.std.specs.Prelude.{◌≡◌, ◌++◌, flat_map, map, max, OnOk, IfOk};
+ghost use Rattle.std.specs.Prelude.{◌≡◌, ◌++◌, true, flat_map, map, max, OnOk, IfOk};
 ghost use Rattle.history.specs.Leases.{lease_rows};
 ghost use Rattle.history.specs.Outline as lines;
 ghost use Rattle.dgc_server.specs.StandsForCalls.{ForEachLog};
 ghost use Rattle.export_table.specs.ExportRows.{row_at};
 ghost use Rattle.space.specs.OutlineRows.{held_row, binding_text};
+ghost use Rattle.space.specs.Standing.{standing};
 
 use crate::turns::Space;
 use crate::withdrawals::Withdrawals;
@@ -19,9 +20,10 @@ use rmi_registry::{Binding, Names};
 use sequence::ByteList;
 use std::alloc::{AllocError, Global};
 
-/// The outline of a space: how many events it took, their units and its present moment; each exported object;
+/// The outline of a space that keeps its events: how many events it took, their units and its present moment; each exported object;
 /// each client with time left; the names; all withdrawals.
 pub fn outline(alloc: Global, space: &Space) -> Result<ByteList, AllocError>
+    requires stored { space.now.configuration.stored ≡ true }
     ensures { IfOk result (λ text. text ≡ lines.outline space.now.configuration space.now.events) }
 {
     let mut text = ByteList::new(alloc);
@@ -29,9 +31,28 @@ pub fn outline(alloc: Global, space: &Space) -> Result<ByteList, AllocError>
     Ok(text)
 }
 
+/// The outline of a space without its withdrawals, whether or not it keeps its events: how many events it took, their units and its
+/// present moment; each exported object; each client with time left; the names.
+pub fn standing(alloc: Global, space: &Space) -> Result<ByteList, AllocError>
+    ensures { IfOk result (λ text. text ≡ standing space.now.configuration space.now.events) }
+{
+    let mut text = ByteList::new(alloc);
+    put_standing(alloc, &mut text, space)?;
+    Ok(text)
+}
+
 /// Appends the outline of a space.
 fn put_outline(alloc: Global, text: &mut ByteList, space: &Space) -> Result<(), AllocError>
+    requires stored { space.now.configuration.stored ≡ true }
     ensures { OnOk result (text.new ≡ text.old ++ lines.outline space.now.configuration space.now.events) }
+{
+    put_standing(alloc, text, space)?;
+    put_withdrawals(text, &space.tables.config, &space.tables.withdrawn)
+}
+
+/// Appends the outline of a space without its withdrawals.
+fn put_standing(alloc: Global, text: &mut ByteList, space: &Space) -> Result<(), AllocError>
+    ensures { OnOk result (text.new ≡ text.old ++ standing space.now.configuration space.now.events) }
 {
     put_events_line(
         text,
@@ -48,8 +69,7 @@ fn put_outline(alloc: Global, text: &mut ByteList, space: &Space) -> Result<(), 
         space.tables.moment,
     )?;
     put_leases(alloc, text, &space.tables.leases, space.tables.moment)?;
-    put_bindings(alloc, text, &space.tables.config, &space.tables.names)?;
-    put_withdrawals(text, &space.tables.config, &space.tables.withdrawn)
+    put_bindings(alloc, text, &space.tables.config, &space.tables.names)
 }
 
 /// Takes the rows of all exported objects, and appends a line of each.
@@ -158,6 +178,7 @@ fn put_withdrawals(
     config: &SpaceConfig,
     withdrawn: &Withdrawals,
 ) -> Result<(), AllocError>
+    requires { withdrawn.now.told ≡ 0 }
     ensures { OnOk result (text.new ≡ text.old ++ flat_map (lines.withdrawal_line config.now) withdrawn.now.items) }
 {
     for k in 0..withdrawn.len() {

@@ -15,7 +15,7 @@ use crate::runs::Runs;
 use crate::tables::Tables;
 use crate::withdrawals::Withdrawals;
 use dgc_server::Leases;
-use event_log::EventLog;
+use event_log::SpaceEvents;
 use export_table::Exports;
 use history::{Ask, Event, Refused, SpaceConfig, Turn};
 use object_ids::{ObjId, ObjIds};
@@ -25,7 +25,7 @@ use std::fmt;
 use std::marker::Model;
 
 /// A space of exported objects. Contracts see it as a `SpaceHistory`: its configuration, the list of the events that it took, the oldest
-/// first, and the rows of its export table, one for each object that is exported. All else that it answers follows from these.
+/// first, whether they are stored or exist in proofs alone, and the rows of its export table, one for each object that is exported. All else that it answers follows from these.
 pub struct Space {
     pub(crate) tables: Tables,
 }
@@ -63,7 +63,9 @@ impl Model for Space {
 }
 
 impl Space {
-    /// The space without events. Its leases and its times to acknowledge last from 1 to 2^40 milliseconds.
+    /// The space without events. Its leases and its times to acknowledge last from 1 to 2^40 milliseconds. Whether it keeps its events, and the
+    /// withdrawals that it told as gone, the configuration says in `stored`. A space that doesn't takes no memory for them: they exist in proofs
+    /// alone.
     pub fn fresh(alloc: Global, config: &SpaceConfig) -> Space
         requires some_lease { 1 ≤ config.now.lease_ms }
         requires short_lease { config.now.lease_ms ≤ MAX_DURATION_MS }
@@ -80,7 +82,7 @@ impl Space {
                 leases: Leases::fresh(alloc, config.lease_ms),
                 exports: Exports::fresh(alloc, config.uid, config.ack_ms),
                 runs: Runs::new(alloc),
-                events: EventLog::new(alloc, config.uid),
+                events: SpaceEvents::new(alloc, config.uid, config.stored),
                 withdrawn: Withdrawals::new(alloc),
                 reported: 0,
                 added: 0,
@@ -91,7 +93,7 @@ impl Space {
 
     /// Takes an event that connection `by` hands in at a moment, in milliseconds, and answers it; or refuses
     /// it, and is as it was, the present moment included. HistoryFull comes exactly where the events' units
-    /// would pass their limit; else Full(Exports), Full(Awaiting), Full(Clients), Full(Pairs) and Full(Names), in
+    /// or the running calls would pass their limit; else Full(Exports), Full(Awaiting), Full(Clients), Full(Pairs) and Full(Names), in
     /// this order, exactly where the entries of these tables would. OutOfMemory may come in place of any answer.
     pub fn turn(&mut self, by: u32, moment: u64, ask: Ask) -> Result<Turn, Refused>
         requires moment { moment < END_OF_TIME }
@@ -139,6 +141,13 @@ impl Space {
                 Err(refused)
             }
         }
+    }
+
+    /// Whether the space keeps its events, so that its journal and its outline can be read.
+    pub fn is_stored(&self) -> bool
+        ensures { result ≡ self.now.configuration.stored }
+    {
+        self.tables.config.stored
     }
 
     /// The greatest moment of the events, in milliseconds; 0 where there are none.

@@ -1,43 +1,57 @@
 //! The withdrawals of a space.
-ghost use Rattle.std.specs.Prelude.{◌≡◌, ◌<◌, ◌≤◌, ◌+◌, ◌++◌, [], List, true, false, max, drop, filter, length, map, replicate, slice_get, IfOk, OnOk, vec_len, vec_capacity};
+ghost use Rattle.std.specs.Prelude.{◌≡◌, ◌⊎◌, ◌<◌, ◌≤◌, ◌+◌, ◌++◌, [], List, true, false, max, drop, filter, length, map, replicate, slice_get, IfOk, OnOk, vec_len, vec_capacity};
 ghost use Rattle.object_ids.specs.declared.ids.ObjId.{ObjId};
 ghost use Rattle.dgc_server.specs.Counts.{without_all};
 ghost use Rattle.dgc_server.specs.StandsForCalls.{StandsFor, ForEachLog};
 ghost use Rattle.export_table.specs.ExportRows.{is_row_kept, is_settled_but, held_by, withdrawn_ids};
 ghost use Rattle.export_table.specs.Waits.{still_waiting};
+ghost use Rattle.history.specs.Replies.{is_abandon};
 ghost use Rattle.space.specs.Acts.{withdrawal_at};
 ghost use Rattle.space.specs.Doubts.{HasLog};
 
 use crate::doubts::{joined, withdraw_few, withdraw_known};
+use crate::told::{MOST_TOLD, ToldWithdrawals};
 use dgc_server::Leases;
 use export_table::Exports;
-use history::Withdrawal;
+use history::asks::is_abandon;
+use history::{Ask, Withdrawal};
 use object_ids::ObjId;
 use std::alloc::{AllocError, Global};
 use std::marker::Model;
 
-/// The withdrawals, in their order: their objects and their places apart, so that objects that go are put at once where they stay. Contracts see
-/// them as a `WithdrawalTable`.
+/// The withdrawals, in their order: their objects and their places apart, so that objects that go are put at once where they stay. Of those that
+/// were told as gone a space may keep nothing. Contracts see them as a `WithdrawalTable`.
 pub struct Withdrawals {
+    /// The first of them, which are kept no longer.
+    told: ToldWithdrawals,
     objects: Vec<ObjId>,
     places: Vec<u64>,
 }
 
 impl Drop for Withdrawals {
     fn drop(self) {
-        let Withdrawals { objects, places } = self;
+        let Withdrawals {
+            told,
+            objects,
+            places,
+        } = self;
+        drop(told);
         drop(objects);
         drop(places);
     }
 }
 
 impl Model for Withdrawals {
-    ghost use Rattle.std.specs.Prelude.{◌≡◌, length, min, vec_capacity};
+    ghost use Rattle.std.specs.Prelude.{◌≡◌, ◌+◌, ◌++◌, length, min, vec_capacity};
     ghost use Rattle.space.specs.Withdrawals.{WithdrawalTable, paired_withdrawals};
 
     ghost Value = { WithdrawalTable };
 
-    ghost view = { λ w. record { items = paired_withdrawals w.objects.items w.places.items; room = min (vec_capacity w.objects) (vec_capacity w.places) } };
+    ghost view = { λ w. record {
+      items = w.told ++ paired_withdrawals w.objects.items w.places.items;
+      room = length w.told + min (vec_capacity w.objects) (vec_capacity w.places);
+      told = length w.told;
+    } };
 
     ghost invariant = { λ w. length w.objects.items ≡ length w.places.items };
 }
@@ -46,8 +60,10 @@ impl Withdrawals {
     /// There is none.
     pub fn new(alloc: Global) -> Withdrawals
         ensures items { result.items ≡ [] }
+        ensures told { result.told ≡ 0 }
     {
         Withdrawals {
+            told: ToldWithdrawals::new(),
             objects: Vec::new(alloc),
             places: Vec::new(alloc),
         }
@@ -57,12 +73,13 @@ impl Withdrawals {
     pub fn len(&self) -> usize
         ensures { result ≡ length self.now.items }
     {
-        self.objects.len()
+        self.told.len() + self.objects.len()
     }
 
-    /// The one at this place of the list.
+    /// The one at this place of the list, of which all are kept.
     pub fn get(&self, k: usize) -> Withdrawal
-        requires { k < length self.now.items }
+        requires kept { self.now.told ≡ 0 }
+        requires within { k < length self.now.items }
         ensures { slice_get self.now.items k ≡ Some result }
     {
         Withdrawal {
@@ -76,6 +93,7 @@ impl Withdrawals {
         ensures room { OnOk result (length self.new.items + more ≤ self.new.room) }
         ensures items { self.new.items ≡ self.old.items }
         ensures grow { self.old.room ≤ self.new.room }
+        ensures told { self.new.told ≡ self.old.told }
     {
         self.objects.reserve(more)?;
         self.places.reserve(more)
@@ -88,11 +106,12 @@ impl Withdrawals {
         reported: usize,
         more: usize,
     ) -> Result<Vec<ObjId>, AllocError>
-        requires { reported ≤ length self.now.items }
+        requires told { self.now.told ≤ reported }
+        requires within { reported ≤ length self.now.items }
         ensures items { IfOk result (λ gone. gone.items ≡ map (λ w. w.object) (drop reported self.now.items)) }
         ensures room { IfOk result (λ gone. vec_len gone + more ≤ vec_capacity gone) }
     {
-        let mut gone = rest_of(alloc, &self.objects, reported)?;
+        let mut gone = rest_of(alloc, &self.objects, reported - self.told.len())?;
         gone.reserve(more)?;
         Ok(gone)
     }
@@ -103,6 +122,7 @@ impl Withdrawals {
         requires room { length self.old.items + length (drop from gone.now) ≤ self.old.room }
         ensures items { self.new.items ≡ self.old.items ++ map (withdrawal_at place) (drop from gone.now) }
         ensures room { self.old.room ≤ self.new.room }
+        ensures told { self.new.told ≡ self.old.told }
     {
         if gone.len() == from {
             return;
@@ -143,6 +163,7 @@ impl Withdrawals {
         ensures few { length gone.new.items ≤ length gone.old.items + length doubtful.now }
         ensures noted { self.new.items ≡ self.old.items ++ map (withdrawal_at place) (drop (length gone.old.items) gone.new.items) }
         ensures room { self.old.room ≤ self.new.room }
+        ensures told { self.new.told ≡ self.old.told }
     {
         let untold = gone.len();
         withdraw_few(exports, leases, now, doubtful, gone);
@@ -179,10 +200,38 @@ impl Withdrawals {
             let dropped = withdrawn_ids now held exports.old.waits exports.old.rows in
             StandsFor lease leases.new moment (map (without_all dropped) calls)) }
         ensures room { self.old.room ≤ self.new.room }
+        ensures told { self.new.told ≡ self.old.told }
     {
         let before = self.objects.len();
         withdraw_known(exports, leases, now, all, doubtful, &mut self.objects);
         fill(&mut self.places, self.objects.len() - before, place);
+    }
+
+    /// Keeps them no longer, where all were told as gone: they exist in proofs alone from then on. It takes no memory.
+    pub(crate) fn forget(&mut self)
+        ensures items { self.new.items ≡ self.old.items }
+        ensures room { self.old.room ≤ self.new.room }
+        ensures told { self.new.told ≤ length self.new.items }
+    {
+        if self.objects.len() > MOST_TOLD - self.told.len() {
+            return;
+        }
+        self.told.push_all(&self.objects, &self.places);
+        self.objects.clear();
+        self.places.clear();
+    }
+}
+
+/// Keeps the withdrawals no longer that an ask told as gone, which is all of them but at an Abandon, where the history exists in proofs alone.
+pub(crate) fn forget_told(withdrawn: &mut Withdrawals, stored: bool, ask: &Ask)
+    ensures items { withdrawn.new.items ≡ withdrawn.old.items }
+    ensures room { withdrawn.old.room ≤ withdrawn.new.room }
+    ensures told { (withdrawn.new.told ≡ withdrawn.old.told)
+        ⊎ ((is_abandon ask.now ≡ false) × withdrawn.new.told ≤ length withdrawn.new.items) }
+    ensures stored { stored ≡ true → withdrawn.new.told ≡ withdrawn.old.told }
+{
+    if !stored && !is_abandon(ask) {
+        withdrawn.forget();
     }
 }
 

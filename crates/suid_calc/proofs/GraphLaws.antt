@@ -180,7 +180,7 @@ typed_fields texts o h =
     (later is_primitive_field (IsTyped (nodes_with texts o)) (IsReady texts) texts (λ m p q. typed_primitive (nodes_with texts o) texts m q.0 p) o.members each)
     (later is_reference_field (IsTyped (nodes_with texts o)) (IsReady texts) texts (λ m p q. typed_reference (nodes_with texts o) texts m (behind_desc texts o) q.0 (q.1 p) p) o.members each))
 
-field_count : (texts : List (List ℕ)) (ms : List Member) → length (fields_of texts ms) ≡ length (filter is_serial ms)
+pub field_count : (texts : List (List ℕ)) (ms : List Member) → length (fields_of texts ms) ≡ length (filter is_serial ms)
 field_count texts ms =
     length-append (map (field_of texts) (filter is_primitive_field ms)) (map (field_of texts) (filter is_reference_field ms))
     ∙ ap (λ (n : ℕ). n + length (map (field_of texts) (filter is_reference_field ms))) (length-map (filter is_primitive_field ms) (field_of texts))
@@ -256,7 +256,7 @@ types_writable : (ms : List Member) → AllByRecursion (λ m. is_good m ≡ true
 types_writable [] good = tt
 types_writable (m ∷ ms) good = (writable m good.0, types_writable ms good.1)
 
-texts_writable : (texts : List (List ℕ)) (o : ClassOutline) → IsDescribable o texts → AllByRecursion IsWritable texts
+pub texts_writable : (texts : List (List ℕ)) (o : ClassOutline) → IsDescribable o texts → AllByRecursion IsWritable texts
 texts_writable texts o h = subst (λ (l : List (List ℕ)). AllByRecursion IsWritable l) (sym h.texts_are) (all_texts IsWritable [] o.members tt (types_writable o.members h.good))
 
 units_fit : (texts : List (List ℕ)) (o : ClassOutline) → IsDescribable o texts → All UnitsFitIn (nodes_with texts o)

@@ -1,5 +1,5 @@
 -- The order of the lines after the first doesn't matter; and a text with a bad line is no outline's.
-use Rattle.std.proofs.Common.{◌≡◌, ℕ, Bool, true, false, List, [], ◌∷◌, ◌++◌, map, Option, Some, None, Ordering, Less, Equal, Greater, nat_cmp, unwrap_or, refl, sym, ap, subst, ◌∙◌, append_assoc, append-nil, IsPermutation, inl, inr}
+use Rattle.std.proofs.Common.{◌≡◌, ℕ, ◌+◌, Bool, true, false, List, [], ◌∷◌, ◌++◌, length, map, Option, Some, None, Ordering, Less, Equal, Greater, nat_cmp, unwrap_or, refl, sym, ap, subst, ◌∙◌, append_assoc, append-nil, IsPermutation, inl, inr}
 use Rattle.std.specs.Prelude.{◌⊎◌}
 use Rattle.std.specs.Cmp.{IsTotalOrder}
 use Rattle.std.specs.Ordering.{ordering_reverse}
@@ -197,6 +197,77 @@ none_after text number m n ms b o =
 pub no_outline : (text : List ℕ) (number : ℕ) → IsBadLine text number → IsOutlineText text → ⊥
 no_outline text number (inl b) (m, (n, (ms, o))) = b.0 o.first o.others m n o.class o.parts
 no_outline text number (inr b) (m, (n, (ms, o))) = none_after text number m n ms b o
+
+-- ---- one reading
+
+-- The members ns are ms and some more, whose lines the rest r of ms has before the rest u of ns.
+record IsLonger (ms ns : List Member) (r u : List ℕ) : Type 0 where
+  tail : List Member
+  others : List ℕ
+  whole : ns ≡ ms ++ tail
+  read : AreLines tail others
+  is : r ≡ others ++ u
+
+with_first : (m : Member) (ms ns : List Member) (r u : List ℕ) → IsLonger ms ns r u → IsLonger (m ∷ ms) (m ∷ ns) r u
+with_first m ms ns r u l = record { tail = l.tail; others = l.others; whole = ap (λ (x : List Member). m ∷ x) l.whole; read = l.read; is = l.is }
+
+-- Of two readings of the beginning of a text the one is the other, and goes on.
+meet : (ms ns : List Member) (s r t u : List ℕ) → AreLines ms s → AreLines ns t → s ++ r ≡ t ++ u → IsLonger ms ns r u ⊎ IsLonger ns ms u r
+meet [] ns s r t u e read is = inl record { tail = ns; others = t; whole = refl; read = read; is = sym (ap (λ (x : List ℕ). x ++ r) e) ∙ is }
+meet (m ∷ ms) [] s r t u read e is = inr record { tail = m ∷ ms; others = s; whole = refl; read = read; is = sym (ap (λ (x : List ℕ). x ++ u) e) ∙ sym is }
+meet (m ∷ ms) (n ∷ ns) s r t u (line, more, reads, after, e) (line', more', reads', after', e') is =
+    let whole : line ++ 0x0A ∷ (more ++ r) ≡ line' ++ 0x0A ∷ (more' ++ u) =
+    sym (append_assoc line (0x0A ∷ more) r) ∙ sym (ap (λ (x : List ℕ). x ++ r) e) ∙ is ∙ ap (λ (x : List ℕ). x ++ u) e' ∙ append_assoc line' (0x0A ∷ more') u in
+    let p = cut line line' (more ++ r) (more' ++ u) (line_lacks line m reads) (line_lacks line' n reads') whole in
+    let same : m ≡ n = some_is m n (sym (line_found line m reads) ∙ ap member_of p.0 ∙ line_found line' n reads') in
+    let Either : Member → Type 0 = λ x. IsLonger (m ∷ ms) (x ∷ ns) r u ⊎ IsLonger (x ∷ ns) (m ∷ ms) u r in
+    subst Either same (elim (meet ms ns more r more' u after after' p.1) [
+      | inl l ↦ inl (with_first m ms ns r u l)
+      | inr l ↦ inr (with_first m ns ms u r l)
+    ])
+
+-- Where reading stops at no further member, no longer reading has distinct members.
+none_longer : (ms ns : List Member) (r u : List ℕ) → ((line tail : List ℕ) (m : Member) → IsLine line m → IsNew m ms → r ≡ line ++ 0x0A ∷ tail → ⊥) → AreDistinct ns → IsLonger ms ns r u → ns ≡ ms
+none_longer ms ns r u bad distinct l = go l.tail l.others l.whole l.read l.is
+  where
+    go : (tail : List Member) (others : List ℕ) → ns ≡ ms ++ tail → AreLines tail others → r ≡ others ++ u → ns ≡ ms
+    go [] others whole e is = whole ∙ append-nil ms
+    go (x ∷ tail) others whole (line, rest, reads, more, e) is =
+        absurd (bad line (rest ++ u) x reads (new_behind ms x tail (subst AreDistinct whole distinct)) (is ∙ ap (λ (y : List ℕ). y ++ u) e ∙ append_assoc line (0x0A ∷ rest) u))
+
+same_lines : (text : List ℕ) (a b : ℕ) (x : IsBadAfter text a) (y : IsBadAfter text b) → x.lines ≡ y.lines
+same_lines text a b x y =
+    let p = cut x.first y.first (x.others ++ x.rest) (y.others ++ y.rest) (class_line_lacks x.first x.modifiers x.name x.class) (class_line_lacks y.first y.modifiers y.name y.class) (sym x.parts ∙ y.parts) in
+    elim (meet x.lines y.lines x.others x.rest y.others y.rest x.read y.read p.1) [
+      | inl l ↦ sym (none_longer x.lines y.lines x.rest y.rest x.bad y.distinct l)
+      | inr l ↦ none_longer y.lines x.lines y.rest x.rest y.bad x.distinct l
+    ]
+
+-- A text has one first bad line.
+pub bad_once : (text : List ℕ) (a b : ℕ) → IsBadLine text a → IsBadLine text b → a ≡ b
+bad_once text a b (inl x) (inl y) = x.1 ∙ sym y.1
+bad_once text a b (inl x) (inr y) = absurd (x.0 y.first (y.others ++ y.rest) y.modifiers y.name y.class y.parts)
+bad_once text a b (inr x) (inl y) = absurd (y.0 x.first (x.others ++ x.rest) x.modifiers x.name x.class x.parts)
+bad_once text a b (inr x) (inr y) = x.counted ∙ ap (λ (ms : List Member). length ms + 2) (same_lines text a b x y) ∙ sym y.counted
+
+-- A text outlines one class.
+pub outlined_once : (text : List ℕ) (m k : ℕ) (n l : List ℕ) (ms ks : List Member) → IsOutline text m n ms → IsOutline text k l ks
+    → IsStrictlySortedBy compare ms → IsStrictlySortedBy compare ks → IsSameOutline m n ms k l ks
+outlined_once text m k n l ms ks o p up up' =
+    let c = cut o.first p.first o.others p.others (class_line_lacks o.first m n o.class) (class_line_lacks p.first k l p.class) (sym o.parts ∙ p.parts) in
+    let same = same_class o.first m k n l o.class (subst (λ (x : List ℕ). IsClassLine x k l) (sym c.0) p.class) in
+    let f = front o.lines p.lines o.others [] p.others o.read p.read (sym c.1 ∙ sym (append-nil o.others)) in
+    let lines : p.lines ≡ o.lines = f.whole ∙ ap (λ (x : List Member). o.lines ++ x) (no_more f.tail f.read) ∙ append-nil o.lines in
+    let all : IsPermutation ms ks = IsPermutation-trans ms o.lines ks (IsPermutation-sym o.lines ms o.same) (subst (λ (x : List Member). IsPermutation x ks) lines p.same) in
+    record {
+      modifiers = same.0;
+      name = same.1;
+      members = same_sorted compare_total ms ks up up' (in_permutation ks ms (IsPermutation-sym ms ks all)) (in_permutation ms ks all);
+    }
+  where
+    no_more : (tail : List Member) → AreLines tail [] → tail ≡ []
+    no_more [] e = refl
+    no_more (x ∷ tail) (line, rest, is, more, e) = absurd (no_nil line 0x0A rest (sym e))
 
 -- ---- numbers
 

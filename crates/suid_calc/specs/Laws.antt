@@ -1,9 +1,11 @@
 -- What holds of outlines' texts.
-use Rattle.std.specs.Prelude.{◌≡◌, ℕ, false, nat_eq, List, [], ◌∷◌, ◌++◌}
+use Rattle.std.specs.Prelude.{◌≡◌, ℕ, ℤ, false, nat_eq, List, [], ◌∷◌, ◌++◌}
 use Rattle.std.specs.List.{AllByRecursion, flat_map}
 use Rattle.std.specs.List.Sorted.{IsPermutation}
 use Rattle.suid_calc.specs.declared.outline.Member.{Member}
+use Rattle.suid_calc.specs.declared.outline.ClassOutline.{ClassOutline}
 use Rattle.suid_calc.specs.Grammar.{IsOutline}
+use Rattle.suid_calc.specs.Whole.{Spells, number_of}
 
 -- Lines, each with its LF.
 abbrev pub ended : List (List ℕ) → List ℕ
@@ -27,3 +29,7 @@ pub record IsReordered (text other : List ℕ) : Type 0 where
 -- The text is some class's outline.
 abbrev pub IsOutlineText : List ℕ → Type 0
 IsOutlineText text = (modifiers : ℕ) × ((name : List ℕ) × ((members : List Member) × IsOutline text modifiers name members))
+
+-- The text is the outline of a class with this number.
+abbrev pub HasNumber : List ℕ → ℤ → Type 0
+HasNumber text number = (outline : ClassOutline) × Spells text outline × (number ≡ number_of outline)

@@ -1,4 +1,4 @@
--- The members of a class outline: what tells two of them apart, and the order in which the stream hash takes them
+-- The members of a class outline: what tells two of them apart, and the order in which the hashed text has them
 -- (Java Object Serialization Specification, 4.6).
 use Rattle.std.specs.Prelude.{◌≡◌, ◌≢◌, ℕ, List, [], ◌∷◌, ◌++◌}
 use Rattle.std.specs.declared.cmp.Ordering.{Ordering}

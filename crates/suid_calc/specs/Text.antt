@@ -1,4 +1,4 @@
--- The stream of which a class's serialVersionUID is the hash (Java Object Serialization Specification, 4.6), and the number.
+-- The text of which a class's serialVersionUID is the hash (Java Object Serialization Specification, 4.6), and the number.
 use Rattle.std.specs.Prelude.{◌≡◌, ℕ, ℤ, ◌+◌, Bool, true, false, not, ◌&&◌, ◌||◌, nat_eq, bit_and, List, [], ◌∷◌, ◌++◌, length, map, codes, if◌then◌else◌}
 use Rattle.std.specs.Int.{w16, w32, to_be_bytes}
 use Rattle.std.specs.List.{flat_map, list_any}

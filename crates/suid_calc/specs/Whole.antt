@@ -8,10 +8,10 @@ use Rattle.suid_calc.specs.Text.{suid_text, suid_of}
 abbrev pub Spells : List ℕ → ClassOutline → Type 0
 Spells text o = IsOutline text o.modifiers o.name o.members
 
--- The stream that is hashed.
+-- The text that is hashed.
 abbrev pub text_of : ClassOutline → List ℕ
 text_of o = suid_text o.modifiers o.name o.members
 
--- The number: the digest of that stream, folded.
+-- The number: the digest of that text, folded.
 abbrev pub number_of : ClassOutline → ℤ
 number_of o = suid_of o.modifiers o.name o.members

@@ -1,16 +1,19 @@
-//! What holds of outlines' texts, as contracts of small functions.
-ghost use Rattle.std.specs.Prelude.{◌≡◌, true, false, IfOk};
-ghost use Rattle.suid_calc.specs.Laws.{IsReordered, IsOutlineText};
+//! Laws of outlines, as contracts of small functions.
+ghost use Rattle.std.specs.Prelude.{◌≡◌, ◌⊎◌, true, false, IfOk, IfErr};
+ghost use Rattle.suid_calc.specs.Grammar.{IsUnread};
+ghost use Rattle.suid_calc.specs.Laws.{HasNumber, IsReordered, IsOutlineText};
 
 use crate::outline::OutlineFault;
 use crate::parse::parse_outline;
 use crate::text::suid;
 use std::alloc::{AllocError, Global};
 
-/// The numbers of two outlines. They are the same where the second text has the lines of the first, those after the first line in
-/// another order.
+/// Returns the numbers of two outlines. They are the same where the second text has the lines of the first, those after the first line
+/// in another order. BadLine names the first bad line of the first text, or else of the second.
 pub fn numbers_of(alloc: Global, text: &[u8], other: &[u8]) -> Result<(i64, i64), OutlineFault>
-    ensures { IsReordered text.now other.now → IfOk result (λ numbers. numbers.0 ≡ numbers.1) }
+    ensures same { IsReordered text.now other.now → IfOk result (λ numbers. numbers.0 ≡ numbers.1) }
+    ensures numbers { IfOk result (λ numbers. HasNumber text.now numbers.0 × HasNumber other.now numbers.1) }
+    ensures err { IfErr result (λ fault. IsUnread text.now fault ⊎ IsUnread other.now fault) }
 {
     let outline = parse_outline(alloc, text)?;
     let reordered = parse_outline(alloc, other)?;
@@ -19,7 +22,7 @@ pub fn numbers_of(alloc: Global, text: &[u8], other: &[u8]) -> Result<(i64, i64)
     Ok((number, same))
 }
 
-/// Whether a text is a class's outline: exactly those texts are taken.
+/// Returns true exactly where a text is a class's outline.
 pub fn is_outline(alloc: Global, text: &[u8]) -> Result<bool, AllocError>
     ensures taken { IfOk result (λ taken. taken ≡ true → IsOutlineText text.now) }
     ensures refused { IfOk result (λ taken. taken ≡ false → IsOutlineText text.now → ⊥) }

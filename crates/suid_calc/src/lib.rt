@@ -4,6 +4,7 @@
 
 mod description;
 mod laws;
+mod limits;
 mod lines;
 mod number;
 mod outline;

@@ -10,7 +10,7 @@ use crate::words::{is_name, split_at};
 use sequence::ByteList;
 use std::alloc::{AllocError, Global};
 
-/// The number with which a text begins, and what is behind it and a blank.
+/// Returns the number with which a text begins, and the text behind it and a blank.
 fn after_number(text: &[u8]) -> Option<(u16, &[u8])>
     ensures { option_map (λ p. (p.0, p.1.now)) result ≡ after_number text.now }
 {
@@ -23,7 +23,7 @@ fn after_number(text: &[u8]) -> Option<(u16, &[u8])>
     }
 }
 
-/// The modifiers and the name of a class's line; None where it is none.
+/// Returns the modifiers and the name of a class's line; None for another line.
 #[tactic(auto, unfolding(crate::specs::Reading::class_line_of))]
 pub(crate) fn class_line(line: &[u8]) -> Option<(u16, &[u8])>
     ensures { option_map (λ p. (p.0, p.1.now)) result ≡ class_line_of line.now }

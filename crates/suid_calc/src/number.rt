@@ -5,14 +5,14 @@ ghost use Rattle.suid_calc.specs.Reading.{number, number_after};
 
 use crate::outline::MAX_MODIFIERS;
 
-/// Whether a byte is a decimal digit.
+/// Returns whether a byte is a decimal digit.
 fn is_digit(byte: u8) -> bool
     ensures { result ≡ is_digit byte }
 {
     b'0' <= byte && byte <= b'9'
 }
 
-/// The number of some digits; None where a byte is no digit, or the number is above 65,535.
+/// Returns the number of some digits; None where a byte is no digit, or the number is above 65,535.
 #[tactic(auto, using(crate::proofs::Loops::number_stops, crate::proofs::Loops::number_too_high, crate::proofs::Loops::number_goes_on, crate::proofs::Loops::number_ends))]
 fn number_of(digits: &[u8]) -> Option<u16>
     ensures { result ≡ number_after 0 digits.now }
@@ -31,7 +31,7 @@ fn number_of(digits: &[u8]) -> Option<u16>
     Some(number as u16)
 }
 
-/// The number of a word, from 0 to 65,535: decimal digits without a leading zero.
+/// Returns the number of a word, from 0 to 65,535: decimal digits without a leading zero.
 pub(crate) fn number(word: &[u8]) -> Option<u16>
     ensures { result ≡ number word.now }
 {

@@ -66,7 +66,7 @@ pub enum Member {
     Constructor {
         /// The constructor's modifiers.
         modifiers: u16,
-        /// The types of its parameters in parentheses, and `V`.
+        /// The types of its parameters in parentheses, and `V`; any type is taken in place of `V`.
         descriptor: ByteList,
     },
     /// A method.

@@ -59,7 +59,7 @@ fn descriptor_of(member: &Member) -> &[u8]
     }
 }
 
-/// What tells a member from others, as bytes that have the members' order.
+/// Returns the bytes that tell a member from others. They have the members' order.
 fn key_of(alloc: Global, member: &Member) -> Result<Vec<u8>, AllocError>
     ensures { IfOk result (λ key. key.items ≡ key_of member.now) }
 {
@@ -71,7 +71,7 @@ fn key_of(alloc: Global, member: &Member) -> Result<Vec<u8>, AllocError>
     Ok(key.into_vec())
 }
 
-/// Keeps a member, unless one that is the same is kept already. Whether it was kept now.
+/// Keeps a member, unless one that is the same is kept already. Returns whether it was kept now.
 fn keep(alloc: Global, kept: &mut Kept, member: Member) -> Result<bool, AllocError>
     requires good { is_good member ≡ true }
     requires kept { AreKept (λ k. k.items) kept.old.entries }
@@ -155,10 +155,17 @@ fn list_of(alloc: Global, kept: Kept) -> Result<MemberList, AllocError>
     Ok(members)
 }
 
-/// The outline of a text: a line `class MODS NAME`, and then, in any order, lines `interface NAME`, `field MODS NAME TYPE`, `clinit`,
-/// `constructor MODS DESCRIPTOR` and `method MODS NAME DESCRIPTOR`; each line ends with LF. `BadLine` names the first line that is none
-/// of these in its place, or that repeats an interface, a field's name, `clinit`, a constructor's descriptor, or a method's name and
-/// descriptor.
+/// Returns the outline of a text: a line `class MODS NAME`, and then, in any order, lines `interface NAME`, `field MODS NAME TYPE`,
+/// `clinit`, `constructor MODS DESCRIPTOR` and `method MODS NAME DESCRIPTOR`; each line ends with LF. One blank parts two words.
+///
+/// - MODS is a decimal number from 0 to 65,535 without leading zeros.
+/// - NAME has 1 to 255 bytes from 21 to 7E.
+/// - TYPE has 1 to 65,535 bytes: `[` for each dimension of an array, and then one of `BCDFIJSZ`, or `L`, a class's name and `;`. The
+///   name has 1 or more bytes from 21 to 7E other than `;`, `(`, `)` and `[`.
+/// - DESCRIPTOR has at most 65,535 bytes: `(`, 0 to 255 of TYPE, `)`, and then `V` or one TYPE.
+///
+/// `BadLine` names the first line that is none of these in its place, or that repeats an interface, a field's name, `clinit`, a
+/// constructor's descriptor, or a method's name and descriptor.
 pub fn parse_outline(alloc: Global, text: &[u8]) -> Result<ClassOutline, OutlineFault>
     ensures ok { IfOk result (λ outline. Spells text.now outline) }
     ensures err { IfErr result (IsUnread text.now) }

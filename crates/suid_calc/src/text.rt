@@ -1,4 +1,4 @@
-//! The stream of which a class's serialVersionUID is the hash, and the number.
+//! The text of which a class's serialVersionUID is the hash, and the number.
 ghost use Rattle.std.specs.Prelude.{◌≡◌, ◌++◌, ◌<◌, ◌^◌, length, map, true, IfOk, OnOk, if◌then◌else◌};
 ghost use Rattle.std.specs.List.{AllByRecursion, flat_map, list_any};
 ghost use Rattle.suid_calc.specs.Reading.{is_good, is_name, is_type, is_descriptor};
@@ -29,7 +29,7 @@ fn put_word(out: &mut ByteList, number: u32) -> Result<(), AllocError>
     Ok(())
 }
 
-/// The byte that stands for another in a descriptor: a dot for a slash.
+/// Returns the byte that stands for another in a descriptor: a dot for a slash.
 fn dot_of(byte: u8) -> u8
     ensures { result ≡ dot_of byte }
 {
@@ -37,7 +37,7 @@ fn dot_of(byte: u8) -> u8
 }
 
 /// Appends bytes, with dots for slashes.
-fn put_dotted(out: &mut ByteList, text: &[u8]) -> Result<(), AllocError>
+pub(crate) fn put_dotted(out: &mut ByteList, text: &[u8]) -> Result<(), AllocError>
     ensures { OnOk result (out.new ≡ out.old ++ map dot_of text.now) }
 {
     for byte in text {
@@ -56,14 +56,14 @@ fn put_descriptor(out: &mut ByteList, descriptor: &[u8]) -> Result<(), AllocErro
     Ok(())
 }
 
-/// Whether modifiers have a bit.
+/// Returns whether modifiers have a bit.
 pub(crate) fn has_bit(modifiers: u16, bit: u16) -> bool
     ensures { result ≡ has_bit modifiers bit }
 {
     modifiers & bit != 0
 }
 
-/// Whether a field is private and static, or private and transient.
+/// Returns whether a field is private and static, or private and transient.
 fn is_hidden_field(modifiers: u16) -> bool
     ensures { result ≡ is_hidden_field modifiers }
 {
@@ -170,7 +170,7 @@ fn put_members(out: &mut ByteList, members: &[Member]) -> Result<(), AllocError>
     Ok(())
 }
 
-/// Whether a member is a method.
+/// Returns whether a member is a method.
 fn is_method(member: &Member) -> bool
     ensures { result ≡ is_method member.now }
 {
@@ -180,14 +180,14 @@ fn is_method(member: &Member) -> bool
     }
 }
 
-/// Whether a member among some is a method.
+/// Returns whether a member among some is a method.
 fn have_method(members: &[Member]) -> bool
     ensures { result ≡ list_any is_method members.now }
 {
     members.iter().any(|member| is_method(member))
 }
 
-/// The modifiers of a class that count: public, final, interface and abstract. An interface is abstract exactly if it has a method.
+/// Returns the modifiers of a class that count: public, final, interface and abstract. An interface is abstract exactly if it has a method.
 fn class_modifiers(modifiers: u16, members: &[Member]) -> u32
     ensures { result ≡ class_modifiers modifiers members.now }
 {
@@ -202,7 +202,7 @@ fn class_modifiers(modifiers: u16, members: &[Member]) -> u32
     }
 }
 
-/// The stream of which the outline's serialVersionUID is the hash (section 4.6).
+/// Returns the text of which the outline's serialVersionUID is the hash (Java Object Serialization Specification, 4.6).
 #[tactic(auto, unfolding(crate::specs::Text::suid_text))]
 pub fn suid_text(alloc: Global, outline: &ClassOutline) -> Result<ByteList, AllocError>
     ensures { IfOk result (λ text. text ≡ text_of outline.now) }
@@ -215,7 +215,7 @@ pub fn suid_text(alloc: Global, outline: &ClassOutline) -> Result<ByteList, Allo
     Ok(text)
 }
 
-/// The outline's serialVersionUID: the digest of `suid_text`, folded.
+/// Returns the outline's serialVersionUID: the SHA-1 digest of `suid_text`, folded (Java Object Serialization Specification, 4.6).
 pub fn suid(alloc: Global, outline: &ClassOutline) -> Result<i64, AllocError>
     ensures { IfOk result (λ number. number ≡ number_of outline.now) }
 {

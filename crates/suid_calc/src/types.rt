@@ -7,14 +7,14 @@ ghost use Rattle.suid_calc.specs.Reading.{after_name, after_class, after_type, a
 
 use crate::outline::{MAX_PARAMETERS, TYPE_BYTES};
 
-/// Whether a byte may stand in the name of a class in a type's text.
+/// Returns whether a byte may stand in the name of a class in a type's text.
 fn is_class_byte(byte: u8) -> bool
     ensures { result ≡ is_class_byte byte }
 {
     0x21 <= byte && byte <= 0x7E && byte != b';' && byte != b'(' && byte != b')' && byte != b'['
 }
 
-/// Whether a byte is the letter of a primitive type.
+/// Returns whether a byte is the letter of a primitive type.
 fn is_letter(byte: u8) -> bool
     ensures { result ≡ is_letter byte }
 {
@@ -28,7 +28,7 @@ fn is_letter(byte: u8) -> bool
         || byte == b'Z'
 }
 
-/// What is behind the rest of a class's name and its semicolon.
+/// Returns the text behind the rest of a class's name and its semicolon.
 #[tactic(auto, using(crate::proofs::Loops::name_ends, crate::proofs::Loops::name_goes_on, crate::proofs::Loops::name_stops, crate::proofs::Loops::name_lacks))]
 fn after_name(text: &[u8]) -> Option<&[u8]>
     ensures { option_copied result ≡ after_name text.now }
@@ -44,7 +44,7 @@ fn after_name(text: &[u8]) -> Option<&[u8]>
     None
 }
 
-/// What is behind a class's name and its semicolon.
+/// Returns the text behind a class's name and its semicolon.
 fn after_class(text: &[u8]) -> Option<&[u8]>
     ensures { option_copied result ≡ after_class text.now }
 {
@@ -60,7 +60,7 @@ fn after_class(text: &[u8]) -> Option<&[u8]>
     }
 }
 
-/// What is behind a type's text.
+/// Returns the text behind a type's text.
 #[tactic(auto, using(crate::proofs::Loops::type_of_class, crate::proofs::Loops::type_of_elements, crate::proofs::Loops::type_of_letter, crate::proofs::Loops::type_of_nothing, crate::proofs::Loops::type_lacks))]
 fn after_type(text: &[u8]) -> Option<&[u8]>
     ensures { option_copied result ≡ after_type text.now }
@@ -80,7 +80,7 @@ fn after_type(text: &[u8]) -> Option<&[u8]>
     None
 }
 
-/// What is behind the parameters of a descriptor and the closing parenthesis.
+/// Returns the text behind the parameters of a descriptor and the closing parenthesis.
 #[tactic(auto, using(crate::proofs::Loops::parameters_close, crate::proofs::Loops::parameters_full, crate::proofs::Loops::parameters_go_on, crate::proofs::Loops::parameters_stop, crate::proofs::Loops::parameters_lack))]
 fn after_parameters(text: &[u8]) -> Option<&[u8]>
     ensures { option_copied result ≡ after_parameters MAX_PARAMETERS text.now }
@@ -103,7 +103,7 @@ fn after_parameters(text: &[u8]) -> Option<&[u8]>
     None
 }
 
-/// Whether a text is a type's, and nothing more.
+/// Returns whether a text is a type's, and nothing more.
 fn is_whole_type(text: &[u8]) -> bool
     ensures { result ≡ is_end (after_type text.now) }
 {
@@ -113,21 +113,21 @@ fn is_whole_type(text: &[u8]) -> bool
     }
 }
 
-/// Whether a text is `V` or a type's.
+/// Returns whether a text is `V` or a type's.
 fn is_returned(text: &[u8]) -> bool
     ensures { result ≡ is_returned text.now }
 {
     text == b"V".as_slice() || is_whole_type(text)
 }
 
-/// Whether a word is the text of a type, of at most 65,535 bytes.
+/// Returns whether a word is the text of a type, of at most 65,535 bytes.
 pub(crate) fn is_type(word: &[u8]) -> bool
     ensures { result ≡ is_type word.now }
 {
     word.len() <= TYPE_BYTES && is_whole_type(word)
 }
 
-/// Whether a text is the types of at most 255 parameters in parentheses, and then `V` or a type.
+/// Returns whether a text is the types of at most 255 parameters in parentheses, and then `V` or a type.
 fn is_signature(text: &[u8]) -> bool
     ensures { result ≡ is_signature text.now }
 {
@@ -143,7 +143,7 @@ fn is_signature(text: &[u8]) -> bool
     }
 }
 
-/// Whether a word is a descriptor, of at most 65,535 bytes.
+/// Returns whether a word is a descriptor, of at most 65,535 bytes.
 pub(crate) fn is_descriptor(word: &[u8]) -> bool
     ensures { result ≡ is_descriptor word.now }
 {

@@ -7,7 +7,7 @@ ghost use Rattle.suid_calc.specs.Reading.{split_at, is_name};
 
 use crate::outline::NAME_BYTES;
 
-/// What stands before the first byte of this value, and what behind it; None where there is none.
+/// Returns the text before the first byte of this value, and the text behind it; None where there is none.
 pub(crate) fn split_at(byte: u8, text: &[u8]) -> Option<(&[u8], &[u8])>
     ensures { option_map (λ p. (p.0.now, p.1.now)) result ≡ split_at byte text.now }
 {
@@ -19,21 +19,21 @@ pub(crate) fn split_at(byte: u8, text: &[u8]) -> Option<(&[u8], &[u8])>
     None
 }
 
-/// Whether a byte may stand in a name.
+/// Returns whether a byte may stand in a name.
 fn is_name_byte(byte: u8) -> bool
     ensures { result ≡ is_name_byte byte }
 {
     0x21 <= byte && byte <= 0x7E
 }
 
-/// Whether each byte may stand in a name.
+/// Returns whether each byte may stand in a name.
 fn are_name_bytes(word: &[u8]) -> bool
     ensures { result ≡ list_all is_name_byte word.now }
 {
     word.iter().all(|byte| is_name_byte(*byte))
 }
 
-/// Whether a word is a name: 1 to 255 bytes from 21 to 7E.
+/// Returns whether a word is a name: 1 to 255 bytes from 21 to 7E.
 pub(crate) fn is_name(word: &[u8]) -> bool
     ensures { result ≡ is_name word.now }
 {

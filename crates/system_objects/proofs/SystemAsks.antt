@@ -1,6 +1,5 @@
 -- What calls of the registry and the collector ask for.
-use Rattle.std.proofs.Common.{◌≡◌, ℕ, ℤ, Bool, true, false, true≢false, List, [], Option, None, Some, Result, Ok, Err, refl, ap, sym, subst, ◌∙◌}
-use Rattle.std.specs.Prelude.{is_none}
+use Rattle.std.proofs.Common.{◌≡◌, ℕ, ℤ, Bool, List, [], Option, None, Some, Result, Ok, Err, refl, ap, sym, subst, ◌∙◌, arith}
 use Rattle.object_ids.specs.declared.ids.ObjId.{ObjId}
 use Rattle.object_ids.specs.declared.ids.Uid.{Uid}
 use Rattle.object_ids.specs.Client.{Client}
@@ -8,18 +7,17 @@ use Rattle.method_hash.specs.declared.system.RegistryMethod.TheVariants as regis
 use Rattle.method_hash.specs.declared.system.CollectorMethod.TheVariants as collector
 use Rattle.history.specs.declared.asks.Ask.{Ask}
 use Rattle.history.specs.declared.asks.Ask.TheVariants.{Dirty, Clean, Bind, Rebind, Unbind, Lookup, List as ListNames}
-use Rattle.java_shapes.specs.Ids.{is_nameless}
 use Rattle.java_shapes.specs.declared.lease_views.LeaseView.{LeaseView}
 use Rattle.java_shapes.specs.declared.ref_views.LiveRef.{LiveRef}
 use Rattle.jrmp_frames.specs.declared.arguments.Arguments.{Arguments}
 use Rattle.system_objects.specs.declared.book.Kind.{Kind}
 use Rattle.system_objects.specs.declared.request.Rejection.{Rejection}
 use Rattle.system_objects.specs.declared.request.ReplyContext.{ReplyContext}
-use Rattle.system_objects.specs.declared.request.SystemRequest.TheVariants.{Rejected, Asks}
+use Rattle.system_objects.specs.declared.request.SystemRequest.TheVariants.{Rejected, Asks, AsksForNew}
 use Rattle.system_objects.specs.declared.setup.Setup.{Setup}
 use Rattle.system_ids.specs.declared.methods.SystemMethod.{SystemMethod}
 use Rattle.system_ids.specs.declared.methods.SystemMethod.TheVariants.{Registry, Collector}
-use Rattle.system_objects.specs.SystemRequests.{unnamed, unnamed_of, text_in, live_ref_in, objids_in, number_in, vmid_in, truth_in, lease_in, name_to_find, name_to_unbind, name_and_object, client_or, bind_of, rebind_of, unbind_of, lookup_of, clean_of, dirty_of, request_of, kept_of, IsRequest, IsQuiet}
+use Rattle.system_objects.specs.SystemRequests.{unnamed, unnamed_of, text_in, live_ref_in, objids_in, number_in, vmid_in, truth_in, lease_in, name_to_find, name_to_unbind, name_and_object, client_or, bind_of, rebind_of, unbind_of, lookup_of, clean_of, dirty_of, request_of, client_draws, kept_of, IsRequest, IsQuiet}
 use Rattle.system_objects.specs.Terms.{Terms, terms_of}
 
 -- ---- no such call begins or ends a call
@@ -109,13 +107,23 @@ request_kinds kinds setup (Collector collector.Dirty) arguments client uid = dir
 
 -- ---- what was demanded
 
-pub is_barred : (r : Result Ask Rejection) (bar : Rejection) → IsRequest r (Rejected bar) → r ≡ Err bar
-is_barred (Err b) bar is = ap (λ (x : Rejection). refused x) (sym is)
-is_barred (Ok ask) bar is = absurd is
+pub is_barred : (r : Result Ask Rejection) (draws : ℕ) (bar : Rejection) → IsRequest r draws (Rejected bar) → (r ≡ Err bar) × (draws ≡ 0)
+is_barred (Err b) draws bar is = (ap (λ (x : Rejection). refused x) (sym is.0), is.1)
+is_barred (Ok ask) draws bar is = absurd is
 
-pub is_asked : (r : Result Ask Rejection) (ask : Ask) (kept : ReplyContext) → IsRequest r (Asks ask kept) → (r ≡ Ok ask) × (kept ≡ kept_of ask)
-is_asked (Ok a) ask kept (same, is) = let P : Ask → Type 0 = λ x. kept ≡ kept_of x in (ap asked (sym same), subst P (sym same) is)
-is_asked (Err bar) ask kept is = absurd is
+pub is_asked : (r : Result Ask Rejection) (draws : ℕ) (ask : Ask) (kept : ReplyContext) → IsRequest r draws (Asks ask kept) → (r ≡ Ok ask) × (kept ≡ kept_of ask) × (draws ≡ 0)
+is_asked (Ok a) draws ask kept (same, is, none) = let P : Ask → Type 0 = λ x. kept ≡ kept_of x in (ap asked (sym same), subst P (sym same) is, none)
+is_asked (Err bar) draws ask kept is = absurd is
+
+pub is_asked_for_new : (r : Result Ask Rejection) (draws : ℕ) (ask : Ask) (kept : ReplyContext) → IsRequest r draws (AsksForNew ask kept) → (r ≡ Ok ask) × (kept ≡ kept_of ask) × (draws ≡ 1)
+is_asked_for_new (Ok a) draws ask kept (same, is, one) = let P : Ask → Type 0 = λ x. kept ≡ kept_of x in (ap asked (sym same), subst P (sym same) is, one)
+is_asked_for_new (Err bar) draws ask kept is = absurd is
+
+-- The request for a client that was made has no identifier of the Return.
+pub without_return : (terms : Terms) (method : SystemMethod) (arguments : Arguments) (client uid uid2 : Uid) → client_draws method arguments ≡ 1 → request_of terms method arguments client uid ≡ request_of terms method arguments client uid2
+unfolding request_of client_draws
+without_return terms (Registry method) arguments client uid uid2 one = let none : 0 ≡ 1 = one in absurd (omega (arith, none))
+without_return terms (Collector method) arguments client uid uid2 one = refl
 
 -- The same of the terms with the kinds, where identifiers were drawn since.
 pub request_is : (kinds : List Kind) (setup setup2 : Setup) (method : SystemMethod) (arguments : Arguments) (client client2 uid : Uid) (r : Result Ask Rejection) → terms_of kinds setup2 ≡ terms_of kinds setup → client ≡ client2
@@ -125,24 +133,6 @@ request_is kinds setup setup2 method arguments client client2 uid r terms client
     ∙ ap (λ c. request_of (terms_of [] setup2) method arguments c uid) (sym clients) ∙ e
 
 -- ---- how many identifiers are drawn
-
-named_client : (client : Option Client) (objects : Option (List ObjId)) → is_none client ≡ false → unnamed_of client objects ≡ 0
-named_client None objects e = absurd (true≢false e)
-named_client (Some client) objects e = refl
-
-nameless_client : (client : Option Client) (objects : List ObjId) → is_none client ≡ true → unnamed_of client (Some objects) ≡ 1
-nameless_client None objects e = refl
-nameless_client (Some client) objects e = absurd (true≢false (sym e))
-
--- none for a lease that names a client
-pub named_draws : (number : ℤ) (lease : Option LeaseView) (objects : Option (List ObjId)) → is_nameless lease ≡ false → unnamed (Some number) lease objects ≡ 0
-named_draws number None objects e = refl
-named_draws number (Some lease) objects e = named_client lease.vmid objects e
-
--- one for a lease that names none
-pub nameless_draws : (number : ℤ) (lease : Option LeaseView) (objects : List ObjId) → is_nameless lease ≡ true → unnamed (Some number) lease (Some objects) ≡ 1
-nameless_draws number None objects e = absurd (true≢false (sym e))
-nameless_draws number (Some lease) objects e = nameless_client lease.vmid objects e
 
 -- none where there is no list of objects
 without_objects : (client : Option Client) → unnamed_of client None ≡ 0

@@ -16,7 +16,7 @@ use Rattle.java_shapes.specs.declared.fault.ShapeFault.{ShapeFault}
 use Rattle.java_shapes.specs.declared.fault.ShapeFault.TheVariants.{WrongShape, OutOfMemory}
 use Rattle.java_shapes.specs.declared.lease_views.LeaseView.{LeaseView}
 use Rattle.java_shapes.specs.declared.ref_views.LiveRef.{LiveRef}
-use Rattle.java_shapes.specs.Ids.{is_nameless, objids_at, lease_at, vmid_at}
+use Rattle.java_shapes.specs.Ids.{objids_at, lease_at, vmid_at}
 use Rattle.java_shapes.specs.LiveRefs.{live_ref_at}
 use Rattle.java_shapes.specs.LocalRefs.{is_local}
 use Rattle.java_shapes.specs.Objects.{text_at, ◌>>=◌}
@@ -28,7 +28,7 @@ use Rattle.system_objects.specs.declared.request.Rejection.TheVariants.{WrongArg
 use Rattle.system_objects.specs.declared.request.ReplyContext.{ReplyContext}
 use Rattle.system_objects.specs.declared.request.ReplyContext.TheVariants as kept
 use Rattle.system_objects.specs.declared.request.SystemRequest.{SystemRequest}
-use Rattle.system_objects.specs.declared.request.SystemRequest.TheVariants.{Rejected, Asks}
+use Rattle.system_objects.specs.declared.request.SystemRequest.TheVariants.{Rejected, Asks, AsksForNew}
 use Rattle.system_objects.specs.declared.request.NoRequest.{NoRequest}
 use Rattle.system_objects.specs.declared.request.NoRequest.TheVariants as stops
 use Rattle.system_ids.specs.declared.methods.SystemMethod.{SystemMethod}
@@ -204,11 +204,12 @@ kept_of (asks.Unbind name) = kept.Name name
 kept_of (asks.Lookup name uid) = kept.Name name
 kept_of _ = kept.Nothing
 
--- What was demanded.
-abbrev pub IsRequest : Result Ask Rejection → SystemRequest → Type 0
-IsRequest (Err bar) (Rejected b) = b ≡ bar
-IsRequest (Ok ask) (Asks a k) = (a ≡ ask) × (k ≡ kept_of ask)
-IsRequest _ _ = ⊥
+-- What was demanded, where so many identifiers are drawn for clients.
+abbrev pub IsRequest : Result Ask Rejection → ℕ → SystemRequest → Type 0
+IsRequest (Err bar) draws (Rejected b) = (b ≡ bar) × (draws ≡ 0)
+IsRequest (Ok ask) draws (Asks a k) = (a ≡ ask) × (k ≡ kept_of ask) × (draws ≡ 0)
+IsRequest (Ok ask) draws (AsksForNew a k) = (a ≡ ask) × (k ≡ kept_of ask) × (draws ≡ 1)
+IsRequest _ _ _ = ⊥
 
 -- ---- how far a function that finds it has come
 
@@ -228,20 +229,8 @@ FindsArgument (Ok found) shown = shown ≡ Some found
 FindsArgument (Err (stops.Rejected bar)) shown = (shown ≡ None) × (bar ≡ WrongArgument)
 FindsArgument (Err stops.OutOfMemory) shown = Unit {0}
 
--- the request that was found
-abbrev pub FindsRequest : Result SystemRequest NoRequest → Result Ask Rejection → Type 0
-FindsRequest (Ok request) shown = IsRequest shown request
-FindsRequest (Err (stops.Rejected bar)) shown = shown ≡ Err bar
-FindsRequest (Err stops.OutOfMemory) shown = Unit {0}
-
--- whether a lease names no client; an argument that is no reference is no lease
-abbrev pub TellsNameless : Result Bool NoRequest → Option LeaseView → Type 0
-TellsNameless (Ok nameless) shown = nameless ≡ is_nameless shown
-TellsNameless (Err (stops.Rejected bar)) shown = (shown ≡ None) × (bar ≡ WrongArgument)
-TellsNameless (Err stops.OutOfMemory) shown = Unit {0}
-
--- that a lease names no client
-abbrev pub FindsNone : Result Bool NoRequest → ℕ → Type 0
-FindsNone (Ok lacks) shown = shown ≡ (if lacks then 1 else 0)
-FindsNone (Err (stops.Rejected bar)) shown = shown ≡ 0
-FindsNone (Err stops.OutOfMemory) shown = Unit {0}
+-- the request that was found, for which so many identifiers are drawn for clients
+abbrev pub FindsRequest : Result SystemRequest NoRequest → Result Ask Rejection → ℕ → Type 0
+FindsRequest (Ok request) shown draws = IsRequest shown draws request
+FindsRequest (Err (stops.Rejected bar)) shown draws = (shown ≡ Err bar) × (draws ≡ 0)
+FindsRequest (Err stops.OutOfMemory) shown draws = Unit {0}

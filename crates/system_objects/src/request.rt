@@ -1,7 +1,8 @@
 //! What a call of the registry or the collector asks for.
-ghost use Rattle.std.specs.Prelude.{◌≡◌, [], IfOk, if◌then◌else◌};
+ghost use Rattle.std.specs.Prelude.{◌≡◌, [], None, IfOk};
 ghost use Rattle.history.specs.declared.asks.Ask.TheVariants.{Dirty};
-ghost use Rattle.system_objects.specs.SystemRequests.{Finds, FindsArgument, FindsRequest, FindsNone, IsRequest, bind_of, name_and_object, name_to_change, clean_of, client_draws, client_or, collector_request, request_of, dirty_of, lease_in, live_ref_in, lookup_of, number_in, objids_in, own_object, rebind_of, reference_in, registry_request, short_name, name_to_find, text_in, truth_in, TellsNameless, unbind_of, name_to_unbind, unnamed, vmid_in};
+ghost use Rattle.system_ids.specs.declared.methods.SystemMethod.TheVariants.{Collector};
+ghost use Rattle.system_objects.specs.SystemRequests.{Finds, FindsArgument, FindsRequest, IsRequest, bind_of, name_and_object, name_to_change, clean_of, client_draws, client_or, collector_request, request_of, dirty_of, lease_in, live_ref_in, lookup_of, number_in, objids_in, own_object, rebind_of, reference_in, registry_request, short_name, name_to_find, text_in, truth_in, unbind_of, name_to_unbind, unnamed, vmid_in};
 ghost use Rattle.system_objects.specs.Terms.{terms_of};
 
 use crate::setup::Setup;
@@ -9,7 +10,6 @@ use class_desc::Slot;
 use history::{Ask, Name};
 use java_shapes::{
     LeaseView, LiveRef, ShapeFault, as_lease, as_live_ref, as_objids, as_text, as_vmid, is_local,
-    is_nameless_lease,
 };
 use jrmp_frames::{Arg, Arguments};
 use method_hash::{CollectorMethod, RegistryMethod};
@@ -60,6 +60,8 @@ pub enum SystemRequest {
     Rejected(Rejection),
     /// The request, and the part of it that its Return needs.
     Asks(Ask, ReplyContext),
+    /// The same of a dirty whose lease names no client: it asks for the client that was made for it.
+    AsksForNew(Ask, ReplyContext),
 }
 
 /// Why a call makes no request.
@@ -167,14 +169,6 @@ fn lease_in(alloc: Global, arguments: &Arguments, place: usize) -> Result<LeaseV
     Ok(as_lease(alloc, &arguments.graph, slot)?)
 }
 
-/// Whether the argument at a place is a lease that names no client. An argument that is no reference is none of its method's.
-fn is_nameless(arguments: &Arguments, place: usize) -> Result<bool, NoRequest>
-    ensures { TellsNameless result (lease_in arguments.now place) }
-{
-    let slot = reference_in(arguments, place)?;
-    Ok(is_nameless_lease(&arguments.graph, slot))
-}
-
 // ---- names
 
 /// The name of these units.
@@ -247,7 +241,7 @@ fn kept_name(alloc: Global, name: &Name) -> Result<ReplyContext, AllocError>
 
 /// What a bind asks for.
 fn bind(alloc: Global, setup: &Setup, arguments: &Arguments) -> Result<SystemRequest, NoRequest>
-    ensures { FindsRequest result (bind_of (name_and_object (terms_of [] setup.now) (text_in arguments.now 0) (live_ref_in arguments.now 1))) }
+    ensures { FindsRequest result (bind_of (name_and_object (terms_of [] setup.now) (text_in arguments.now 0) (live_ref_in arguments.now 1))) 0 }
 {
     let (name, object) = name_and_object(alloc, setup, arguments)?;
     let kept = kept_name(alloc, &name)?;
@@ -256,7 +250,7 @@ fn bind(alloc: Global, setup: &Setup, arguments: &Arguments) -> Result<SystemReq
 
 /// What a rebind asks for.
 fn rebind(alloc: Global, setup: &Setup, arguments: &Arguments) -> Result<SystemRequest, NoRequest>
-    ensures { FindsRequest result (rebind_of (name_and_object (terms_of [] setup.now) (text_in arguments.now 0) (live_ref_in arguments.now 1))) }
+    ensures { FindsRequest result (rebind_of (name_and_object (terms_of [] setup.now) (text_in arguments.now 0) (live_ref_in arguments.now 1))) 0 }
 {
     let (name, object) = name_and_object(alloc, setup, arguments)?;
     Ok(SystemRequest::Asks(Ask::Rebind { name, object }, ReplyContext::Nothing))
@@ -264,7 +258,7 @@ fn rebind(alloc: Global, setup: &Setup, arguments: &Arguments) -> Result<SystemR
 
 /// What an unbind asks for.
 fn unbind(alloc: Global, setup: &Setup, arguments: &Arguments) -> Result<SystemRequest, NoRequest>
-    ensures { FindsRequest result (unbind_of (name_to_unbind (terms_of [] setup.now) (text_in arguments.now 0))) }
+    ensures { FindsRequest result (unbind_of (name_to_unbind (terms_of [] setup.now) (text_in arguments.now 0))) 0 }
 {
     let name = name_to_unbind(alloc, setup, arguments)?;
     let kept = kept_name(alloc, &name)?;
@@ -273,7 +267,7 @@ fn unbind(alloc: Global, setup: &Setup, arguments: &Arguments) -> Result<SystemR
 
 /// What a lookup asks for.
 fn lookup(alloc: Global, arguments: &Arguments, uid: Uid) -> Result<SystemRequest, NoRequest>
-    ensures { FindsRequest result (lookup_of uid (name_to_find (text_in arguments.now 0))) }
+    ensures { FindsRequest result (lookup_of uid (name_to_find (text_in arguments.now 0))) 0 }
 {
     let name = name_to_find(alloc, arguments)?;
     let kept = kept_name(alloc, &name)?;
@@ -288,7 +282,7 @@ fn registry_request(
     arguments: &Arguments,
     uid: Uid,
 ) -> Result<SystemRequest, NoRequest>
-    ensures { FindsRequest result (registry_request (terms_of [] setup.now) method arguments.now uid) }
+    ensures { FindsRequest result (registry_request (terms_of [] setup.now) method arguments.now uid) 0 }
 {
     match method {
         RegistryMethod::Bind => bind(alloc, setup, arguments),
@@ -303,7 +297,7 @@ fn registry_request(
 
 /// What a clean asks for.
 fn clean(alloc: Global, arguments: &Arguments) -> Result<SystemRequest, NoRequest>
-    ensures { FindsRequest result (clean_of (number_in arguments.now 1) (truth_in arguments.now 3) (vmid_in arguments.now 2) (objids_in arguments.now 0)) }
+    ensures { FindsRequest result (clean_of (number_in arguments.now 1) (truth_in arguments.now 3) (vmid_in arguments.now 2) (objids_in arguments.now 0)) 0 }
 {
     let number = number_in(arguments, 1)?;
     let strong = truth_in(arguments, 3)?;
@@ -318,13 +312,10 @@ fn clean(alloc: Global, arguments: &Arguments) -> Result<SystemRequest, NoReques
     Ok(SystemRequest::Asks(ask, ReplyContext::Nothing))
 }
 
-/// The client of a lease, or the one of this identifier at the connection's mark.
-fn client_or(alloc: Global, setup: &Setup, uid: Uid, vmid: Option<Vmid>) -> Result<Vmid, AllocError>
-    ensures { IfOk result (λ client. client ≡ client_or (terms_of [] setup.now) uid vmid) }
+/// The client of this identifier at the connection's mark.
+fn client_at_mark(alloc: Global, setup: &Setup, uid: Uid) -> Result<Vmid, AllocError>
+    ensures { IfOk result (λ client. client ≡ client_or (terms_of [] setup.now) uid None) }
 {
-    if let Some(client) = vmid {
-        return Ok(client);
-    }
     let mark = ByteList::from_slice(alloc, &setup.mark)?;
     match Vmid::new(mark, uid) {
         Some(client) => Ok(client),
@@ -339,15 +330,15 @@ fn kept_client(alloc: Global, client: &Vmid) -> Result<ReplyContext, AllocError>
     Ok(ReplyContext::Client(client.copy(alloc)?))
 }
 
-/// What a dirty of this number, this client, this duration and these objects asks for.
+/// What a dirty of this number, this client, this duration and these objects asks for, and the part of it that its Return needs.
 fn dirty_with(
     alloc: Global,
     client: Vmid,
     number: i64,
     asked: i64,
     objects: ObjIds,
-) -> Result<SystemRequest, AllocError>
-    ensures { IfOk result (λ request. request ≡ SystemRequest.Asks (Dirty client number asked objects) (ReplyContext.Client client)) }
+) -> Result<(Ask, ReplyContext), AllocError>
+    ensures { IfOk result (λ parts. (parts.0 ≡ Dirty client number asked objects) × (parts.1 ≡ ReplyContext.Client client)) }
 {
     let kept = kept_client(alloc, &client)?;
     let ask = Ask::Dirty {
@@ -356,27 +347,35 @@ fn dirty_with(
         asked,
         objects,
     };
-    Ok(SystemRequest::Asks(ask, kept))
+    Ok((ask, kept))
 }
 
 /// What a dirty asks for.
+#[tactic(auto, using(crate::proofs::SystemAsks::no_objects))]
 fn dirty(
     alloc: Global,
     setup: &Setup,
     arguments: &Arguments,
     uid: Uid,
 ) -> Result<SystemRequest, NoRequest>
-    ensures { FindsRequest result (dirty_of (terms_of [] setup.now) uid (number_in arguments.now 1) (lease_in arguments.now 2) (objids_in arguments.now 0)) }
+    ensures { FindsRequest result (dirty_of (terms_of [] setup.now) uid (number_in arguments.now 1) (lease_in arguments.now 2) (objids_in arguments.now 0))
+        (unnamed (number_in arguments.now 1) (lease_in arguments.now 2) (objids_in arguments.now 0)) }
 {
     let number = number_in(arguments, 1)?;
     let lease = lease_in(alloc, arguments, 2)?;
     let objects = objids_in(alloc, arguments, 0)?;
     let asked = lease.value;
-    let client = client_or(alloc, setup, uid, lease.into_vmid())?;
-    Ok(dirty_with(alloc, client, number, asked, objects)?)
+    if let Some(client) = lease.into_vmid() {
+        let (ask, kept) = dirty_with(alloc, client, number, asked, objects)?;
+        return Ok(SystemRequest::Asks(ask, kept));
+    }
+    let client = client_at_mark(alloc, setup, uid)?;
+    let (ask, kept) = dirty_with(alloc, client, number, asked, objects)?;
+    Ok(SystemRequest::AsksForNew(ask, kept))
 }
 
 /// What a call of the collector asks for.
+#[tactic(auto, unfolding(crate::specs::SystemRequests::client_draws))]
 fn collector_request(
     alloc: Global,
     setup: &Setup,
@@ -384,7 +383,7 @@ fn collector_request(
     arguments: &Arguments,
     client: Uid,
 ) -> Result<SystemRequest, NoRequest>
-    ensures { FindsRequest result (collector_request (terms_of [] setup.now) method arguments.now client) }
+    ensures { FindsRequest result (collector_request (terms_of [] setup.now) method arguments.now client) (client_draws (Collector method) arguments.now) }
 {
     match method {
         CollectorMethod::Clean => clean(alloc, arguments),
@@ -392,45 +391,13 @@ fn collector_request(
     }
 }
 
-/// Whether the arguments are those of a dirty, and its lease names no client.
-#[tactic(auto, using(crate::proofs::SystemAsks::named_draws, crate::proofs::SystemAsks::nameless_draws, crate::proofs::SystemAsks::no_objects))]
-fn lacks_client(alloc: Global, arguments: &Arguments) -> Result<bool, NoRequest>
-    ensures { FindsNone result (unnamed (number_in arguments.now 1) (lease_in arguments.now 2) (objids_in arguments.now 0)) }
-{
-    let _number = number_in(arguments, 1)?;
-    if !is_nameless(arguments, 2)? {
-        return Ok(false);
-    }
-    let _objects = objids_in(alloc, arguments, 0)?;
-    Ok(true)
-}
-
 // ---- any call
-
-/// Whether a call is a dirty with right arguments whose lease names no client, so that one is made for it. It is refused only
-/// for want of memory.
-#[tactic(auto, unfolding(crate::specs::SystemRequests::client_draws))]
-pub fn names_no_client(
-    alloc: Global,
-    method: SystemMethod,
-    arguments: &Arguments,
-) -> Result<bool, AllocError>
-    ensures { IfOk result (λ yes. client_draws method arguments.now ≡ (if yes then 1 else 0)) }
-{
-    let SystemMethod::Collector(CollectorMethod::Dirty) = method else {
-        return Ok(false);
-    };
-    match lacks_client(alloc, arguments) {
-        Ok(yes) => Ok(yes),
-        Err(NoRequest::Rejected(_rejection)) => Ok(false),
-        Err(NoRequest::OutOfMemory) => Err(AllocError),
-    }
-}
 
 /// The request of a call of a method with these arguments, or why it is rejected: a wrong argument comes first, then that binding is
 /// closed, a name that is too long, and a reference of another host or port. The identifiers are those of a client that its
-/// lease doesn't name, and of the Return. It is refused only for want of memory.
-#[tactic(auto, unfolding(crate::specs::SystemRequests::request_of))]
+/// lease doesn't name, and of the Return. No request has both, so the one that is drawn first can stand at both places. It is
+/// refused only for want of memory.
+#[tactic(auto, unfolding(crate::specs::SystemRequests::request_of, crate::specs::SystemRequests::client_draws))]
 pub fn request_for(
     alloc: Global,
     setup: &Setup,
@@ -439,7 +406,7 @@ pub fn request_for(
     client: Uid,
     uid: Uid,
 ) -> Result<SystemRequest, AllocError>
-    ensures { IfOk result (IsRequest (request_of (terms_of [] setup.now) method arguments.now client uid)) }
+    ensures { IfOk result (IsRequest (request_of (terms_of [] setup.now) method arguments.now client uid) (client_draws method arguments.now)) }
 {
     let request = match method {
         SystemMethod::Registry(method) => registry_request(alloc, setup, method, arguments, uid),

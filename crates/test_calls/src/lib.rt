@@ -4,6 +4,8 @@
 #![tactic(auto)]
 
 #[cfg(test)]
+mod cut_tests;
+#[cfg(test)]
 mod listener_tests;
 #[cfg(test)]
 mod message_tests;

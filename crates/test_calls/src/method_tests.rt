@@ -3,6 +3,7 @@ use crate::texts::{cut, listed, must, number_of, put};
 use class_desc::TypeCode;
 use method_hash::{Method, MethodFault, fold_hash, hash};
 use sequence::ByteList;
+use sha1::Sha1;
 use std::alloc::Global;
 use std::process::Abort;
 
@@ -178,34 +179,62 @@ fn texts_are_taken_up_to_their_limits(rt: HostRuntime) {
     }
 }
 
-/// Looks at the parts of the method `put(ILa/B;[[J)Z`.
-fn check_parts(rt: &impl Abort, method: &Method) {
-    let params = [TypeCode::Int, TypeCode::Object, TypeCode::Array];
-    must(rt, method.name.as_slice() == b"put".as_slice(), "the name");
-    must(
-        rt,
-        method.text.as_slice() == b"put(ILa/B;[[J)Z".as_slice(),
-        "the text",
-    );
-    must(
-        rt,
-        method.params.as_slice() == params.as_slice(),
-        "the parameters",
-    );
-    must(rt, method.result == Some(TypeCode::Boolean), "the result");
+/// Texts of methods, each with its name, the letters of its parameters' types, and that of its result's type, where it has one.
+const PARTS: &str = "put(ILa/B;[[J)Z | put | IL[ | Z
+add(J)J | add | J | J
+get()J | get | | J
+done()V | done | |";
+
+/// Whether these are types of these letters.
+fn are_lettered(codes: &[TypeCode], letters: &str) -> bool {
+    let mut left = letters.as_bytes();
+    for code in codes {
+        match left.split_first() {
+            Some((letter, rest)) if *letter == code.letter() => left = rest,
+            _ => return false,
+        }
+    }
+    left.is_empty()
+}
+
+/// Whether a method has these parts.
+fn has_parts(method: &Method, name: &str, params: &str, answer: &str) -> bool {
+    let told = match &method.result {
+        Some(code) => are_lettered(&[*code], answer),
+        None => answer.is_empty(),
+    };
+    told && method.name.as_slice() == name.as_bytes()
+        && are_lettered(method.params.as_slice(), params)
+}
+
+/// Looks at the parts of the method that a line tells.
+fn check_parts(rt: &impl Abort, alloc: Global, line: &str) {
+    let (text, rest) = cut(line, '|');
+    let (name, rest) = cut(rest, '|');
+    let (params, answer) = cut(rest, '|');
+    let method = Method::parse(alloc, text.as_bytes()).expect(rt, line);
+    must(rt, has_parts(&method, name, params, answer), line);
+    must(rt, method.text.as_slice() == text.as_bytes(), line);
 }
 
 #[test]
 fn the_parts_of_a_method_are_told(rt: HostRuntime) {
-    let method = Method::parse(rt.alloc(), b"put(ILa/B;[[J)Z").expect(&rt, "a method");
-    check_parts(&rt, &method);
+    for line in PARTS.split('\n') {
+        check_parts(&rt, rt.alloc(), line);
+    }
 }
+
+/// The digest of `abc` by SHA-1 (FIPS 180-4).
+const DIGEST: [u8; 20] = [
+    0xA9, 0x99, 0x3E, 0x36, 0x47, 0x06, 0x81, 0x6A, 0xBA, 0x3E, 0x25, 0x71, 0x78, 0x50, 0xC2, 0x6C,
+    0x9C, 0xD0, 0xD8, 0x9D,
+];
 
 #[test]
 fn the_digest_of_abc_is_folded(rt: HostRuntime) {
-    let digest = [
-        0xA9, 0x99, 0x3E, 0x36, 0x47, 0x06, 0x81, 0x6A, 0xBA, 0x3E, 0x25, 0x71, 0x78, 0x50, 0xC2,
-        0x6C, 0x9C, 0xD0, 0xD8, 0x9D,
-    ];
+    let mut hasher = Sha1::new();
+    hasher.update(b"abc");
+    let digest = hasher.finalize();
+    must(&rt, digest == DIGEST, "the digest");
     must(&rt, fold_hash(digest) == 0x6A81_0647_363E_99A9, "folded");
 }

@@ -120,6 +120,9 @@ pub(crate) fn are_events(rt: &impl Abort, alloc: Global, space: &Space, lines: &
         put(rt, &mut wanted, line.trim().as_bytes());
         put(rt, &mut wanted, b"\n");
     }
+    if !space.is_stored() {
+        return false;
+    }
     match journal(alloc, space) {
         Ok(told) => told.as_slice() == wanted.as_slice(),
         Err(_) => false,

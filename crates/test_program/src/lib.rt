@@ -8,6 +8,8 @@ mod answers;
 #[cfg(test)]
 mod calls;
 #[cfg(test)]
+mod classes;
+#[cfg(test)]
 mod connections;
 #[cfg(test)]
 mod drills;
@@ -18,9 +20,15 @@ mod frames;
 #[cfg(test)]
 mod hands;
 #[cfg(test)]
+mod helps;
+#[cfg(test)]
 mod hosts;
 #[cfg(test)]
 mod journals;
+#[cfg(test)]
+mod listens;
+#[cfg(test)]
+mod longest;
 #[cfg(test)]
 mod promptness;
 #[cfg(test)]
@@ -41,3 +49,5 @@ mod texts;
 mod wires;
 #[cfg(test)]
 mod words;
+#[cfg(test)]
+mod worlds;

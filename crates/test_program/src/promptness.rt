@@ -24,17 +24,20 @@ dirty_made 0000000000000001 asks_lease | reference third grants_lease
 registry 00000002 44154DC9D4E63BDF 74 0001 =a | exception fourth fault 001D =java.rmi.NotBoundException:_a 78 70
 ping | pong";
 
-/// How many of them are answered.
-const ANSWERS: usize = 7;
+/// A header and an endpoint, and two Pings.
+const PINGS: &str = "header 4B | ack
+0000 00000000 |
+ping | pong
+ping | pong";
 
-/// A source that gives one byte a read, and counts the reads that come where another number of bytes was written than is due at that place.
+/// A source that gives one byte a read. A read fails that comes where another number of bytes was written than is due at that place.
 #[derive(Drop)]
 struct Asking<'a> {
     input: &'a [u8],
     due: &'a [u32],
     at: usize,
     written: &'a Cell<usize>,
-    early: &'a Cell<usize>,
+    faults: u64,
 }
 
 /// Whether so many bytes are due before the byte at a place is asked for.
@@ -46,11 +49,12 @@ fn is_due(due: &[u32], at: usize, written: usize) -> bool {
 }
 
 impl Source for Asking<'_> {
-    ghost half = { λ _. untold_read 0 true };
+    ghost half = { λ a. untold_read a.faults true };
 
     fn read(&mut self, buf: &mut [u8]) -> Result<usize, Failed> {
         if !is_due(self.due, self.at, self.written.get()) {
-            self.early.set(self.early.get().saturating_add(1));
+            self.faults = self.faults.saturating_add(1);
+            return Err(Failed);
         }
         match (self.input.get(self.at), buf.first_mut()) {
             (Some(byte), Some(place)) => {
@@ -85,10 +89,10 @@ impl Sink for Counting<'_> {
     fn shut(&mut self) {}
 }
 
-/// What the messages send.
-fn input_of(rt: &impl Abort, alloc: Global) -> ByteList {
+/// What these messages send.
+fn input_of(rt: &impl Abort, alloc: Global, messages: &str) -> ByteList {
     let mut input = ByteList::new(alloc);
-    for line in MESSAGES.split('\n') {
+    for line in messages.split('\n') {
         let (message, _answer) = cut(line, '|');
         put_words(rt, alloc, &mut input, message);
     }
@@ -114,11 +118,11 @@ fn put_line(rt: &impl Abort, alloc: Global, due: &mut Kinds, before: usize, line
     before.saturating_add(bytes_of(rt, alloc, answer).len())
 }
 
-/// How many bytes are written before each byte is asked for, and before the end is.
-fn due_of(rt: &impl Abort, alloc: Global) -> Kinds {
+/// How many bytes are written before each byte of these messages is asked for, and before the end is.
+fn due_of(rt: &impl Abort, alloc: Global, messages: &str) -> Kinds {
     let mut due = Kinds::new(alloc);
     let mut written = 0;
-    for line in MESSAGES.split('\n') {
+    for line in messages.split('\n') {
         written = put_line(rt, alloc, &mut due, written, line);
     }
     put_due(rt, &mut due, 1, written);
@@ -136,30 +140,34 @@ fn serve(
     let output = Counting { written, writes: 0 };
     let mut host = host_over(rt, alloc, input, output, "");
     let status = run(rt, alloc, &words, &mut host);
+    must(
+        rt,
+        host.input.faults == 0,
+        "reads where another number was due",
+    );
     (status, host.input.at, host.output.writes)
 }
 
-/// Serves the messages, and looks whether each answer was written in time, by one write.
-fn check(rt: &impl Runs, alloc: Global) {
+/// Serves these messages, and looks whether each answer was written in time, by one write.
+fn check(rt: &impl Runs, alloc: Global, messages: &str, answers: usize) {
     let written = Cell::new(0);
-    let early = Cell::new(0);
-    let input = input_of(rt, alloc);
-    let due = due_of(rt, alloc);
+    let input = input_of(rt, alloc, messages);
+    let due = due_of(rt, alloc, messages);
     let asking = Asking {
         input: input.as_slice(),
         due: due.as_slice(),
         at: 0,
         written: &written,
-        early: &early,
+        faults: 0,
     };
     let (status, read, writes) = serve(rt, alloc, asking, &written);
     must(rt, status == 0, "the status");
     must(rt, read == input.len(), "all was read");
-    must(rt, early.get() == 0, "reads where another number was due");
-    must(rt, writes == ANSWERS, "one write for each answer");
+    must(rt, writes == answers, "one write for each answer");
 }
 
 #[test]
-fn answers_are_written_before_more_is_read(rt: HostRuntime) {
-    check(&rt, rt.alloc());
+fn prompt_replies(rt: HostRuntime) {
+    check(&rt, rt.alloc(), PINGS, 3);
+    check(&rt, rt.alloc(), MESSAGES, 7);
 }

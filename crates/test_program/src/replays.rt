@@ -468,25 +468,30 @@ events 8 units 9 now 5
 object 16 kind 1 pinned running 0 awaiting 0 held 0 names 0
 withdrawn 17 place 7";
 
-/// Replays a journal that has an outline, of which the last LF was left out here, whole and in pieces of 7 bytes.
-fn check_outline(rt: &impl Runs, alloc: Global, journal: &str, outline: &str) {
+/// Runs a command over an input, whole and in pieces of 7 bytes, of which it prints this text, whose last LF was left out.
+fn check_outline(rt: &impl Runs, alloc: Global, command: &str, input: &str, outline: &str) {
     let mut output = copied(rt, alloc, outline.as_bytes());
     put(rt, &mut output, b"\n");
     for cut in "- 7".split(' ') {
-        let input = journal.as_bytes();
+        let input = input.as_bytes();
         let outside = cut_by(cut);
-        let _left = check(rt, alloc, "replay", input, outside, output.as_slice(), "0");
+        let _left = check(rt, alloc, command, input, outside, output.as_slice(), "0");
+    }
+}
+
+/// Runs a command over each input of a table, whose outline stands after a line `=`.
+pub(crate) fn check_outlines(rt: &impl Runs, alloc: Global, command: &str, table: &str) {
+    for row in table.split("\n\n") {
+        match row.split_once("=\n") {
+            Some((input, outline)) => check_outline(rt, alloc, command, input, outline),
+            None => must(rt, false, row),
+        }
     }
 }
 
 #[test]
 fn each_journal_has_its_outline(rt: HostRuntime) {
-    for row in JOURNALS.split("\n\n") {
-        match row.split_once("=\n") {
-            Some((journal, outline)) => check_outline(&rt, rt.alloc(), journal, outline),
-            None => must(&rt, false, row),
-        }
-    }
+    check_outlines(&rt, rt.alloc(), "replay", JOURNALS);
 }
 
 /// Journals with a bad line, and what tells it. The first one is empty.

@@ -30,10 +30,14 @@ fn each_call_of_the_sample_is_answered(rt: HostRuntime) {
 /// The opening and a call of `add(J)J`.
 const ADDING: &str = "opening add 77 08 0000000000000005";
 
+/// A call of `add(J)J` whose argument stands in three blocks.
+const IN_BLOCKS: &str = "opening add 77 03 000000 77 00 77 05 0000000005";
+
 #[test]
 fn each_front_of_a_served_call_is_truncated(rt: HostRuntime) {
     for cut in "- 1".split(' ') {
         check_fronts(&rt, rt.alloc(), ADDING, 14, cut, "ack");
+        check_fronts(&rt, rt.alloc(), IN_BLOCKS, 14, cut, "ack");
     }
 }
 

@@ -1,5 +1,9 @@
 //! Calls of the registry, of the collector and of the maker, and a connection of a Java client that was recorded.
-use crate::hosts::{check_fronts, check_table};
+use crate::hosts::{Runs, check_fronts, check_table, cut_by, host_of, must, run_line};
+use crate::texts::{bytes_of, push};
+use sequence::ByteList;
+use std::alloc::Global;
+use std::process::Abort;
 
 /// Calls of the registry, object 0. Its names are those of the sample, and no name can be bound by `answer`.
 const REGISTRY: &str =
@@ -28,10 +32,11 @@ fn each_call_of_the_registry_is_answered(rt: HostRuntime) {
     check_table(&rt, rt.alloc(), "answer", "- 1 7", REGISTRY);
 }
 
-/// Calls of the collector, object 2: dirties of a client, with a null and of a client without an identifier; cleans; a method that
+/// Calls of the collector, object 2: dirties of a client, alone and before a Ping, with a null and of a client without an identifier; cleans; a method that
 /// it doesn't have; and calls that are cut short or broken in their arguments.
 const COLLECTOR: &str =
-    "opening collector 00000001 F6B6898D8BF28643 objects_of 00000001 object 0000000000000011 uid 0000 0000000000000009 00000007 77 08 8000000000000000 lease 00000000000927C0 vmid_after 00000008 0102030405060708 73 71 007E0005 0005 0000000000000004 00000003 ping | ack reference first lease 00000000000927C0 vmid 00000008 0102030405060708 uid 0005 0000000000000004 00000003 pong | 0 | 0 ended
+    "opening collector 00000001 F6B6898D8BF28643 objects_of 00000001 object 0000000000000011 uid 0000 0000000000000009 00000007 77 08 8000000000000000 lease 00000000000927C0 vmid_after 00000008 0102030405060708 73 71 007E0005 0005 0000000000000004 00000003 | ack reference first lease 00000000000927C0 vmid 00000008 0102030405060708 uid 0005 0000000000000004 00000003 | 0 | 0 ended
+opening collector 00000001 F6B6898D8BF28643 objects_of 00000001 object 0000000000000011 uid 0000 0000000000000009 00000007 77 08 8000000000000000 lease 00000000000927C0 vmid_after 00000008 0102030405060708 73 71 007E0005 0005 0000000000000004 00000003 ping | ack reference first lease 00000000000927C0 vmid 00000008 0102030405060708 uid 0005 0000000000000004 00000003 pong | 0 | 0 ended
 opening collector 00000001 F6B6898D8BF28643 70 77 08 8000000000000000 lease 00000000000927C0 vmid 00000008 0102030405060708 uid 0005 0000000000000004 00000003 ping | ack exception first fault wrong_argument pong | 0 | 0 ended
 opening collector 00000001 F6B6898D8BF28643 objects_of 00000001 object 0000000000000011 uid 0000 0000000000000009 00000007 77 08 8000000000000000 70 ping | ack exception first fault wrong_argument pong | 0 | 0 ended
 opening collector 00000001 F6B6898D8BF28643 objects_of 00000001 object 0000000000000011 uid 0000 0000000000000009 00000007 77 08 8000000000000000 lease 00000000000927C0 70 ping | ack reference second lease 00000000000927C0 vmid 00000008 0000000000000007 uid 8000 0000000000000006 00000006 pong | 0 | 0 ended
@@ -56,6 +61,32 @@ const DIRTY: &str =
 fn each_front_of_a_dirty_is_truncated(rt: HostRuntime) {
     for cut in "- 1".split(' ') {
         check_fronts(&rt, rt.alloc(), DIRTY, 14, cut, "ack");
+    }
+}
+
+/// These bytes, but for `FF` at one place.
+fn replaced(rt: &impl Abort, alloc: Global, whole: &[u8], at: usize) -> ByteList {
+    let mut input = ByteList::new(alloc);
+    for (place, byte) in whole.iter().enumerate() {
+        push(rt, &mut input, if place == at { 0xFF } else { *byte });
+    }
+    input
+}
+
+/// Serves an input, whatever it is: its end is told, and is no failure of a read or of a write and no want of memory.
+fn check_any(rt: &impl Runs, alloc: Global, input: &[u8]) {
+    let mut host = host_of(rt, alloc, input, cut_by("-"));
+    let status = run_line(rt, alloc, "answer", &mut host);
+    must(rt, matches!(status, 0 | 2 | 7), "the status");
+    must(rt, !host.errors.held().is_empty(), "a line");
+}
+
+#[test]
+fn each_byte_of_a_dirty_may_be_another(rt: HostRuntime) {
+    let whole = bytes_of(&rt, rt.alloc(), DIRTY);
+    for at in 0..whole.len() {
+        let input = replaced(&rt, rt.alloc(), whole.as_slice(), at);
+        check_any(&rt, rt.alloc(), input.as_slice());
     }
 }
 

@@ -16,10 +16,10 @@ use wire_io::{
 const LOOKS: u32 = 10_000_000;
 
 /// How many halves of links were shut: two of each link that was served to its end.
-type Ended = Arc<AtomicU64, Global>;
+pub(crate) type Ended = Arc<AtomicU64, Global>;
 
 /// Whether so many halves were shut, after a wait for them.
-fn are_ended(ended: &Ended, wanted: u64) -> bool {
+pub(crate) fn are_ended(ended: &Ended, wanted: u64) -> bool {
     for _ in 0..LOOKS {
         if ended.load(Ordering::SeqCst) >= wanted {
             return true;
@@ -118,6 +118,11 @@ impl Gated {
             calls: 0,
             faults: 0,
         })
+    }
+
+    /// The count of the halves that were shut, to be looked at from elsewhere; None where there is no memory.
+    pub(crate) fn ended(&self) -> Option<Ended> {
+        Arc::try_clone(&self.ended).ok()
     }
 
     /// Whether this call for a link fails.

@@ -14,6 +14,9 @@ use std::process::Abort;
 
 /// Whether the outline of a space begins with this text.
 pub(crate) fn begins_so(alloc: Global, space: &Space, text: &str) -> bool {
+    if !space.is_stored() {
+        return false;
+    }
     match outline(alloc, space) {
         Ok(told) => told.as_slice().starts_with(text.as_bytes()),
         Err(_) => false,
@@ -112,6 +115,10 @@ fn space_of(rt: &impl Abort, alloc: Global, text: &str) -> Space {
 /// Looks whether a space is the one that the events of its journal make, one after another.
 pub(crate) fn check_replayed(rt: &impl Abort, alloc: Global, space: &Space, text: &str) {
     let again = space_of(rt, alloc, text);
+    if !space.is_stored() || !again.is_stored() {
+        must(rt, false, "stored events");
+        return;
+    }
     match (outline(alloc, space), outline(alloc, &again)) {
         (Ok(told), Ok(wanted)) => must(rt, told.as_slice() == wanted.as_slice(), "outline"),
         _ => must(rt, false, "memory"),
@@ -179,6 +186,9 @@ pub(crate) fn check_answers(rt: &impl Abort, entries: &PortEntries, answers: &[T
 
 /// Whether the outline of a space is that of a history by the definitions.
 pub(crate) fn is_outlined(alloc: Global, space: &Space, defined: &Defined) -> bool {
+    if !space.is_stored() {
+        return false;
+    }
     match (outline(alloc, space), outline_of(alloc, defined)) {
         (Ok(told), Ok(wanted)) => told.as_slice() == wanted.as_slice(),
         _ => false,
@@ -216,7 +226,7 @@ pub(crate) fn check_plain(
     space: &Space,
     turns: &[Turn],
 ) {
-    let limits = Limits::of_space();
+    let limits = Limits::of_space(&CONFIG);
     match answers(alloc, &limits, &CONFIG, Vec::new(alloc), events) {
         Ok(wanted) => must(rt, are_plain(wanted.as_slice(), turns), "plain answers"),
         Err(_full) => must(rt, false, "memory"),

@@ -4,9 +4,13 @@
 #[cfg(test)]
 mod defined;
 #[cfg(test)]
+mod full;
+#[cfg(test)]
 mod gates;
 #[cfg(test)]
 mod histories;
+#[cfg(test)]
+mod holding;
 #[cfg(test)]
 mod many;
 #[cfg(test)]

@@ -151,6 +151,10 @@ fn check_many(rt: &(impl Threads + Wait + Abort + Sync), alloc: Global, count: u
         Some(report) => {
             must(rt, report.stop == Stop::All, "stop");
             must(rt, report.links.len() == count as usize, "all links");
+            if !report.space.is_stored() {
+                must(rt, false, "stored events");
+                return;
+            }
             match journal(alloc, &report.space) {
                 Ok(told) => match str::from_utf8(told.as_slice()) {
                     Ok(text) => check_history(rt, alloc, &report, text),

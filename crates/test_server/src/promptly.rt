@@ -47,17 +47,14 @@ type Gone = Arc<AtomicU64, Global>;
 #[derive(Drop)]
 struct CountingHand {
     gone: Gone,
+    by: u32,
     calls: u64,
 }
 
 impl Worker for CountingHand {
     ghost use Rattle.std.specs.Prelude.{None};
 
-    ghost calls = { λ hand. hand.calls };
-
-    ghost seen = { λ hand. None };
-
-    ghost state = { λ hand. None };
+    ghost shown = { λ hand. record { calls = hand.calls; seen = None; state = None; number = hand.by } };
 
     ghost may = { λ call outcome. Unit {0} };
 
@@ -82,9 +79,9 @@ struct Counting {
 impl Crew for Counting {
     type Hand = CountingHand;
 
-    fn hand(&self, _by: u32) -> Result<CountingHand, AllocError> {
+    fn hand(&self, by: u32) -> Result<CountingHand, AllocError> {
         let gone = Arc::try_clone(&self.gone)?;
-        Ok(CountingHand { gone, calls: 0 })
+        Ok(CountingHand { gone, by, calls: 0 })
     }
 }
 

@@ -108,6 +108,10 @@ pub(crate) fn check_replies<I, O, T, H>(
     space: &Space,
     lines: &str,
 ) {
+    if !space.is_stored() {
+        must(rt, false, "stored events");
+        return;
+    }
     match journal(alloc, space) {
         Ok(told) => match str::from_utf8(told.as_slice()) {
             Ok(text) => check_links(rt, alloc, links, lines, text),

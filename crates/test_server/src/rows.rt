@@ -2,9 +2,12 @@
 use crate::histories::begins_so;
 use crate::replies::check_replies;
 use crate::servers::{ReportOf, served};
-use crate::texts::must;
+use crate::texts::{cut, must};
 use conn_server::Stop;
+use std::alloc::Global;
+use std::process::Abort;
 use std::sync::Wait;
+use std::thread::Threads;
 
 // A line is a link: for how many others it waits to be served before it sends anything; the peer's port; the moments of its clock; which of its reads
 // or writes fails; what the client sends; what it gets; and the connection's end.
@@ -44,7 +47,7 @@ const AT_ONCE: &str =
 0 | 1234 | 0 | | opening add_one | ack number +5 first 0000000000000001 | Ended";
 
 #[test]
-fn two_links_at_once(rt: HostRuntime) {
+fn a_silent_link_holds_up_no_other(rt: HostRuntime) {
     let told = served(&rt, rt.alloc(), 2, 1099, Stop::All, AT_ONCE);
     must(&rt, told.is_some(), "memory");
 }
@@ -72,6 +75,24 @@ const FAULTS: &str = "0 | 1234 | 0 | read 15 | opening add_one | ack | ReadFault
 #[test]
 fn a_link_that_fails_ends_alone(rt: HostRuntime) {
     let told = served(&rt, rt.alloc(), 3, 1099, Stop::All, FAULTS);
+    must(&rt, told.is_some(), "memory");
+}
+
+/// A link whose sink fails at its first write, between two that are well; and these two without it.
+const FIRST_WRITE: &str =
+    "0 | 1234 | 0 | | opening add_one ping | ack number +5 first 0000000000000001 pong | Ended
+1 | 1234 | 0 | write 0 | opening add_one | | WriteFault { sent: 0 }
+2 | 1234 | 0 | | opening add_one ping | ack number +5 first 0000000000000002 pong | Ended";
+
+const WELL: &str =
+    "0 | 1234 | 0 | | opening add_one ping | ack number +5 first 0000000000000001 pong | Ended
+1 | 1234 | 0 | | opening add_one ping | ack number +5 first 0000000000000002 pong | Ended";
+
+#[test]
+fn a_link_whose_first_write_fails_changes_no_other(rt: HostRuntime) {
+    let told = served(&rt, rt.alloc(), 3, 1099, Stop::All, FIRST_WRITE);
+    must(&rt, told.is_some(), "memory");
+    let told = served(&rt, rt.alloc(), 2, 1099, Stop::All, WELL);
     must(&rt, told.is_some(), "memory");
 }
 
@@ -151,5 +172,43 @@ fn a_dirty_is_granted_and_a_counter_is_made(rt: HostRuntime) {
             check_replies(&rt, rt.alloc(), links, &report.space, HOLDING_TURNS);
         }
         None => must(&rt, false, "memory"),
+    }
+}
+
+/// Links, each with its turns and what these are answered: a lookup, by the hash of the registry's stub and by none, with the acknowledgement of
+/// its Return; a dirty; and a call of `add(J)J` whose argument stands in three blocks, which is then one byte too long.
+const TURNED: &str =
+    "0 | 1234 | 0 | | opening registry 00000002 44154DC9D4E63BDF 74 0004 6563686F acknowledge 00000006 first | ack return 00000006 first echo 0000000000000010 of_space | Ended
+1 0 lookup \"echo\" 6/6/-32768 > found 16 kind 0
+1 0 ack 6/6/-32768 > done
+
+0 | 1234 | 0 | | opening registry 00000002 0000000000000000 74 0004 6563686F acknowledge 00000006 first | ack return 00000006 first echo 0000000000000010 of_space | Ended
+1 0 lookup \"echo\" 6/6/-32768 > found 16 kind 0
+1 0 ack 6/6/-32768 > done
+
+0 | 1234 | 0 | | opening dirty objects 0000000000000011 in_space 77 08 8000000000000000 lease client 00000008 0102030405060708 of_client | ack return 00000006 first lease holder 00000008 0102030405060708 of_holder | Ended
+1 0 dirty 0102030405060708@3/4/5 -9223372036854775808 600000 17 > granted 600000
+
+0 | 1234 | 0 | | opening add 77 03 000000 77 00 77 05 0000000005 | ack number 00000006 first 0000000000000005 | Ended
+1 0 begin 17 > started 1
+1 0 finish 17 - - 6/6/-32768 > finished
+
+0 | 1234 | 0 | | opening add 77 03 000000 77 00 77 06 000000000500 | ack | BadStream { kind: BlockLeft, at: 68 }
+1 0 begin 17 > started 1
+1 0 abandon 17 > done";
+
+/// Serves the link of a case, and looks at its turns, which stand in the lines after it.
+fn check_turned<R: Threads + Wait + Abort + Sync>(rt: &R, alloc: Global, case: &str) {
+    let (link, turns) = cut(case, '\n');
+    match served(rt, alloc, 1, 1099, Stop::All, link) {
+        Some(report) => check_replies(rt, alloc, report.links.as_slice(), &report.space, turns),
+        None => must(rt, false, "memory"),
+    }
+}
+
+#[test]
+fn each_link_makes_its_turns(rt: HostRuntime) {
+    for case in TURNED.split("\n\n") {
+        check_turned(&rt, rt.alloc(), case);
     }
 }

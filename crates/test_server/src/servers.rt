@@ -4,11 +4,12 @@ ghost use Rattle.mod_utf.specs.Utf.{utf};
 
 use crate::gates::{Gated, GatedSink, GatedSource};
 use crate::texts::{bytes_of, cut, moments_of, must, number_of, this_host};
-use call_dispatch::ConnEnd;
+use call_dispatch::{ConnEnd, Crew};
 use conn_server::{LinkReport, Report, ServePlan, Stop, serve};
 use mod_utf::utf::encoded_len;
 use sample_app::{SampleCrew, SampleHand, sample_book, sample_space};
 use sequence::{Kinds, Units};
+use space::Space;
 use std::alloc::Global;
 use std::marker::Model;
 use std::process::Abort;
@@ -140,7 +141,28 @@ pub(crate) fn listener_of(rt: &impl Abort, alloc: Global, lines: &str) -> Option
     cases.listener(alloc)
 }
 
-/// Serves these links with the sample, whose names may be bound; None where there is no memory.
+/// Serves these links with a crew over a space, whose names may be bound; None where there is no memory.
+pub(crate) fn serve_over<R: Threads + Wait + Sync, G: Crew>(
+    rt: &R,
+    alloc: Global,
+    listener: &mut Gated,
+    crew: &G,
+    space: Space,
+    plan: &ServePlan,
+) -> Option<Report<GatedSource, GatedSink, MemClock, G::Hand>>
+    requires few { plan.now.count ≤ 65535 }
+{
+    if !is_short(&plan.host) {
+        return None;
+    }
+    let book = sample_book(alloc).ok()?;
+    match TurnLock::around(alloc, space) {
+        Ok((lock, root)) => Some(serve(rt, alloc, listener, crew, &book, lock, root, plan)),
+        Err(_space) => None,
+    }
+}
+
+/// Serves these links with the sample; None where there is no memory.
 pub(crate) fn serve_links<'t, R: Threads + Wait + Sync>(
     rt: &'t R,
     alloc: Global,
@@ -149,16 +171,9 @@ pub(crate) fn serve_links<'t, R: Threads + Wait + Sync>(
 ) -> Option<ReportOf<'t, R>>
     requires few { plan.now.count ≤ 65535 }
 {
-    if !is_short(&plan.host) {
-        return None;
-    }
     let crew = SampleCrew::new(rt, alloc).ok()?;
-    let book = sample_book(alloc).ok()?;
     let space = sample_space(alloc, &CONFIG).ok()?;
-    match TurnLock::around(alloc, space) {
-        Ok((lock, root)) => Some(serve(rt, alloc, listener, &crew, &book, lock, root, plan)),
-        Err(_space) => None,
-    }
+    serve_over(rt, alloc, listener, &crew, space, plan)
 }
 
 /// What a server is told: how many links it is to serve, and its port.

@@ -1,14 +1,13 @@
 //! Hands that keep their calls: each is the hand of one connection, and is told once what the Tick before that connection withdrew.
-ghost use Rattle.std.specs.Prelude.{◌≤◌, length};
-ghost use Rattle.mod_utf.specs.Utf.{utf};
+ghost use Rattle.std.specs.Prelude.{◌≤◌};
 
 use crate::gates::{Gated, GatedSink, GatedSource};
-use crate::servers::{CONFIG, SPACE, check_all, is_short, listener_of, plan_of};
+use crate::servers::{CONFIG, SPACE, check_all, listener_of, plan_of, serve_over};
 use crate::texts::must;
-use call_dispatch::{Book, Crew, Outcome, OutcomeList, Recorded, RecordingWorker};
-use conn_server::{Report, ServePlan, Stop, serve};
+use call_dispatch::{Crew, Outcome, OutcomeList, Recorded, RecordingWorker};
+use conn_server::{Report, ServePlan, Stop};
 use object_ids::{ObjId, ObjIds, Uid};
-use sample_app::{sample_book, sample_space};
+use sample_app::sample_space;
 use sequence::Kinds;
 use ser_values::Value;
 use space::{Ask, Space};
@@ -16,7 +15,6 @@ use std::alloc::{AllocError, Global};
 use std::process::Abort;
 use std::sync::Wait;
 use std::thread::Threads;
-use turn_lock::TurnLock;
 use wire_io::MemClock;
 
 /// Has hands that answer their connection's number to the first invocation, and keep their calls.
@@ -31,7 +29,7 @@ impl Crew for Recorders {
     fn hand(&self, by: u32) -> Result<RecordingWorker, AllocError> {
         let mut outcomes = OutcomeList::new(self.alloc);
         outcomes.push(Outcome::Prim(Value::Long(i64::from(by))))?;
-        Ok(RecordingWorker::new(self.alloc, outcomes))
+        Ok(RecordingWorker::of_connection(self.alloc, outcomes, by))
     }
 }
 
@@ -80,24 +78,6 @@ pub(crate) fn space_with_made(alloc: Global) -> Option<Space> {
     }
 }
 
-/// Serves links with this crew, after a counter was made; None where there is no memory.
-fn serve_with<R: Threads + Wait + Sync>(
-    rt: &R,
-    alloc: Global,
-    listener: &mut Gated,
-    crew: &Recorders,
-    book: &Book,
-    plan: &ServePlan,
-) -> Option<Told>
-    requires few { plan.now.count ≤ 65535 }
-    requires host { length (utf plan.now.host) ≤ 255 }
-{
-    match TurnLock::around(alloc, space_with_made(alloc)?) {
-        Ok((lock, root)) => Some(serve(rt, alloc, listener, crew, book, lock, root, plan)),
-        Err(_space) => None,
-    }
-}
-
 /// Serves links with hands that keep their calls, after a counter was made; None where there is no memory.
 fn serve_told<R: Threads + Wait + Sync>(
     rt: &R,
@@ -107,12 +87,8 @@ fn serve_told<R: Threads + Wait + Sync>(
 ) -> Option<Told>
     requires few { plan.now.count ≤ 65535 }
 {
-    if !is_short(&plan.host) {
-        return None;
-    }
-    let crew = Recorders { alloc };
-    let book = sample_book(alloc).ok()?;
-    serve_with(rt, alloc, listener, &crew, &book, plan)
+    let space = space_with_made(alloc)?;
+    serve_over(rt, alloc, listener, &Recorders { alloc }, space, plan)
 }
 
 /// Two clients that each call a counter. The made one is gone at the first one's Tick.

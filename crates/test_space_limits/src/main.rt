@@ -1,15 +1,20 @@
 //! Drives spaces by turns to their limits, and prints what they answer there. Each word of the command line names what is
 //! filled: `history`, `pairs`, `returns`, `twice`, `clients`, `exports`, `names`, by `lookups` the references that await, by `many_pairs` the
 //! pairs, by calls that each name many objects, or by `many_calls` the running calls, or by `many_clients` the clients, in no order. By
-//! `many_turns` the objects are filled, and many turns made then.
+//! `many_turns` the objects are filled, and many turns made then. By `erased_turns` many turns are made of a space that doesn't keep its events,
+//! and by `erased_calls` its running calls are filled. By `given_up` running calls are given up.
 #![tactic(auto)]
 
+mod erased;
+mod given_up;
 mod many_calls;
 mod many_clients;
 mod many_pairs;
 mod many_turns;
 mod named;
 
+use crate::erased::{erased_calls, erased_turns};
+use crate::given_up::given_up;
 use crate::many_calls::many_calls;
 use crate::many_clients::many_clients;
 use crate::many_pairs::many_pairs;
@@ -18,17 +23,18 @@ use crate::named::{lookups, names, nearly_look_up, nearly_name};
 use history::{Ask, Refused, SpaceConfig};
 use object_ids::{ObjId, ObjIds, Uid, Vmid};
 use sequence::{ByteList, Kinds};
-use space::Space;
+use space::{Space, outline, standing};
 use std::alloc::{AllocError, Global};
 use std::io::Write;
 use std::{env, io};
 
-/// The space without events.
-fn fresh(alloc: Global) -> Space {
+/// The space without events, which keeps its events or does not.
+fn fresh(alloc: Global, stored: bool) -> Space {
     let config = SpaceConfig {
         lease_ms: 600_000,
         ack_ms: 300_000,
         uid: numbered(7),
+        stored,
     };
     Space::fresh(alloc, &config)
 }
@@ -56,6 +62,15 @@ fn numbered(unique: i32) -> Uid {
         unique,
         time: 0,
         count: 0,
+    }
+}
+
+/// The outline of a space, without its withdrawals where it doesn't keep its events.
+fn outlined(alloc: Global, space: &Space) -> Result<ByteList, AllocError> {
+    if space.is_stored() {
+        outline(alloc, space)
+    } else {
+        standing(alloc, space)
     }
 }
 
@@ -314,7 +329,16 @@ fn try_word<W: Write>(alloc: Global, out: &mut W, word: &str) -> io::Result<()> 
     if word == "many_clients" {
         return many_clients(alloc, out);
     }
-    let mut space = fresh(alloc);
+    if word == "erased_turns" {
+        return erased_turns(alloc, out);
+    }
+    if word == "erased_calls" {
+        return erased_calls(alloc, out);
+    }
+    if word == "given_up" {
+        return given_up(alloc, out);
+    }
+    let mut space = fresh(alloc, true);
     if word == "many_turns" {
         return many_turns(alloc, out, &mut space);
     }

@@ -2,10 +2,11 @@
 ghost use Rattle.std.specs.Prelude.{◌<◌};
 ghost use Rattle.history.specs.declared.limits.TheConstants.{END_OF_TIME};
 
+use crate::outlined;
 use history::{Ask, Refused};
 use object_ids::{ObjIds, Vmid};
 use sequence::ByteList;
-use space::{Space, outline};
+use space::Space;
 use std::alloc::Global;
 use std::cmp::Ordering;
 use std::io::Write;
@@ -101,7 +102,7 @@ fn show<W: Write>(out: &mut W, text: &str) -> io::Result<()> {
 
 /// Prints what a space is.
 fn tell<W: Write>(alloc: Global, out: &mut W, space: &Space) -> io::Result<()> {
-    let text = outline(alloc, space)?;
+    let text = outlined(alloc, space)?;
     match str::from_utf8(text.as_slice()) {
         Ok(text) => show(out, text),
         Err(_) => writeln!(out, "no text"),

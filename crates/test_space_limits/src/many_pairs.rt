@@ -1,8 +1,9 @@
 //! Many pairs: four clients hold 65,536 objects each, while time passes a thousand times.
+use crate::outlined;
 use history::{Ask, Refused};
 use object_ids::{ObjId, ObjIds, Uid, Vmid};
 use sequence::{ByteList, Kinds};
-use space::{Space, outline};
+use space::Space;
 use std::alloc::Global;
 use std::io::Write;
 use std::{io, str};
@@ -104,7 +105,7 @@ fn show<W: Write>(out: &mut W, text: &str) -> io::Result<()> {
 
 /// Prints the outline's counts, and what a fifth client's dirty is answered.
 fn tell<W: Write>(alloc: Global, out: &mut W, space: &mut Space) -> io::Result<()> {
-    let text = outline(alloc, space)?;
+    let text = outlined(alloc, space)?;
     match str::from_utf8(text.as_slice()) {
         Ok(text) => show(out, text)?,
         Err(_) => writeln!(out, "no text")?,

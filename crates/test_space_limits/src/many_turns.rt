@@ -2,11 +2,11 @@
 ghost use Rattle.std.specs.Prelude.{◌<◌};
 ghost use Rattle.history.specs.declared.limits.TheConstants.{END_OF_TIME};
 
-use crate::{first_objects, numbered, object, open};
+use crate::{first_objects, numbered, object, open, outlined};
 use history::{Ask, Refused};
 use object_ids::{ObjIds, Vmid};
 use sequence::{ByteList, Kinds};
-use space::{Space, outline};
+use space::Space;
 use std::alloc::{AllocError, Global};
 use std::io::Write;
 use std::{io, str};
@@ -110,7 +110,7 @@ pub(crate) fn many_turns<W: Write>(
     if let Err(refused) = pass(alloc, space) {
         return writeln!(out, "many turns {refused:?}");
     }
-    let text = outline(alloc, space)?;
+    let text = outlined(alloc, space)?;
     match str::from_utf8(text.as_slice()) {
         Ok(text) => tell(out, text),
         Err(_) => writeln!(out, "no text"),

@@ -130,6 +130,19 @@ const NODES_OF_CLASSES: &str =
     "* : ACED0005 (65535 * 740000) 73 72 'A' 0000000000000001 04 0000 78 70 : 999999 : too large nodes at 196609
 * : ACED0005 (65535 * 740000) 75 72 'A' 0000000000000001 02 0000 78 70 : 999999 : too large nodes at 196609";
 
+/// The same of as many items as a message gets memory for, and of a further one.
+const ITEMS: &str = "* : ACED0005 (1048576 * 70) : 9999999 : read
+* : ACED0005 (1048577 * 70) : 9999999 : out of memory";
+
+/// The same of one more: blocks and nulls by turns, and items of an annotation.
+const NOTES: &str = "* : ACED0005 (524288 * 770101 70) 70 : 9999999 : out of memory
+* : ACED0005 72 'A' 0000000000000001 02 0000 (1048576 * 70) 78 70 : 9999999 : out of memory";
+
+/// The same of elements of an array, and of names of a proxy's interfaces.
+const ELEMENTS: &str =
+    "* : ACED0005 75 72 '[LA;' 0000000000000001 02 0000 78 70 00100000 (1048576 * 70) : 9999999 : out of memory
+* : ACED0005 7D 00100000 (1048576 * 0000) 78 70 : 9999999 : out of memory";
+
 /// Asks a reader for one thing. Its answer, or its refusal, is kept by the reader.
 fn ask(alloc: Global, pull: &mut Pull<'_, MemSource>, reader: &mut Reader, want: u8) {
     if b'0' <= want && want <= b'9' {
@@ -222,6 +235,28 @@ fn nodes_are_at_most_65536(rt: HostRuntime) {
 #[test]
 fn classes_and_their_objects_are_at_most_65536(rt: HostRuntime) {
     check(&rt, rt.alloc(), NODES_OF_CLASSES, 1000);
+}
+
+/// Checks each line of a long table, whole.
+fn check_whole(rt: &impl Abort, alloc: Global, table: &str) {
+    for line in table.split('\n') {
+        must(rt, is_answered(rt, alloc, line, 0), line);
+    }
+}
+
+#[test]
+fn items_are_at_most_1048576(rt: HostRuntime) {
+    check_whole(&rt, rt.alloc(), ITEMS);
+}
+
+#[test]
+fn blocks_and_items_of_annotations_are_at_most_1048576(rt: HostRuntime) {
+    check_whole(&rt, rt.alloc(), NOTES);
+}
+
+#[test]
+fn elements_and_names_are_at_most_1048576(rt: HostRuntime) {
+    check_whole(&rt, rt.alloc(), ELEMENTS);
 }
 
 /// How many answers a list of wants has, how many items and nodes its graph, and how many bytes were taken.

@@ -1,9 +1,11 @@
 //! Rows on descriptions: the streams of their graphs, and the greatest number of fields.
 
 use sequence::ByteList;
+use ser_values::Graph;
 use ser_write::write_stream;
 use std::alloc::{AllocError, Global};
 use std::process::Abort;
+use stream_laws::description_read_back;
 use suid_calc::{ClassOutline, DescribeFault, describe, parse_outline};
 
 /// Stops where this does not hold, and says what it is.
@@ -91,28 +93,51 @@ const STREAMS: [(&[u8], &[u8]); 15] = [
 ];
 
 /// Numbers of fields with these modifiers, and whether such a class is described.
-const COUNTS: [(usize, &str, bool); 2] = [(32_767, "0", true), (32_768, "0", false)];
+const COUNTS: [(usize, &str, bool); 3] = [
+    (32_767, "0", true),
+    (32_768, "0", false),
+    // static fields don't count
+    (32_768, "8", true),
+];
 
-/// Whether a class's description is written as this stream.
-fn is_written(alloc: Global, outline: &ClassOutline, stream: &[u8]) -> bool {
+/// Returns whether a graph is written as this stream.
+fn is_written(alloc: Global, graph: &Graph, stream: &[u8]) -> bool {
+    match write_stream(alloc, graph) {
+        Ok(written) => written.as_slice() == stream,
+        Err(_error) => false,
+    }
+}
+
+/// Returns whether a class's description is written as this stream.
+fn is_described_so(alloc: Global, outline: &ClassOutline, stream: &[u8]) -> bool {
     match describe(alloc, outline) {
-        Ok(graph) => match write_stream(alloc, &graph) {
-            Ok(written) => written.as_slice() == stream,
-            Err(_error) => false,
+        Ok(graph) => is_written(alloc, &graph, stream),
+        Err(_fault) => false,
+    }
+}
+
+/// Returns whether a class's description, written and read back, is written as this stream.
+fn is_read_back(alloc: Global, outline: &ClassOutline, stream: &[u8]) -> bool {
+    match description_read_back(alloc, outline) {
+        Ok(read) => match read {
+            Ok(graph) => is_written(alloc, &graph, stream),
+            Err(_fault) => false,
         },
         Err(_fault) => false,
     }
 }
 
-/// Whether a text is the outline of a class with this description.
+/// Returns whether a text is the outline of a class with this description, which is read back.
 fn has_stream(alloc: Global, text: &[u8], stream: &[u8]) -> bool {
     match parse_outline(alloc, text) {
-        Ok(outline) => is_written(alloc, &outline, stream),
+        Ok(outline) => {
+            is_described_so(alloc, &outline, stream) && is_read_back(alloc, &outline, stream)
+        }
         Err(_fault) => false,
     }
 }
 
-/// The outline of a class with so many fields.
+/// Returns the outline of a class with so many fields.
 fn text_of(alloc: Global, count: usize, modifiers: &str) -> Result<ByteList, AllocError> {
     let mut text = ByteList::from_slice(alloc, b"class 1 A\n")?;
     for place in 0..count {
@@ -122,7 +147,7 @@ fn text_of(alloc: Global, count: usize, modifiers: &str) -> Result<ByteList, All
     Ok(text)
 }
 
-/// Whether a class with so many fields is described; None where there was no memory.
+/// Returns whether a class with so many fields is described; None where there was no memory.
 fn is_described(alloc: Global, count: usize, modifiers: &str) -> Option<bool> {
     let text = text_of(alloc, count, modifiers).ok()?;
     let outline = parse_outline(alloc, text.as_slice()).ok()?;

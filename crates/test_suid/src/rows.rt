@@ -1,4 +1,4 @@
-//! Rows on outlines: the stream that is hashed, the number, and the first bad line.
+//! Rows on outlines: the text that is hashed, the number, and the first bad line.
 
 use sequence::ByteList;
 use std::alloc::{AllocError, Global};
@@ -10,7 +10,7 @@ fn must(rt: &impl Abort, holds: bool, what: &str) {
     assert!(rt; holds, "{what}");
 }
 
-/// Outlines, and the streams of which their numbers are hashes.
+/// Outlines, and the texts of which their numbers are hashes.
 const TEXTS: [(&[u8], &[u8]); 18] = [
     (
         // the first row
@@ -158,6 +158,20 @@ const NUMBERS: [(&[u8], i64); 10] = [
     ),
 ];
 
+/// Outlines, the same with their lines after the first in another order, and their one number.
+const REORDERED: [(&[u8], &[u8], i64); 2] = [
+    (
+        b"class 33 A\nconstructor 1 ()V\nfield 2 n I\n",
+        b"class 33 A\nfield 2 n I\nconstructor 1 ()V\n",
+        -7619000734900045766,
+    ),
+    (
+        b"class 17 p.C\ninterface java.io.Serializable\ninterface java.lang.Runnable\nfield 0 b I\nfield 0 a J\nfield 0 o Ljava/lang/Object;\nfield 0 s Ljava/lang/String;\nconstructor 1 ()V\nmethod 1 run ()V\nmethod 1 f (Lp/C;Ljava/util/List;)Lp/C;\n",
+        b"class 17 p.C\nmethod 1 f (Lp/C;Ljava/util/List;)Lp/C;\nfield 0 s Ljava/lang/String;\nmethod 1 run ()V\ninterface java.lang.Runnable\nfield 0 o Ljava/lang/Object;\nconstructor 1 ()V\nfield 0 a J\ninterface java.io.Serializable\nfield 0 b I\n",
+        3728675276614561957,
+    ),
+];
+
 /// Texts, and the numbers of their first bad lines; 0 where there is none.
 const LINES: [(&[u8], usize); 39] = [
     (b"", 1),
@@ -226,7 +240,7 @@ const LENGTHS: [(&[u8], &[u8], usize, &[u8], bool); 12] = [
     (b"class 1 A\nmethod 1 f (L", b"a", 65531, b";)V\n", false),
 ];
 
-/// Whether a text is an outline with this stream.
+/// Returns whether a text is an outline of which this is hashed.
 fn has_text(alloc: Global, outline: &[u8], text: &[u8]) -> bool {
     match parse_outline(alloc, outline) {
         Ok(outline) => match suid_text(alloc, &outline) {
@@ -237,7 +251,7 @@ fn has_text(alloc: Global, outline: &[u8], text: &[u8]) -> bool {
     }
 }
 
-/// Whether a text is an outline with this number.
+/// Returns whether a text is an outline with this number.
 fn has_number(alloc: Global, outline: &[u8], number: i64) -> bool {
     match parse_outline(alloc, outline) {
         Ok(outline) => suid(alloc, &outline).ok() == Some(number),
@@ -245,7 +259,7 @@ fn has_number(alloc: Global, outline: &[u8], number: i64) -> bool {
     }
 }
 
-/// The number of a text's first bad line; 0 where there is none.
+/// Returns the number of a text's first bad line; 0 where there is none.
 fn bad_line(alloc: Global, text: &[u8]) -> Option<usize> {
     match parse_outline(alloc, text) {
         Ok(_outline) => Some(0),
@@ -254,7 +268,7 @@ fn bad_line(alloc: Global, text: &[u8]) -> Option<usize> {
     }
 }
 
-/// A text in three parts, of which the second is repeated.
+/// Returns a text in three parts, of which the second is repeated.
 fn repeated(
     alloc: Global,
     front: &[u8],
@@ -270,7 +284,7 @@ fn repeated(
     Ok(text)
 }
 
-/// Whether a text in three parts is an outline.
+/// Returns whether a text in three parts is an outline.
 fn is_taken(
     alloc: Global,
     front: &[u8],
@@ -289,9 +303,11 @@ fn texts_and_numbers(rt: HostRuntime) {
     }
     for (outline, number) in NUMBERS {
         must(&rt, has_number(rt.alloc(), outline, number), "the number");
+    }
+    for (outline, reordered, number) in REORDERED {
         must(
             &rt,
-            numbers_of(rt.alloc(), outline, outline).ok() == Some((number, number)),
+            numbers_of(rt.alloc(), outline, reordered).ok() == Some((number, number)),
             "the number, twice",
         );
     }

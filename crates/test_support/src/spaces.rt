@@ -14,6 +14,7 @@ pub const CONFIG: SpaceConfig = SpaceConfig {
     lease_ms: 600_000,
     ack_ms: 300_000,
     uid: SPACE,
+    stored: true,
 };
 
 /// The first object that the space exports.

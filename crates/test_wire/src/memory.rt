@@ -81,6 +81,18 @@ fn a_listener_is_quiet_and_is_told_to_stop(rt: HostRuntime) {
     must(&rt, listener.faults() == 1, "a fault");
 }
 
+/// A listener that was told to stop gives no link more, though it has one.
+#[test]
+fn a_listener_that_was_told_gives_no_link(rt: HostRuntime) {
+    let links = two_links(&rt, rt.alloc());
+    let mut listener = MemListener::waiting(rt.alloc(), links, Kinds::new(rt.alloc()), Some(1));
+    for word in [7, -2, -2] {
+        must(&rt, word_of(listener.wait()) == word, "a wait");
+    }
+    must(&rt, listener.accept().is_err(), "no link");
+    must(&rt, listener.accepted() == 1, "one was given");
+}
+
 /// A half in memory goes on after it was shut, as contracts say.
 #[test]
 fn halves_that_were_shut_go_on(rt: HostRuntime) {

@@ -180,16 +180,33 @@ where
     let mut listener = TcpListen::with_flag(alloc, rt, Arc::try_clone(&flag).ok()?);
     let port = listen(rt, &mut listener)?;
     must(rt, word_of(listener.wait()) == "quiet", "no link");
-    let mut dialer = TcpDial::new(alloc, rt);
-    let Ok(dialed) = dialer.dial(&host_here(rt, alloc), port) else {
-        return None;
-    };
-    must(rt, is_here(&dialed.host), "the host dialled");
-    must(rt, dialed.port == i32::from(port), "the port dialled");
-    must(rt, word_of(listener.wait()) == "link", "a link");
+    check_dialed(rt, alloc, &mut listener, port)?;
     flag.store(true, Ordering::SeqCst);
     must(rt, word_of(listener.wait()) == "told", "the flag");
+    must(rt, word_of(listener.wait()) == "told", "and again");
     must(rt, listener.faults() == 0, "no fault");
+    must(rt, listener.accept().is_err(), "no link from then on");
+    Some(())
+}
+
+/// Looks at a link from both ends: the dialled one names this end, and its read takes as long as its dialer lets it.
+fn check_dialed<R, L>(rt: &R, alloc: Global, listener: &mut L, port: u16) -> Option<()>
+where
+    R: Net<Listener = TcpListener, Stream = TcpStream> + Clock + Abort + Sync,
+    L: Listener,
+{
+    let mut dialer = TcpDial::waiting(alloc, rt, 1);
+    let mut dialed = dialer.dial(&host_here(rt, alloc), i32::from(port)).ok()?;
+    must(rt, is_here(&dialed.host), "the host of this end");
+    match listener.wait() {
+        Ok(Waited::Came(link)) => {
+            must(rt, link.port == dialed.port, "the port of this end");
+            let mut buf = [0; 1];
+            must(rt, dialed.source.read(&mut buf).is_err(), "no reply");
+            must(rt, dialed.source.faults() == 1, "a fault");
+        }
+        _ => must(rt, false, "a link"),
+    }
     Some(())
 }
 
@@ -230,6 +247,12 @@ fn a_dial_that_nobody_answers_is_a_fault(rt: HostRuntime) {
     let mut dialer = TcpDial::new(rt.alloc(), &rt);
     let host = host_here(&rt, rt.alloc());
     let port = free_port(&rt).unwrap_or(1);
-    must(&rt, dialer.dial(&host, port).is_err(), "no connection");
+    must(
+        &rt,
+        dialer.dial(&host, i32::from(port)).is_err(),
+        "no connection",
+    );
     must(&rt, dialer.faults() == 1, "a fault");
+    must(&rt, dialer.dial(&host, 65536).is_err(), "no such port");
+    must(&rt, dialer.faults() == 2, "another fault");
 }

@@ -1,5 +1,5 @@
 -- The steps at a seat whose view and slots are known.
-use Rattle.std.proofs.Common.{◌≡◌, ℕ, ◌+◌, ◌*◌, ◌%◌, ◌<◌, [], ◌∷◌, ◌++◌, length, sym, subst}
+use Rattle.std.proofs.Common.{◌≡◌, ℕ, ◌+◌, ◌%◌, ◌<◌, [], ◌∷◌, ◌++◌, length, sym, subst}
 use mathlib.Core.Option.{none}
 use Rattle.atomic_table.specs.Table.{step, Allows}
 use Rattle.history.specs.declared.asks.Event.{Event}
@@ -9,11 +9,11 @@ use Rattle.turn_lock.specs.declared.view.SeatState.TheVariants.{Idle, Drawn, Cal
 use Rattle.turn_lock.specs.Rule.{Events, KeepsRule, Sat, space_with, holding, DrawsTicket, LooksAtServing, PublishesEvent, PassesOver, AdvancesServing, AbsorbsSeen}
 use Rattle.turn_lock.proofs.Keeps.{draws, looks, publishes, passes_over, advances, absorbs}
 
-pub draws_at : (h0 : SpaceHistory) (slots id : ℕ) (me : Sat) → slots ≡ 1 → me.0.state ≡ Idle → me.1 ≡ [] → me.0.drawn < 2147483648 * me.0.parts
+pub draws_at : (h0 : SpaceHistory) (slots id : ℕ) (me : Sat) → slots ≡ 1 → me.0.state ≡ Idle → me.1 ≡ [] → 0 < me.0.parts
     → Allows (KeepsRule h0) slots id me 0 (λ n. (n + 1) % 18446744073709551616) (DrawsTicket (step slots 0 1 0 none) me)
-draws_at h0 slots id me one idle empty room =
+draws_at h0 slots id me one idle empty part =
     let P : ℕ × Sat → Type 0 = λ x. Allows (KeepsRule h0) x.0 id x.1 0 (λ n. (n + 1) % 18446744073709551616) (DrawsTicket (step x.0 0 1 0 none) x.1) in
-    subst P (λ i. (sym one i, (me.0, sym empty i))) (draws h0 id me.0 idle room)
+    subst P (λ i. (sym one i, (me.0, sym empty i))) (draws h0 id me.0 idle part)
 
 pub looks_at : (h0 : SpaceHistory) (slots id : ℕ) (me : Sat) (t : ℕ) → slots ≡ 1 → me.0.state ≡ Drawn t → me.1 ≡ [] → 0 < me.0.parts → Allows (KeepsRule h0) slots id me 1 (λ n. n) (LooksAtServing (step slots 1 0 0 none) me)
 looks_at h0 slots id me t one drawn empty part =

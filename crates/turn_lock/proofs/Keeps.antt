@@ -1,5 +1,5 @@
 -- Each step keeps the rule of the turn lock.
-use Rattle.std.proofs.Common.{◌≡◌, ◌≢◌, ◌⊎◌, ℕ, zero, suc, ◌+◌, ◌-◌, ◌*◌, ◌%◌, ◌<◌, ◌≤◌, Bool, true, false, true≢false, List, [], ◌∷◌, ◌++◌, length, set, drop, get_or, sym, refl, ap, ◌∙◌, ap₂, cond, ltb, ltb-true, ltb-false, ◌==◌, eq-eqb, ne_eqb, subst, ⊎_elim, inl, inr, arith, length-set, length-append, append_assoc, append-nil, Option, Some}
+use Rattle.std.proofs.Common.{◌≡◌, ◌≢◌, ◌⊎◌, ℕ, zero, suc, ◌+◌, ◌-◌, ◌%◌, ◌<◌, ◌≤◌, Bool, true, false, true≢false, List, [], ◌∷◌, ◌++◌, length, set, drop, get_or, sym, refl, ap, ◌∙◌, ap₂, cond, ltb, ltb-true, ltb-false, ◌==◌, eq-eqb, ne_eqb, subst, ⊎_elim, inl, inr, arith, length-set, length-append, append_assoc, append-nil, Option, Some}
 use Rattle.std.specs.Prelude.{Contains, slice_index, slice_set}
 use Rattle.std.proofs.lemmas.List.Elements.{filter-append, Contains-append_cases, Contains-append_left, Contains-append_right}
 use Rattle.std.proofs.lemmas.List.Sums.{sum_by-append}
@@ -20,7 +20,7 @@ use Rattle.space.proofs.CollectLaws.{space-shown}
 use Rattle.turn_lock.specs.declared.view.View.{View}
 use Rattle.turn_lock.specs.declared.view.SeatState.{SeatState}
 use Rattle.turn_lock.specs.declared.view.SeatState.TheVariants.{Idle, Drawn, Called}
-use Rattle.turn_lock.specs.Rule.{Events, StartsWith, events_by, longer, space_with, HasOwn, MayComeTo, Waits, Knows, SeatFits, HasEnded, KeepsRule, root, spent_seat, at_home, holding, in_state, DrawsTicket, LooksAtServing, PublishesEvent, PassesOver, AdvancesServing, AbsorbsSeen, left_of, right_of, both_of, Settled}
+use Rattle.turn_lock.specs.Rule.{Events, StartsWith, events_by, longer, space_with, HasOwn, MayComeTo, Waits, Knows, SeatFits, HasEnded, KeepsRule, root, spent_seat, at_home, holding, in_state, word_of, tickets_of, DrawsTicket, LooksAtServing, PublishesEvent, PassesOver, AdvancesServing, AbsorbsSeen, left_of, right_of, both_of, Settled}
 use Rattle.turn_lock.proofs.Views.{all_set, sum_set, sum_one, sum_rest, sum_same, sum_le, within, same_at, put, put_here, put_else}
 
 abbrev St : Type 0
@@ -31,10 +31,21 @@ abbrev IsCalled : SeatState → Bool
 IsCalled (Called t h) = true
 IsCalled _ = false
 
--- the ticket is far below the end of the word
-few : (h0 : SpaceHistory) (s : St) (r : KeepsRule h0 s) → r.ticket ≤ 9223372036854775808
-few h0 s r = let le = sum_le (λ (v : View). v.drawn) (λ (v : View). v.parts) s.views (λ j u e. (r.each j u e).room) in
-    let d = r.drawn in let p = r.parts in omega (arith, le)
+one_ticket : (g : SeatState) → tickets_of g ≤ 1
+one_ticket Idle = omega arith
+one_ticket (Drawn word) = omega arith
+one_ticket (Called word h) = omega arith
+
+-- a seat without a part has no ticket
+ticket_of_part : (v : View) → (v.parts ≡ 0 → v.state ≡ Idle) → tickets_of v.state ≤ v.parts
+ticket_of_part v still = let le = one_ticket v.state in dite (ℕ_discrete v.parts 0)
+    (λ none_left. let e : tickets_of v.state ≡ 0 = ap tickets_of (still none_left) in omega (arith, e))
+    (λ some_left. omega (arith, le, some_left))
+
+-- the tickets that are still to be served are far fewer than the words
+few : (h0 : SpaceHistory) (s : St) (r : KeepsRule h0 s) → r.ticket ≤ r.serving + 4294967296
+few h0 s r = let le = sum_le (λ (v : View). tickets_of v.state) (λ (v : View). v.parts) s.views (λ j u e. ticket_of_part u (r.each j u e).still) in
+    let w = r.waiting in let p = r.parts in omega (arith, le, w, p)
 
 -- the seat's own numbers stay: what the rule says of the sums and the ended passes
 abbrev IsSameHolder : View → View → Type 0
@@ -129,15 +140,15 @@ own_none first by other own tail seen rest h split empty =
 
 -- what one seat's step to the view w leaves of the rule
 stepped_kept : (h0 : SpaceHistory) (s : St) (r : KeepsRule h0 s) (id : ℕ) (v w : View) (ticket' serving' : ℕ) (tail' : Events) (out' : Bool) (owner' : ℕ → ℕ) (words' : List ℕ) (homes' : List (maybe.Option (Option SpaceHistory)))
-    → get_elem? s.views id ≡ some v → IsSameHolder v w → (more : Events) × (tail' ≡ r.tail ++ more) → words' ≡ ticket' ∷ serving' ∷ length (h0.events ++ tail') ∷ [] → serving' ≤ ticket' → IsLegal h0.configuration (h0.events ++ tail')
+    → get_elem? s.views id ≡ some v → IsSameHolder v w → (more : Events) × (tail' ≡ r.tail ++ more) → words' ≡ word_of ticket' ∷ word_of serving' ∷ length (h0.events ++ tail') ∷ [] → serving' ≤ ticket' → IsLegal h0.configuration (h0.events ++ tail')
     → homes' ≡ at_home out' (space_with h0.configuration (h0.events ++ tail')) ∷ []
-    → (out' ≡ true → (u : View) × (get_elem? (set s.views id w) (owner' serving') ≡ some u) × (u.state ≡ Called serving' (h0.events ++ tail')))
+    → (out' ≡ true → (u : View) × (get_elem? (set s.views id w) (owner' serving') ≡ some u) × (u.state ≡ Called (word_of serving') (h0.events ++ tail')))
     → SeatFits h0 tail' ticket' serving' out' owner' id w
     → ((j : ℕ) (g : SeatState) → j ≢ id → Waits r.ticket r.serving r.out (h0.events ++ r.tail) r.owner j g → Waits ticket' serving' out' (h0.events ++ tail') owner' j g)
     → ((n : ℕ) → n ≢ id → events_by n tail' ≡ events_by n r.tail) → (v.parts ≡ 0 → tail' ≡ r.tail)
-    → w.drawn + r.ticket ≡ v.drawn + ticket'
+    → tickets_of w.state + r.ticket + serving' ≡ tickets_of v.state + ticket' + r.serving
     → KeepsRule h0 record { words = words'; homes = homes'; views = set s.views id w }
-stepped_kept h0 s r id v w ticket' serving' tail' out' owner' words' homes' at same grows words order legal home caller here waits others none_new drawn = record {
+stepped_kept h0 s r id v w ticket' serving' tail' out' owner' words' homes' at same grows words order legal home caller here waits others none_new waiting = record {
   ticket = ticket';
   serving = serving';
   tail = tail';
@@ -159,13 +170,12 @@ stepped_kept h0 s r id v w ticket' serving' tail' out' owner' words' homes' at s
           owned = others j other ∙ m.owned;
           owned_seen = m.owned_seen;
         };
-        room = f.room;
         still = f.still;
         waits = waits j u.state other f.waits;
       });
   strangers = λ n le. let size = length-set s.views id w in let inside = within s.views id v at in
       others n (λ e. absurd (omega (arith, e, le, inside, size))) ∙ r.strangers n (omega (arith, le, size));
-  drawn = let a = sum_set (λ (y : View). y.drawn) s.views id v w at in let d = r.drawn in omega (arith, a, d, drawn);
+  waiting = let a = sum_set (λ (y : View). tickets_of y.state) s.views id v w at in let d = r.waiting in omega (arith, a, d, waiting);
   parts = sum_same (λ (y : View). y.parts) s.views id v w at same.0 ∙ r.parts;
   counted = counted_set h0 s r id v w at same;
   ended = ended_set h0 s r tail' id v w at same others none_new;
@@ -180,19 +190,19 @@ not_called g t h quiet e = true≢false (sym (ap IsCalled e) ∙ quiet)
 
 -- the caller is another seat than one that is not called
 caller_else : (h0 : SpaceHistory) (s : St) (r : KeepsRule h0 s) (id : ℕ) (v w : View) (owner' : ℕ → ℕ) → get_elem? s.views id ≡ some v → IsCalled v.state ≡ false → ((t : ℕ) → t < r.ticket → owner' t ≡ r.owner t)
-    → r.out ≡ true → (u : View) × (get_elem? (set s.views id w) (owner' r.serving) ≡ some u) × (u.state ≡ Called r.serving (h0.events ++ r.tail))
+    → r.out ≡ true → (u : View) × (get_elem? (set s.views id w) (owner' r.serving) ≡ some u) × (u.state ≡ Called (word_of r.serving) (h0.events ++ r.tail))
 caller_else h0 s r id v w owner' at quiet same is_out =
     let c = r.caller is_out in
-    let waits : Waits r.ticket r.serving r.out (h0.events ++ r.tail) r.owner (r.owner r.serving) (Called r.serving (h0.events ++ r.tail)) = subst (Waits r.ticket r.serving r.out (h0.events ++ r.tail) r.owner (r.owner r.serving)) c.2 (r.each (r.owner r.serving) c.0 c.1).waits in
+    let waits : Waits r.ticket r.serving r.out (h0.events ++ r.tail) r.owner (r.owner r.serving) (Called (word_of r.serving) (h0.events ++ r.tail)) = subst (Waits r.ticket r.serving r.out (h0.events ++ r.tail) r.owner (r.owner r.serving)) c.2 (r.each (r.owner r.serving) c.0 c.1).waits in
     let owned : owner' r.serving ≡ r.owner r.serving = same r.serving waits.1 in
-    let apart : r.owner r.serving ≢ id = λ e. not_called v.state r.serving (h0.events ++ r.tail) quiet (ap (λ (y : View). y.state) (same_at s.views id v c.0 at (subst (λ k. get_elem? s.views k ≡ some c.0) e c.1)) ∙ c.2) in
+    let apart : r.owner r.serving ≢ id = λ e. not_called v.state (word_of r.serving) (h0.events ++ r.tail) quiet (ap (λ (y : View). y.state) (same_at s.views id v c.0 at (subst (λ k. get_elem? s.views k ≡ some c.0) e c.1)) ∙ c.2) in
     (c.0, ap (get_elem? (set s.views id w)) owned ∙ (set_else s.views id (r.owner r.serving) w apart ∙ c.1), c.2)
 
 -- the same seat and the same waiting, where only a new ticket is drawn by another
 draws_on : (ticket serving : ℕ) (out : Bool) (log : Events) (owner : ℕ → ℕ) (id j : ℕ) (g : SeatState) → Waits ticket serving out log owner j g → Waits (ticket + 1) serving out log (put owner ticket id) j g
 draws_on ticket serving out log owner id j Idle h = tt
-draws_on ticket serving out log owner id j (Drawn t) h = (h.0, omega (arith, h.1), put_else owner ticket id t (λ e. let lt = h.1 in absurd (omega (arith, e, lt))) ∙ h.2)
-draws_on ticket serving out log owner id j (Called t hand) h = (h.0, omega (arith, h.1), put_else owner ticket id t (λ e. let lt = h.1 in absurd (omega (arith, e, lt))) ∙ h.2, h.3, h.4)
+draws_on ticket serving out log owner id j (Drawn word) h = (h.0, h.1, h.2, omega (arith, h.3), put_else owner ticket id h.0 (λ e. let lt = h.3 in absurd (omega (arith, e, lt))) ∙ h.4)
+draws_on ticket serving out log owner id j (Called word hand) h = (h.0, omega (arith, h.1), put_else owner ticket id serving (λ e. let lt = h.1 in absurd (omega (arith, e, lt))) ∙ h.2, h.3, h.4)
 
 quiet_idle : (g : SeatState) → g ≡ Idle → IsCalled g ≡ false
 quiet_idle g e = ap IsCalled e
@@ -200,30 +210,29 @@ quiet_idle g e = ap IsCalled e
 quiet_drawn : (g : SeatState) (t : ℕ) → g ≡ Drawn t → IsCalled g ≡ false
 quiet_drawn g t e = ap IsCalled e
 
-pub draws : (h0 : SpaceHistory) (id : ℕ) (v : View) → v.state ≡ Idle → v.drawn < 2147483648 * v.parts
+pub draws : (h0 : SpaceHistory) (id : ℕ) (v : View) → v.state ≡ Idle → 0 < v.parts
     → Allows (KeepsRule h0) 1 id (v, []) 0 (λ n. (n + 1) % 18446744073709551616) (DrawsTicket (step 1 0 1 0 none) (v, []))
-draws h0 id v idle room s r deep at fits =
+draws h0 id v idle part s r deep at fits =
     let n : ℕ = slice_index s.words 0 in
-    let is : n ≡ r.ticket = ap (λ ws. slice_index ws 0) r.words in
-    let w : View = record v { state = Drawn n; drawn = v.drawn + 1 } in
-    let few_tickets = few h0 s r in
-    let sum : (n + 1) % 18446744073709551616 ≡ r.ticket + 1 = omega (arith, is, few_tickets) in
+    let is : n ≡ word_of r.ticket = ap (λ ws. slice_index ws 0) r.words in
+    let w : View = in_state v (Drawn n) in
+    let sum : (n + 1) % 18446744073709551616 ≡ word_of (r.ticket + 1) = omega (arith, is) in
+    let none_yet : tickets_of v.state ≡ 0 = ap tickets_of idle in
     let f = r.each id v at in
     let before = r.order in (
       w,
       keeps,
       tt,
       stepped_kept h0 s r id v w (r.ticket + 1) r.serving r.tail r.out (put r.owner r.ticket id) (slice_set s.words 0 ((n + 1) % 18446744073709551616)) s.homes at (refl, refl, refl) (stays h0 s r)
-          (ap (λ x. slice_set s.words 0 x) sum ∙ ap (λ ws. slice_set ws 0 (r.ticket + 1)) r.words) (omega (arith, before)) r.legal r.home
+          (ap (λ x. slice_set s.words 0 x) sum ∙ ap (λ ws. slice_set ws 0 (word_of (r.ticket + 1))) r.words) (omega (arith, before)) r.legal r.home
           (caller_else h0 s r id v w (put r.owner r.ticket id) at (quiet_idle v.state idle) (λ t lt. put_else r.owner r.ticket id t (λ e. absurd (omega (arith, e, lt)))))
           (record {
             mine = f.mine;
-            room = omega (arith, room);
-            still = λ zero. absurd (omega (arith, zero, room));
-            waits = (omega (arith, is, before), omega (arith, is), ap (put r.owner r.ticket id) is ∙ put_here r.owner r.ticket id);
+            still = λ zero. absurd (omega (arith, zero, part));
+            waits = (r.ticket, is, before, omega arith, put_here r.owner r.ticket id);
           })
           (λ j g other h. draws_on r.ticket r.serving r.out (h0.events ++ r.tail) r.owner id j g h)
-          (λ m other. refl) (λ zero. refl) (omega arith),
+          (λ m other. refl) (λ zero. refl) (omega (arith, none_yet)),
       refl,
     )
 
@@ -241,23 +250,25 @@ hand_of (Called t h) = h
 hand_of _ = []
 
 -- the word that a look reads is written back
-same_words : (h0 : SpaceHistory) (s : St) (r : KeepsRule h0 s) → slice_set s.words 1 (slice_index s.words 1) ≡ r.ticket ∷ r.serving ∷ length (h0.events ++ r.tail) ∷ []
+same_words : (h0 : SpaceHistory) (s : St) (r : KeepsRule h0 s) → slice_set s.words 1 (slice_index s.words 1) ≡ word_of r.ticket ∷ word_of r.serving ∷ length (h0.events ++ r.tail) ∷ []
 same_words h0 s r = ap (λ ws. slice_set ws 1 (slice_index ws 1)) r.words
 
 -- while the seat's ticket is served and the seat has not been called, the slot is at home
-slot_home : (h0 : SpaceHistory) (s : St) (r : KeepsRule h0 s) (id : ℕ) (v : View) (t : ℕ) → get_elem? s.views id ≡ some v → v.state ≡ Drawn t → r.serving ≡ t → (b : Bool) → r.out ≡ b → b ≡ false
-slot_home h0 s r id v t at drawn now false is = refl
-slot_home h0 s r id v t at drawn now true is =
-    let waits : Waits r.ticket r.serving r.out (h0.events ++ r.tail) r.owner id (Drawn t) = subst (Waits r.ticket r.serving r.out (h0.events ++ r.tail) r.owner id) drawn (r.each id v at).waits in
+slot_home : (h0 : SpaceHistory) (s : St) (r : KeepsRule h0 s) (id : ℕ) (v : View) (t : ℕ) → get_elem? s.views id ≡ some v → v.state ≡ Drawn t → r.owner r.serving ≡ id → (b : Bool) → r.out ≡ b → b ≡ false
+slot_home h0 s r id v t at drawn here false is = refl
+slot_home h0 s r id v t at drawn here true is =
     let c = r.caller is in
-    let here : r.owner r.serving ≡ id = ap r.owner now ∙ waits.2 in
     let same : v ≡ c.0 = same_at s.views id v c.0 at (subst (λ k. get_elem? s.views k ≡ some c.0) here c.1) in
-    absurd (not_called v.state r.serving (h0.events ++ r.tail) (quiet_drawn v.state t drawn) (ap (λ (y : View). y.state) same ∙ c.2))
+    absurd (not_called v.state (word_of r.serving) (h0.events ++ r.tail) (quiet_drawn v.state t drawn) (ap (λ (y : View). y.state) same ∙ c.2))
 
 calls_on : (ticket serving : ℕ) (out : Bool) (log : Events) (owner : ℕ → ℕ) (j : ℕ) (g : SeatState) → Waits ticket serving out log owner j g → Waits ticket serving true log owner j g
 calls_on ticket serving out log owner j Idle h = tt
 calls_on ticket serving out log owner j (Drawn t) h = h
 calls_on ticket serving out log owner j (Called t hand) h = (h.0, h.1, h.2, h.3, refl)
+
+-- of few tickets no two have one word
+same_count : (serving ticket t : ℕ) → word_of serving ≡ word_of t → serving ≤ t → t < ticket → ticket ≤ serving + 4294967296 → t ≡ serving
+same_count serving ticket t same low high few_are = omega (arith, same, low, high, few_are)
 
 -- what a seat that knows what is so knows of the whole history
 comes : (h0 : SpaceHistory) (j : ℕ) (tail : Events) (v : View) → IsLegal h0.configuration (h0.events ++ tail) → Knows h0 tail j v → MayComeTo v (h0.events ++ tail)
@@ -275,13 +286,16 @@ comes h0 j tail v legal m =
 pub looks : (h0 : SpaceHistory) (id : ℕ) (v : View) (t : ℕ) → v.state ≡ Drawn t → 0 < v.parts → Allows (KeepsRule h0) 1 id (v, []) 1 (λ n. n) (LooksAtServing (step 1 1 0 0 none) (v, []))
 looks h0 id v t drawn part s r deep at fits =
     let n : ℕ = slice_index s.words 1 in
-    let is : n ≡ r.serving = ap (λ ws. slice_index ws 1) r.words in
+    let is : n ≡ word_of r.serving = ap (λ ws. slice_index ws 1) r.words in
     let log : Events = h0.events ++ r.tail in
     let f = r.each id v at in
     let waits : Waits r.ticket r.serving r.out log r.owner id (Drawn t) = subst (Waits r.ticket r.serving r.out log r.owner id) drawn f.waits in
     dite (ℕ_discrete n t)
     (λ now.
-    let away : r.out ≡ false = slot_home h0 s r id v t at drawn (sym is ∙ now) r.out refl in
+    let mine_is : waits.0 ≡ r.serving = same_count r.serving r.ticket waits.0 (sym is ∙ (now ∙ waits.1)) waits.2 waits.3 (few h0 s r) in
+    let here : r.owner r.serving ≡ id = ap r.owner (sym mine_is) ∙ waits.4 in
+    let away : r.out ≡ false = slot_home h0 s r id v t at drawn here r.out refl in
+    let one : tickets_of v.state ≡ 1 = ap tickets_of drawn in
     let mine = f.mine part in
     let whole : SpaceHistory = space_with h0.configuration log in
     let here_is : some (Some whole) ≡ some (Some (space_with v.config log)) = ap (λ c. some (Some (space_with c log))) (sym mine.configured) in
@@ -292,10 +306,10 @@ looks h0 id v t drawn part s r deep at fits =
       ap (λ hs. get_elem? hs 0) home,
       stepped_kept h0 s r id v w r.ticket r.serving r.tail true r.owner (slice_set s.words 1 n) (slice_set s.homes 0 none) at (refl, refl, refl) (stays h0 s r)
           (same_words h0 s r) r.order r.legal (ap (λ hs. slice_set hs 0 none) home)
-          (λ _. (w, ap (get_elem? (set s.views id w)) (ap r.owner (sym is ∙ now) ∙ waits.2) ∙ set_here s.views id w (within s.views id v at), ap (λ k. Called k log) is))
-          (record { mine = f.mine; room = f.room; still = λ zero. absurd (omega (arith, zero, part)); waits = (is, omega (arith, now, waits.1), ap r.owner now ∙ waits.2, refl, refl) })
+          (λ _. (w, ap (get_elem? (set s.views id w)) here ∙ set_here s.views id w (within s.views id v at), ap (λ k. Called k log) is))
+          (record { mine = f.mine; still = λ zero. absurd (omega (arith, zero, part)); waits = (is, omega (arith, mine_is, waits.3), here, refl, refl) })
           (λ j g other h. calls_on r.ticket r.serving r.out log r.owner j g h)
-          (λ m other. refl) (λ zero. refl) refl,
+          (λ m other. refl) (λ zero. refl) (omega (arith, one)),
       λ t' drawn'. ((λ _. (log, refl, comes h0 id r.tail v r.legal mine)), (λ other. absurd (other (now ∙ ap ticket_of (sym drawn ∙ drawn'))))),
     ))
     (λ later. (
@@ -310,22 +324,22 @@ looks h0 id v t drawn part s r deep at fits =
 -- where one seat is called, another that waits holds a later ticket
 advances_on : (ticket serving : ℕ) (out : Bool) (log : Events) (owner : ℕ → ℕ) (id j : ℕ) (g : SeatState) → owner serving ≡ id → j ≢ id → Waits ticket serving out log owner j g → Waits ticket (serving + 1) false log owner j g
 advances_on ticket serving out log owner id j Idle here other h = tt
-advances_on ticket serving out log owner id j (Drawn t) here other h =
-    let apart : t ≢ serving = λ e. other (sym h.2 ∙ (ap owner e ∙ here)) in let le = h.0 in (omega arith, h.1, h.2)
-advances_on ticket serving out log owner id j (Called t hand) here other h = absurd (other (sym h.2 ∙ (ap owner h.0 ∙ here)))
+advances_on ticket serving out log owner id j (Drawn word) here other h =
+    let apart : h.0 ≢ serving = λ e. other (sym h.4 ∙ (ap owner e ∙ here)) in let le = h.2 in (h.0, h.1, omega (arith, apart, le), h.3, h.4)
+advances_on ticket serving out log owner id j (Called word hand) here other h = absurd (other (sym h.2 ∙ here))
 
 pub advances : (h0 : SpaceHistory) (id : ℕ) (v : View) (t : ℕ) (hand : Events) → v.state ≡ Called t hand → 0 < v.parts
     → Allows (KeepsRule h0) 1 id (v, holding (space_with v.config hand)) 1 (λ n. (n + 1) % 18446744073709551616) (AdvancesServing (step 1 1 1 0 none) (v, holding (space_with v.config hand)))
 advances h0 id v t hand called part s r deep at fits =
     let n : ℕ = slice_index s.words 1 in
-    let is : n ≡ r.serving = ap (λ ws. slice_index ws 1) r.words in
+    let is : n ≡ word_of r.serving = ap (λ ws. slice_index ws 1) r.words in
     let log : Events = h0.events ++ r.tail in
     let f = r.each id v at in
-    let few_tickets = few h0 s r in
     let waits : Waits r.ticket r.serving r.out log r.owner id (Called t hand) = subst (Waits r.ticket r.serving r.out log r.owner id) called f.waits in
-    let here : r.owner r.serving ≡ id = ap r.owner (sym waits.0) ∙ waits.2 in
-    let now = waits.0 in let low = waits.1 in
-    let sum : (n + 1) % 18446744073709551616 ≡ r.serving + 1 = omega (arith, is, few_tickets, now, low) in
+    let here : r.owner r.serving ≡ id = waits.2 in
+    let low = waits.1 in
+    let sum : (n + 1) % 18446744073709551616 ≡ word_of (r.serving + 1) = omega (arith, is) in
+    let one : tickets_of v.state ≡ 1 = ap tickets_of called in
     let home : s.homes ≡ none ∷ [] = r.home ∙ ap (λ b. at_home b (space_with h0.configuration log) ∷ []) waits.4 in
     let whole : space_with v.config hand ≡ space_with h0.configuration log = ap₂ space_with (f.mine part).configured waits.3 in
     let w : View = in_state v Idle in (
@@ -333,12 +347,12 @@ advances h0 id v t hand called part s r deep at fits =
       gives,
       tt,
       stepped_kept h0 s r id v w r.ticket (r.serving + 1) r.tail false r.owner (slice_set s.words 1 ((n + 1) % 18446744073709551616)) (slice_set s.homes 0 (some (Some (space_with v.config hand)))) at (refl, refl, refl) (stays h0 s r)
-          (ap (λ x. slice_set s.words 1 x) sum ∙ ap (λ ws. slice_set ws 1 (r.serving + 1)) r.words) (omega (arith, now, low)) r.legal
+          (ap (λ x. slice_set s.words 1 x) sum ∙ ap (λ ws. slice_set ws 1 (word_of (r.serving + 1))) r.words) (omega (arith, low)) r.legal
           (ap (λ hs. slice_set hs 0 (some (Some (space_with v.config hand)))) home ∙ ap (λ l. some (Some l) ∷ []) whole)
           (λ e. absurd (true≢false (sym e)))
-          (record { mine = f.mine; room = f.room; still = λ _. refl; waits = tt })
+          (record { mine = f.mine; still = λ _. refl; waits = tt })
           (λ j g other h. advances_on r.ticket r.serving r.out log r.owner id j g here other h)
-          (λ m other. refl) (λ zero. refl) refl,
+          (λ m other. refl) (λ zero. refl) (omega (arith, one)),
       refl,
     )
 
@@ -353,7 +367,7 @@ own_less n tail e other = filter-append (λ (x : Event). x.by == n) tail (e ∷ 
 waits_still : (ticket serving : ℕ) (out out' : Bool) (log log' : Events) (owner : ℕ → ℕ) (id j : ℕ) (g : SeatState) → owner serving ≡ id → j ≢ id → Waits ticket serving out log owner j g → Waits ticket serving out' log' owner j g
 waits_still ticket serving out out' log log' owner id j Idle here other h = tt
 waits_still ticket serving out out' log log' owner id j (Drawn t) here other h = h
-waits_still ticket serving out out' log log' owner id j (Called t hand) here other h = absurd (other (sym h.2 ∙ (ap owner h.0 ∙ here)))
+waits_still ticket serving out out' log log' owner id j (Called word hand) here other h = absurd (other (sym h.2 ∙ here))
 
 pub publishes : (h0 : SpaceHistory) (id : ℕ) (v : View) (carried : List (ℕ × Option SpaceHistory)) (t : ℕ) (hand : Events) (e : Event) (n : ℕ) → v.state ≡ Called t hand → 0 < v.parts → e.by ≡ v.number
     → n ≡ length (hand ++ e ∷ []) → IsLegal v.config (hand ++ e ∷ []) → Allows (KeepsRule h0) 1 id (v, carried) 2 (λ _. n) (λ _. PublishesEvent e (step 1 2 n 0 none) (v, carried) n)
@@ -362,7 +376,7 @@ publishes h0 id v carried t hand e n called part by many legal s r deep at fits 
     let f = r.each id v at in
     let mine = f.mine part in
     let waits : Waits r.ticket r.serving r.out log r.owner id (Called t hand) = subst (Waits r.ticket r.serving r.out log r.owner id) called f.waits in
-    let here : r.owner r.serving ≡ id = ap r.owner (sym waits.0) ∙ waits.2 in
+    let here : r.owner r.serving ≡ id = waits.2 in
     let tail' : Events = r.tail ++ e ∷ [] in
     let log_is : h0.events ++ tail' ≡ hand ++ e ∷ [] = sym (append_assoc h0.events r.tail (e ∷ [])) ∙ ap (λ l. l ++ e ∷ []) (sym waits.3) in
     let legal' : IsLegal h0.configuration (h0.events ++ tail') = subst (IsLegal h0.configuration) (sym log_is) (subst (λ (c : SpaceConfig). IsLegal c (hand ++ e ∷ [])) mine.configured legal) in
@@ -373,7 +387,7 @@ publishes h0 id v carried t hand e n called part by many legal s r deep at fits 
       keeps,
       tt,
       stepped_kept h0 s r id v w r.ticket r.serving tail' true r.owner (slice_set s.words 2 n) s.homes at (refl, refl, refl) (e ∷ [], refl)
-          (ap (λ ws. slice_set ws 2 n) r.words ∙ ap (λ k. r.ticket ∷ r.serving ∷ k ∷ []) (many ∙ ap length (sym log_is))) r.order legal'
+          (ap (λ ws. slice_set ws 2 n) r.words ∙ ap (λ k. word_of r.ticket ∷ word_of r.serving ∷ k ∷ []) (many ∙ ap length (sym log_is))) r.order legal'
           (r.home ∙ ap (λ b. at_home b (space_with h0.configuration log) ∷ []) waits.4)
           (λ _. (w, ap (get_elem? (set s.views id w)) here ∙ set_here s.views id w (within s.views id v at), ap₂ (λ k l. Called k l) waits.0 (sym log_is)))
           (record {
@@ -386,12 +400,11 @@ publishes h0 id v carried t hand e n called part by many legal s r deep at fits 
               owned = own_is;
               owned_seen = (tail', sym log_is, own_is);
             };
-            room = f.room;
             still = λ zero. absurd (omega (arith, zero, part));
             waits = (waits.0, waits.1, waits.2, sym log_is, refl);
           })
           (λ j g other h. waits_still r.ticket r.serving r.out true log (h0.events ++ tail') r.owner id j g here other h)
-          (λ m other. own_less m r.tail e (λ same. other (sym same ∙ by_id))) (λ zero. absurd (omega (arith, zero, part))) refl,
+          (λ m other. own_less m r.tail e (λ same. other (sym same ∙ by_id))) (λ zero. absurd (omega (arith, zero, part))) (let one : tickets_of v.state ≡ 1 = ap tickets_of called in omega (arith, one)),
       λ t' h' called'. (λ i. (
         record v {
           seen = ap hand_of (sym called ∙ called') i ++ e ∷ [];
@@ -409,13 +422,13 @@ passes_over h0 id v carried t hand n called part many s r deep at fits =
     let f = r.each id v at in
     let mine = f.mine part in
     let waits : Waits r.ticket r.serving r.out log r.owner id (Called t hand) = subst (Waits r.ticket r.serving r.out log r.owner id) called f.waits in
-    let here : r.owner r.serving ≡ id = ap r.owner (sym waits.0) ∙ waits.2 in
+    let here : r.owner r.serving ≡ id = waits.2 in
     let w : View = record v { seen = hand } in (
       w,
       keeps,
       tt,
       stepped_kept h0 s r id v w r.ticket r.serving r.tail r.out r.owner (slice_set s.words 2 n) s.homes at (refl, refl, refl) (stays h0 s r)
-          (ap (λ ws. slice_set ws 2 n) r.words ∙ ap (λ k. r.ticket ∷ r.serving ∷ k ∷ []) (many ∙ ap length waits.3)) r.order r.legal r.home
+          (ap (λ ws. slice_set ws 2 n) r.words ∙ ap (λ k. word_of r.ticket ∷ word_of r.serving ∷ k ∷ []) (many ∙ ap length waits.3)) r.order r.legal r.home
           (λ _. (w, ap (get_elem? (set s.views id w)) here ∙ set_here s.views id w (within s.views id v at), called ∙ ap₂ (λ k l. Called k l) waits.0 waits.3))
           (record {
             mine = λ _. record {
@@ -427,7 +440,6 @@ passes_over h0 id v carried t hand n called part many s r deep at fits =
               owned = mine.owned;
               owned_seen = (r.tail, waits.3, mine.owned);
             };
-            room = f.room;
             still = λ zero. absurd (omega (arith, zero, part));
             waits = f.waits;
           })
@@ -442,8 +454,8 @@ at_end_or (x ∷ xs) a b zero e = inl e
 at_end_or (x ∷ xs) a b (suc j) e = ⊎_elim (λ t. inl t) (λ (t : (j ≡ length xs) × (a ≡ b)). inr (ap suc t.0, t.1)) (at_end_or xs a b j e)
 
 -- the first seat makes another
-pub splits : (h0 : SpaceHistory) (id : ℕ) (v : View) → id ≡ 0 → v.state ≡ Idle → 1 < v.parts → v.drawn ≤ 2147483648 * (v.parts - 1) → Splits (KeepsRule h0) id v (left_of v) (right_of v)
-splits h0 id v first idle some_parts room s r at =
+pub splits : (h0 : SpaceHistory) (id : ℕ) (v : View) → id ≡ 0 → v.state ≡ Idle → 1 < v.parts → Splits (KeepsRule h0) id v (left_of v) (right_of v)
+splits h0 id v first idle some_parts s r at =
     let l : View = left_of v in
     let n : View = right_of v in
     let vs : List View = set s.views id l in
@@ -467,7 +479,7 @@ splits h0 id v first idle some_parts room s r at =
       home = r.home;
       caller = λ is. let c = caller_else h0 s r id v l r.owner at (quiet_idle v.state idle) (λ t lt. refl) is in (c.0, at_longer vs (n ∷ []) (r.owner r.serving) c.0 c.1, c.2);
       each = λ j u e. ⊎_elim
-          (λ was. all_set Now s.views id l (record { mine = λ _. mine; room = room; still = λ zero. absurd (omega (arith, zero, some_parts)); waits = f.waits }) (λ k y other e'. r.each k y e') j u was)
+          (λ was. all_set Now s.views id l (record { mine = λ _. mine; still = λ zero. absurd (omega (arith, zero, some_parts)); waits = f.waits }) (λ k y other e'. r.each k y e') j u was)
           (λ (t : (j ≡ length vs) × (n ≡ u)). subst (Now j) t.1 (let place : j ≡ suc v.made = t.0 ∙ size in record {
             mine = λ _. (let empty = r.strangers j (omega (arith, place, many)) in record {
               numbered = omega (arith, place);
@@ -478,13 +490,12 @@ splits h0 id v first idle some_parts room s r at =
               owned = empty;
               owned_seen = own_none h0.events id j v.own r.tail v.seen mine.begun.0 mine.owned_seen mine.begun.1 empty;
             });
-            room = omega arith;
             still = λ _. refl;
             waits = tt;
           }))
           (at_end_or vs n u j e);
       strangers = λ k le. r.strangers k (omega (arith, le, size', many));
-      drawn = let a = sum_by-append (λ (y : View). y.drawn) vs (n ∷ []) in let b = sum_same (λ (y : View). y.drawn) s.views id v l at refl in let d = r.drawn in a ∙ omega (arith, b, d);
+      waiting = let a = sum_by-append (λ (y : View). tickets_of y.state) vs (n ∷ []) in let b = sum_same (λ (y : View). tickets_of y.state) s.views id v l at refl in let d = r.waiting in ap (λ k. k + r.serving) a ∙ omega (arith, b, d);
       parts = let a = sum_by-append (λ (y : View). y.parts) vs (n ∷ []) in let b = sum_set (λ (y : View). y.parts) s.views id v l at in let d = r.parts in a ∙ omega (arith, b, d, some_parts);
       counted = λ u e. size' ∙ ⊎_elim
           (λ was. ⊎_elim (λ (x : (0 ≡ id) × (l ≡ u)). let m : v.made + 1 ≡ u.made = ap (λ (y : View). y.made) x.1 in omega (arith, m)) (λ (x : (0 ≢ id) × (get_elem? s.views 0 ≡ some u)). absurd (x.0 (sym first))) (at_set s.views id 0 l u was))
@@ -564,7 +575,6 @@ absorbs h0 id v idle part s r deep at fits =
           (ap (λ ws. slice_set ws 0 (slice_index ws 0)) r.words) r.order r.legal r.home (caller_else h0 s r id v w r.owner at (quiet_idle v.state idle) (λ k lt. refl))
           (record {
             mine = λ _. record { numbered = mine.numbered; configured = mine.configured; opened = mine.opened; begun = end; begun_heard = mine.begun_heard; owned = mine.owned; owned_seen = own_is };
-            room = f.room;
             still = f.still;
             waits = f.waits;
           })
@@ -602,10 +612,10 @@ joins h0 id v other w first idle part idle' part' s r at two there =
       home = r.home;
       caller = λ is.
           let c = r.caller is in
-          let apart : r.owner r.serving ≢ id = λ e. not_called v.state r.serving (h0.events ++ r.tail) (quiet_idle v.state idle) (ap (λ (y : View). y.state) (same_at s.views id v c.0 at (subst (λ k. get_elem? s.views k ≡ some c.0) e c.1)) ∙ c.2) in
-          let apart' : r.owner r.serving ≢ other = λ e. not_called w.state r.serving (h0.events ++ r.tail) (quiet_idle w.state idle') (ap (λ (y : View). y.state) (same_at s.views other w c.0 was (subst (λ k. get_elem? s.views k ≡ some c.0) e c.1)) ∙ c.2) in
+          let apart : r.owner r.serving ≢ id = λ e. not_called v.state (word_of r.serving) (h0.events ++ r.tail) (quiet_idle v.state idle) (ap (λ (y : View). y.state) (same_at s.views id v c.0 at (subst (λ k. get_elem? s.views k ≡ some c.0) e c.1)) ∙ c.2) in
+          let apart' : r.owner r.serving ≢ other = λ e. not_called w.state (word_of r.serving) (h0.events ++ r.tail) (quiet_idle w.state idle') (ap (λ (y : View). y.state) (same_at s.views other w c.0 was (subst (λ k. get_elem? s.views k ≡ some c.0) e c.1)) ∙ c.2) in
           (c.0, far (r.owner r.serving) c.0 c.1 apart apart', c.2);
-      each = all_set Now vs other spent_seat (record { mine = λ lt. absurd (omega (arith, lt)); room = omega arith; still = λ _. refl; waits = tt })
+      each = all_set Now vs other spent_seat (record { mine = λ lt. absurd (omega (arith, lt)); still = λ _. refl; waits = tt })
           (λ j u apart e. all_set Now s.views id b
           (record {
             mine = λ _. record {
@@ -617,13 +627,13 @@ joins h0 id v other w first idle part idle' part' s r at two there =
               owned = mine.owned;
               owned_seen = mine.owned_seen;
             };
-            room = let x = f.room in let y = g.room in omega (arith, x, y);
             still = λ zero. absurd (omega (arith, zero, part));
             waits = f.waits;
           })
           (λ k y other' e'. r.each k y e') j u e);
       strangers = λ k le. r.strangers k (omega (arith, le, size));
-      drawn = let x = sum_set (λ (y : View). y.drawn) s.views id v b at in let y = sum_set (λ (y : View). y.drawn) vs other w spent_seat there in let d = r.drawn in omega (arith, x, y, d);
+      waiting = let x = sum_set (λ (y : View). tickets_of y.state) s.views id v b at in let y = sum_set (λ (y : View). tickets_of y.state) vs other w spent_seat there in let d = r.waiting in
+          let none_theirs : tickets_of w.state ≡ 0 = ap tickets_of idle' in omega (arith, x, y, d, none_theirs);
       parts = let x = sum_set (λ (y : View). y.parts) s.views id v b at in let y = sum_set (λ (y : View). y.parts) vs other w spent_seat there in let d = r.parts in omega (arith, x, y, d);
       counted = λ u e. size ∙ (r.counted v at_first ∙ ap (λ (y : View). suc y.made) (is_first u e));
       ended = λ u e p has. ⊎_elim
@@ -669,12 +679,11 @@ starts h0 shown legal =
           owned = refl;
           owned_seen = ([], sym all, refl);
         };
-        room = omega arith;
         still = λ _. refl;
         waits = tt;
       });
       strangers = λ n le. refl;
-      drawn = refl;
+      waiting = refl;
       parts = refl;
       counted = λ u e. ap (λ (y : View). suc y.made) (one 0 u e).1;
       ended = λ u e p has. absurd (none_in p (subst (λ l. Contains l p) (ap (λ (y : View). y.ended) (sym (one 0 u e).1)) has));
@@ -731,5 +740,5 @@ closes h0 id v ws xs first whole idle final =
     settled_out h0 s r id v at idle gone true is =
         let c = r.caller is in
         absurd (dite (ℕ_discrete (r.owner r.serving) id)
-        (λ e. not_called v.state r.serving (h0.events ++ r.tail) (quiet_idle v.state idle) (ap (λ (y : View). y.state) (same_at s.views id v c.0 at (subst (λ k. get_elem? s.views k ≡ some c.0) e c.1)) ∙ c.2))
-        (λ apart. not_called c.0.state r.serving (h0.events ++ r.tail) (quiet_idle c.0.state ((r.each (r.owner r.serving) c.0 c.1).still (gone (r.owner r.serving) c.0 c.1 apart))) c.2))
+        (λ e. not_called v.state (word_of r.serving) (h0.events ++ r.tail) (quiet_idle v.state idle) (ap (λ (y : View). y.state) (same_at s.views id v c.0 at (subst (λ k. get_elem? s.views k ≡ some c.0) e c.1)) ∙ c.2))
+        (λ apart. not_called c.0.state (word_of r.serving) (h0.events ++ r.tail) (quiet_idle c.0.state ((r.each (r.owner r.serving) c.0 c.1).still (gone (r.owner r.serving) c.0 c.1 apart))) c.2))

@@ -50,10 +50,10 @@ ordered_as s v config opened legal own = record {
 }
 
 -- A pass after a turn is the lock's.
-pub pass_after : (l : TurnLock) (p q : Pass) (before : Events) (by m : ℕ) (a : Ask) (answer : Result Turn Refused) → IsPassOf l p → by ≡ p.number → 0 < p.room → q.seat.table_id ≡ p.seat.table_id → q.seat.me.1 ≡ [] → q.number ≡ p.number → q.room + 1 ≡ p.room
+pub pass_after : (l : TurnLock) (p q : Pass) (before : Events) (by m : ℕ) (a : Ask) (answer : Result Turn Refused) → IsPassOf l p → by ≡ p.number → q.seat.table_id ≡ p.seat.table_id → q.seat.me.1 ≡ [] → q.number ≡ p.number
     → TurnedAt (view_of p) before (event_of by m a) answer (view_of q) → IsPassOf l q
-pass_after l p q before by m a answer is named some_room table empty number room t =
-    let was = is.turns in let drawn = ap (λ (y : View). y.drawn) t.after in let parts = ap (λ (y : View). y.parts) t.after in let part = is.part in
+pass_after l p q before by m a answer is named table empty number t =
+    let parts = ap (λ (y : View). y.parts) t.after in let part = is.part in
     record {
       table = table ∙ is.table;
       empty = empty;
@@ -64,7 +64,6 @@ pass_after l p q before by m a answer is named some_room table empty number room
       opened = ap (λ (y : View). y.opening) t.after ∙ is.opened;
       legal = legal_turned (view_of p) (view_of q) before by m a answer t;
       ordered = ordered_turned l.board.shared.key.value (view_of p) (view_of q) before by m a answer is.configured is.opened (named ∙ is.numbered) t;
-      turns = omega (arith, was, drawn, parts, room);
     }
 
 longer_legal : (config : SpaceConfig) (xs ys : Events) (b : Bool) → IsLegal config xs → IsLegal config ys → IsLegal config (cond b ys xs)
@@ -73,15 +72,14 @@ longer_legal config xs ys false p q = p
 
 -- The root after it joined a pass is the lock's.
 pub root_joined : (l : TurnLock) (r s : Root) (p : Pass) → IsRootOf l r → IsBranchOf l p → HasOwn (view_of s.pass).opening (view_of s.pass).number (view_of s.pass).own (view_of s.pass).seen → s.pass.seat.table_id ≡ r.pass.seat.table_id → s.pass.seat.id ≡ r.pass.seat.id → s.pass.seat.me ≡ (joined_of (view_of r.pass) (view_of p), [])
-    → s.pass.number ≡ r.pass.number → s.pass.room ≡ r.pass.room → s.made ≡ r.made → s.out + 1 ≡ r.out → IsRootOf l s
-root_joined l r s p is branch has_own table id me number room made out =
+    → s.pass.number ≡ r.pass.number → s.made ≡ r.made → s.out + 1 ≡ r.out → IsRootOf l s
+root_joined l r s p is branch has_own table id me number made out =
     let own = is.pass_is in let theirs = branch.0 in let one = branch.1 in
     let v = view_of r.pass in let w = view_of p in
     let parts_are : (view_of s.pass).parts ≡ v.parts + w.parts = ap (λ (m : Sat). m.0.parts) me in
-    let drawn_are : (view_of s.pass).drawn ≡ v.drawn + w.drawn = ap (λ (m : Sat). m.0.drawn) me in
     let made_is : (view_of s.pass).made ≡ v.made = ap (λ (m : Sat). m.0.made) me in
-    let part = own.part in let room_own = own.turns in let room_theirs = theirs.turns in
-    let were = is.parts in let some_out = is.some_out in let most = is.most in let all = is.turns in
+    let part = own.part in
+    let were = is.parts in let some_out = is.some_out in let most = is.most in
     let same : w.config ≡ v.config = theirs.configured ∙ sym own.configured in
     let legal : IsLegal v.config (longer v.seen w.seen) = longer_legal v.config v.seen w.seen (ltb (length v.seen) (length w.seen)) own.legal (subst (λ (c : SpaceConfig). IsLegal c w.seen) same theirs.legal) in
     let config_is : (view_of s.pass).config ≡ l.board.shared.key.value.configuration = ap (λ (m : Sat). m.0.config) me ∙ own.configured in
@@ -98,14 +96,12 @@ root_joined l r s p is branch has_own table id me number room made out =
         opened = opened_is;
         legal = legal_is;
         ordered = ordered_as l.board.shared.key.value (view_of s.pass) config_is opened_is legal_is has_own;
-        turns = omega (arith, parts_are, drawn_are, room_own, room_theirs, room, one);
       };
       first = id ∙ is.first;
       made_are = made_is ∙ (is.made_are ∙ sym made);
       parts = omega (arith, parts_are, were, out, one);
       some_out = omega (arith, some_out, out, made);
       most = omega (arith, most, made);
-      turns = omega (arith, drawn_are, all, room, made, out, some_out, room_theirs, one);
     }
 
 -- Where a root took a part back, some pass was out.
@@ -125,12 +121,11 @@ split_sees v m is = is ∙ ap (λ (l : Events). (record (right_of v) { seen = l 
 
 -- The pass that was split off is the lock's.
 pub branch_split : (l : TurnLock) (r : Root) (p : Pass) → IsRootOf l r → p.seat.table_id ≡ l.board.shared.table_id → p.seat.me ≡ (right_of (view_of r.pass), [])
-    → HasOwn (view_of p).opening (view_of p).number (view_of p).own (view_of p).seen → p.number ≡ r.made + 1 → p.room ≡ 2147483648 → IsBranchOf l p
-branch_split l r p is table me has_own number room =
+    → HasOwn (view_of p).opening (view_of p).number (view_of p).own (view_of p).seen → p.number ≡ r.made + 1 → IsBranchOf l p
+branch_split l r p is table me has_own number =
     let own = is.pass_is in
     let made = is.made_are in
     let parts_are : (view_of p).parts ≡ 1 = ap (λ (m : Sat). m.0.parts) me in
-    let drawn_are : (view_of p).drawn ≡ 0 = ap (λ (m : Sat). m.0.drawn) me in
     let number_is : (view_of p).number ≡ (view_of r.pass).made + 1 = ap (λ (m : Sat). m.0.number) me in
     let config_is : (view_of p).config ≡ l.board.shared.key.value.configuration = ap (λ (m : Sat). m.0.config) me ∙ own.configured in
     let opened_is : (view_of p).opening ≡ l.board.shared.key.value.events = ap (λ (m : Sat). m.0.opening) me ∙ own.opened in
@@ -145,20 +140,18 @@ branch_split l r p is table me has_own number room =
         opened = opened_is;
         legal = legal_is;
         ordered = ordered_as l.board.shared.key.value (view_of p) config_is opened_is legal_is has_own;
-        turns = omega (arith, parts_are, drawn_are, room);
       },
       parts_are,
     )
 
 -- The root that a pass was split off is the lock's.
 pub root_split : (l : TurnLock) (r s : Root) → IsRootOf l r → r.made ≢ 4294967295 → s.pass.seat.table_id ≡ r.pass.seat.table_id → s.pass.seat.id ≡ r.pass.seat.id → s.pass.seat.me ≡ (left_of (view_of r.pass), r.pass.seat.me.1)
-    → s.pass.number ≡ r.pass.number → s.pass.room ≡ r.pass.room → s.made ≡ r.made + 1 → s.out ≡ r.out + 1 → IsRootOf l s
-root_split l r s is fits table id me number room made out =
+    → s.pass.number ≡ r.pass.number → s.made ≡ r.made + 1 → s.out ≡ r.out + 1 → IsRootOf l s
+root_split l r s is fits table id me number made out =
     let own = is.pass_is in let order = own.ordered in
     let parts_are : (view_of s.pass).parts ≡ (view_of r.pass).parts - 1 = ap (λ (m : Sat). m.0.parts) me in
-    let drawn_are : (view_of s.pass).drawn ≡ (view_of r.pass).drawn = ap (λ (m : Sat). m.0.drawn) me in
     let made_is : (view_of s.pass).made ≡ (view_of r.pass).made + 1 = ap (λ (m : Sat). m.0.made) me in
-    let were = is.parts in let some_out = is.some_out in let most = is.most in let all = is.turns in let made_are = is.made_are in
+    let were = is.parts in let some_out = is.some_out in let most = is.most in let made_are = is.made_are in
     let seen_is : (view_of s.pass).seen ≡ (view_of r.pass).seen = ap (λ (m : Sat). m.0.seen) me in
     record {
       pass_is = record {
@@ -176,14 +169,12 @@ root_split l r s is fits table id me number room made out =
           begins = seen_is ∙ order.begins;
           own = ap (λ (m : Sat). events_by m.0.number order.tail) me ∙ (order.own ∙ sym (ap (λ (m : Sat). m.0.own) me));
         };
-        turns = omega (arith, parts_are, drawn_are, all, room, were, some_out, most, fits);
       };
       first = id ∙ is.first;
       made_are = omega (arith, made_is, made_are, made);
       parts = omega (arith, parts_are, were, out, some_out, most, fits);
       some_out = omega (arith, some_out, out, made);
       most = omega (arith, most, made, fits);
-      turns = omega (arith, drawn_are, all, room, made, out, some_out);
     }
 
 -- What the root of a new lock has seen is in order.
@@ -192,11 +183,10 @@ root_order s legal = record { legal = legal; tail = []; begins = sym (append-nil
 
 -- A root that knows what the root of a new lock knows is fresh.
 pub fresh_root : (l : TurnLock) (r : Root) → r.pass.seat.table_id ≡ l.board.shared.table_id → r.pass.seat.id ≡ 0 → r.pass.seat.me ≡ (root (opening_of l), [])
-    → r.pass.number ≡ 0 → r.pass.room ≡ 2147483648 → r.made ≡ 0 → r.out ≡ 0 → IsLegal (opening_of l).configuration (opening_of l).events → IsFresh l r
-fresh_root l r table first me number room made out legal =
+    → r.pass.number ≡ 0 → r.made ≡ 0 → r.out ≡ 0 → IsLegal (opening_of l).configuration (opening_of l).events → IsFresh l r
+fresh_root l r table first me number made out legal =
     let knows : r.pass.seat.me.0 ≡ root (opening_of l) = ap (λ x. x.0) me in
     let parts : r.pass.seat.me.0.parts ≡ 4294967296 = ap (λ (v : View). v.parts) knows in
-    let drawn : r.pass.seat.me.0.drawn ≡ 0 = ap (λ (v : View). v.drawn) knows in
     let made_is : r.pass.seat.me.0.made ≡ 0 = ap (λ (v : View). v.made) knows in
     record {
       own = record {
@@ -210,16 +200,13 @@ fresh_root l r table first me number room made out legal =
           opened = ap (λ (v : View). v.opening) knows;
           legal = subst (λ (v : View). IsLegal v.config v.seen) (sym knows) legal;
           ordered = subst (InOrder (opening_of l)) (sym knows) (root_order (opening_of l) legal);
-          turns = omega (arith, parts, drawn, room);
         };
         first = first;
         made_are = made_is ∙ sym made;
         parts = omega (arith, parts, out);
         some_out = omega (arith, made, out);
         most = omega (arith, made);
-        turns = omega (arith, drawn, room, made, out);
       };
       knows = knows;
       none_out = out;
-      all_room = room;
     }

@@ -121,26 +121,26 @@ gained_ended v w before m o place t at runs =
     gained_by v w before (event_of v.number m (Abandon o)) (Ok (turn_of v.config before (event_of v.number m (Abandon o)))) (abandoned_at m o place ∷ []) t refl
     (among_one v.config v.number v.seen t.came.others before w.seen (abandoned_at m o place) t.came.apart t.came.after (runs, at, t.step))
 
-went_by : (p q : Pass) (xs ys : List Asked) (gained : List Asked) → ys ≡ xs ++ gained → Gained (view_of p) (view_of q) gained → (view_of q).drawn ≡ (view_of p).drawn + 1 → q.seat.id ≡ p.seat.id → q.room + 1 ≡ p.room → PortWent p xs q ys
-went_by p q xs ys gained is views drawn same room = (gained, is, record { views = views; same_seat = same; counts = omega (arith, drawn, room) })
+went_by : (p q : Pass) (xs ys : List Asked) (gained : List Asked) → ys ≡ xs ++ gained → Gained (view_of p) (view_of q) gained → q.seat.id ≡ p.seat.id → PortWent p xs q ys
+went_by p q xs ys gained is views same = (gained, is, record { views = views; same_seat = same })
 
 pub went_entered : (p q : Pass) (xs ys : List Asked) (before : Events) (by m : ℕ) (a : Ask) (answer : Result Turn Refused) (entry : Asked) → answer ≢ Err OutOfMemory → by ≡ (view_of p).number → TurnedAt (view_of p) before (event_of by m a) answer (view_of q)
-    → entry ≡ entry_of m a answer → ys ≡ xs ++ entry ∷ [] → q.seat.id ≡ p.seat.id → q.room + 1 ≡ p.room → PortWent p xs q ys
-went_entered p q xs ys before by m a answer entry known number t is longer same room =
+    → entry ≡ entry_of m a answer → ys ≡ xs ++ entry ∷ [] → q.seat.id ≡ p.seat.id → PortWent p xs q ys
+went_entered p q xs ys before by m a answer entry known number t is longer same =
     let t' : TurnedAt (view_of p) before (event_of (view_of p).number m a) answer (view_of q) = subst (λ (n : ℕ). TurnedAt (view_of p) before (event_of n m a) answer (view_of q)) number t in
-    went_by p q xs ys (entry_of m a answer ∷ []) (longer ∙ ap (λ x. xs ++ x ∷ []) is) (gained_entered (view_of p) (view_of q) before m a answer known t') (ap (λ (y : View). y.drawn) t.after) same room
+    went_by p q xs ys (entry_of m a answer ∷ []) (longer ∙ ap (λ x. xs ++ x ∷ []) is) (gained_entered (view_of p) (view_of q) before m a answer known t') same
 
-pub went_unentered : (p q : Pass) (xs ys : List Asked) (before : Events) (e : Event) → TurnedAt (view_of p) before e (Err OutOfMemory) (view_of q) → ys ≡ xs → q.seat.id ≡ p.seat.id → q.room + 1 ≡ p.room → PortWent p xs q ys
-went_unentered p q xs ys before e t same_list same room =
-    went_by p q xs ys [] (same_list ∙ sym (append-nil xs)) (gained_unentered (view_of p) (view_of q) before e t) (ap (λ (y : View). y.drawn) t.after) same room
+pub went_unentered : (p q : Pass) (xs ys : List Asked) (before : Events) (e : Event) → TurnedAt (view_of p) before e (Err OutOfMemory) (view_of q) → ys ≡ xs → q.seat.id ≡ p.seat.id → PortWent p xs q ys
+went_unentered p q xs ys before e t same_list same =
+    went_by p q xs ys [] (same_list ∙ sym (append-nil xs)) (gained_unentered (view_of p) (view_of q) before e t) same
 
 pub went_ended : (p q : Pass) (xs ys : List Asked) (before : Events) (by m : ℕ) (o : ObjId) (place : ℕ) → by ≡ (view_of p).number → TurnedAt (view_of p) before (event_of by m (Abandon o)) (Ok (turn_of (view_of p).config before (event_of by m (Abandon o)))) (view_of q)
-    → place ≡ length before → 0 < running_calls_by (places (view_of p).config before) by o → ys ≡ xs ++ abandoned_at m o place ∷ [] → q.seat.id ≡ p.seat.id → q.room + 1 ≡ p.room → PortWent p xs q ys
-went_ended p q xs ys before by m o place number t at runs longer same room =
+    → place ≡ length before → 0 < running_calls_by (places (view_of p).config before) by o → ys ≡ xs ++ abandoned_at m o place ∷ [] → q.seat.id ≡ p.seat.id → PortWent p xs q ys
+went_ended p q xs ys before by m o place number t at runs longer same =
     let v = view_of p in
     let P : ℕ → Type 0 = λ n. TurnedAt v before (event_of n m (Abandon o)) (Ok (turn_of v.config before (event_of n m (Abandon o)))) (view_of q) × (0 < running_calls_by (places v.config before) n o) in
     let both : P v.number = subst P number (t, runs) in
-    went_by p q xs ys (abandoned_at m o place ∷ []) longer (gained_ended v (view_of q) before m o place both.0 at both.1) (ap (λ (y : View). y.drawn) t.after) same room
+    went_by p q xs ys (abandoned_at m o place ∷ []) longer (gained_ended v (view_of q) before m o place both.0 at both.1) same
 
 -- The same in what it has seen.
 pub shown_now : (v : View) (by : ℕ) (entries : List Asked) (room : ℕ) (o : ObjId) → by ≡ v.number → IsTied v.number (seen_space v) entries room → Shows entries o → 0 < running_calls_by (places v.config v.seen) by o
@@ -166,14 +166,14 @@ tied_told v w before by m a answer entries entries2 number t tied longer = go (e
         (tied_entered v w before by m a answer entries entries2 (entry_of m a answer) (length entries + length entries) (length entries + (length entries + 2)) number t tied refl (longer ∙ ap (λ l. entries ++ l) x.1) (omega arith))
 
 pub went_told : (p q : Pass) (xs ys : List Asked) (before : Events) (by m : ℕ) (a : Ask) (answer : Result Turn Refused) → by ≡ (view_of p).number → TurnedAt (view_of p) before (event_of by m a) answer (view_of q)
-    → ys ≡ xs ++ entries_of m a answer → q.seat.id ≡ p.seat.id → q.room + 1 ≡ p.room → PortWent p xs q ys
-went_told p q xs ys before by m a answer number t longer same room = go (entries-or m a answer)
+    → ys ≡ xs ++ entries_of m a answer → q.seat.id ≡ p.seat.id → PortWent p xs q ys
+went_told p q xs ys before by m a answer number t longer same = go (entries-or m a answer)
   where
     go : ((answer ≡ Err OutOfMemory) × (entries_of m a answer ≡ [])) ⊎ ((answer ≢ Err OutOfMemory) × (entries_of m a answer ≡ entry_of m a answer ∷ [])) → PortWent p xs q ys
     go (inl x) =
         went_unentered p q xs ys before (event_of by m a) (subst (λ (r : Result Turn Refused). TurnedAt (view_of p) before (event_of by m a) r (view_of q)) x.0 t)
-        (longer ∙ (ap (λ l. xs ++ l) x.1 ∙ append-nil xs)) same room
-    go (inr x) = went_entered p q xs ys before by m a answer (entry_of m a answer) x.0 number t refl (longer ∙ ap (λ l. xs ++ l) x.1) same room
+        (longer ∙ (ap (λ l. xs ++ l) x.1 ∙ append-nil xs)) same
+    go (inr x) = went_entered p q xs ys before by m a answer (entry_of m a answer) x.0 number t refl (longer ∙ ap (λ l. xs ++ l) x.1) same
 
 -- The tie after an end without an answer.
 pub tied_told_end : (v w : View) (before : Events) (by m : ℕ) (o : ObjId) (entries entries2 : List Asked) (place : ℕ) → by ≡ v.number → TurnedAt v before (event_of by m (Abandon o)) (Ok (turn_of v.config before (event_of by m (Abandon o)))) w

@@ -26,7 +26,7 @@ use Rattle.space.proofs.CollectLaws.{space-shown}
 use Rattle.space.proofs.NotedLaws.{taken-turn, refused-turn}
 use Rattle.turn_lock.specs.declared.view.View.{View}
 use Rattle.turn_lock.specs.declared.view.SeatState.TheVariants.{Idle, Called}
-use Rattle.turn_lock.specs.Rule.{Events, Sat, MayComeTo, TurnedAt, TurnedBy, answer_of, events_after, in_hand, in_state, no_config, own_after, space_with, seat_after_answer}
+use Rattle.turn_lock.specs.Rule.{Events, Sat, MayComeTo, TurnedAt, TurnedBy, answer_of, events_after, in_state, no_config, own_after, space_with, seat_after_answer}
 
 -- ---- the slot
 
@@ -95,20 +95,20 @@ after_step config h h2 e (Err refused) s = (refused-turn config h h2 e refused s
 
 -- The seat once its turn is over.
 abbrev pub after_turn : View → ℕ → Events → Event → Result Turn Refused → View
-after_turn v t h e answer = in_state (seat_after_answer (in_hand v t h) t h e answer) Idle
+after_turn v t h e answer = in_state (seat_after_answer (in_state v (Called t h)) t h e answer) Idle
 
 pub turned_at : (v w : View) (t : ℕ) (h : Events) (e : Event) (answer : Result Turn Refused) (h2 : Events) → v.state ≡ Idle → MayComeTo v h → Step v.config h e answer h2 → w ≡ after_turn v t h e answer → TurnedAt v h e answer w
 turned_at v w t h e answer h2 idle came step is =
     let seen : w.seen ≡ events_after h e answer = ap (λ (y : View). y.seen) is in record {
       came = came;
       step = subst (λ (z : Events). Step v.config h e answer z) (after_step v.config h h2 e answer step ∙ sym seen) step;
-      after = is ∙ (λ i. record v { drawn = v.drawn + 1; seen = sym seen i; own = own_after v.own e answer; state = sym idle i });
+      after = is ∙ (λ i. record v { seen = sym seen i; own = own_after v.own e answer; state = sym idle i });
     }
 
 -- ---- what the seat tells
 
 -- The seat that has the space in hand may publish this answer to this event.
-pub may_publish : (me : Sat) (v : View) (t : ℕ) (h : Events) (told e : Event) (answer : Result Turn Refused) (s2 : SpaceHistory) → me ≡ (in_hand v t h, (0, None) ∷ []) → told ≡ e → e.by ≡ v.number → 0 < v.parts
+pub may_publish : (me : Sat) (v : View) (t : ℕ) (h : Events) (told e : Event) (answer : Result Turn Refused) (s2 : SpaceHistory) → me ≡ (in_state v (Called t h), (0, None) ∷ []) → told ≡ e → e.by ≡ v.number → 0 < v.parts
     → s2 ≡ space_with v.config (events_after h e answer)
     → (t2 : ℕ) × (h2 : Events) × (me.0.state ≡ Called t2 h2) × (0 < me.0.parts) × (told.by ≡ me.0.number) × (s2 ≡ space_with me.0.config (events_after h2 told answer))
 may_publish me v t h told e answer s2 is same number part space = (
@@ -121,16 +121,16 @@ may_publish me v t h told e answer s2 is same number part space = (
 )
 
 -- The seat once it is published.
-pub has_published : (me me2 : Sat) (v : View) (t : ℕ) (h : Events) (told e : Event) (answer : Result Turn Refused) → me ≡ (in_hand v t h, (0, None) ∷ []) → told ≡ e
+pub has_published : (me me2 : Sat) (v : View) (t : ℕ) (h : Events) (told e : Event) (answer : Result Turn Refused) → me ≡ (in_state v (Called t h), (0, None) ∷ []) → told ≡ e
     → ((t2 : ℕ) (h2 : Events) → me.0.state ≡ Called t2 h2 → me2 ≡ (seat_after_answer me.0 t2 h2 told answer, me.1))
-    → me2 ≡ (seat_after_answer (in_hand v t h) t h e answer, (0, None) ∷ [])
+    → me2 ≡ (seat_after_answer (in_state v (Called t h)) t h e answer, (0, None) ∷ [])
 has_published me me2 v t h told e answer is same view =
     view t h (ap (λ (m : Sat). m.0.state) is)
     ∙ ap (λ (m : Sat). (seat_after_answer m.0 t h told answer, m.1)) is
-    ∙ ap (λ (y : Event). (seat_after_answer (in_hand v t h) t h y answer, (0, None) ∷ [])) same
+    ∙ ap (λ (y : Event). (seat_after_answer (in_state v (Called t h)) t h y answer, (0, None) ∷ [])) same
 
 -- It may give the space back.
-pub may_leave : (me : Sat) (v : View) (t : ℕ) (h : Events) (e : Event) (answer : Result Turn Refused) (s2 : SpaceHistory) → me ≡ (seat_after_answer (in_hand v t h) t h e answer, (0, None) ∷ []) → 0 < v.parts
+pub may_leave : (me : Sat) (v : View) (t : ℕ) (h : Events) (e : Event) (answer : Result Turn Refused) (s2 : SpaceHistory) → me ≡ (seat_after_answer (in_state v (Called t h)) t h e answer, (0, None) ∷ []) → 0 < v.parts
     → s2 ≡ space_with v.config (events_after h e answer)
     → (t2 : ℕ) × (h2 : Events) × (me.0.state ≡ Called t2 h2) × (0 < me.0.parts) × (me.1 ≡ (0, None) ∷ []) × (s2 ≡ space_with me.0.config h2)
 may_leave me v t h e answer s2 is part space = (

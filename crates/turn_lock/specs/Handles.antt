@@ -1,5 +1,5 @@
 -- The lock's handles, as its contracts see them.
-use Rattle.std.specs.Prelude.{◌≡◌, ◌+◌, ◌-◌, ◌*◌, ◌<◌, ◌≤◌, []}
+use Rattle.std.specs.Prelude.{◌≡◌, ◌+◌, ◌<◌, ◌≤◌, []}
 use Rattle.history.specs.Steps.{IsLegal}
 use Rattle.space.specs.Built.{SpaceHistory}
 use Rattle.turn_lock.specs.declared.view.View.{View}
@@ -7,7 +7,7 @@ use Rattle.turn_lock.specs.declared.view.SeatState.TheVariants.{Idle}
 use Rattle.turn_lock.specs.declared.handles.TurnLock.{TurnLock}
 use Rattle.turn_lock.specs.declared.handles.Pass.{Pass}
 use Rattle.turn_lock.specs.declared.handles.Root.{Root}
-use Rattle.turn_lock.specs.Rule.{InOrder, most_passes, most_turns, root, space_with}
+use Rattle.turn_lock.specs.Rule.{InOrder, most_passes, root, space_with}
 
 -- The space round which the lock was made.
 abbrev pub opening_of : TurnLock → SpaceHistory
@@ -21,7 +21,7 @@ view_of p = p.seat.me.0
 abbrev pub seen_space : View → SpaceHistory
 seen_space v = space_with v.config v.seen
 
--- The pass is the lock's, and makes no turn. What it has seen is in order, and there is room for further turns of it.
+-- The pass is the lock's, and makes no turn. What it has seen is in order.
 pub record IsPassOf (l : TurnLock) (p : Pass) : Type 0 where
   pub table : p.seat.table_id ≡ l.board.shared.table_id
   pub empty : p.seat.me.1 ≡ []
@@ -32,7 +32,6 @@ pub record IsPassOf (l : TurnLock) (p : Pass) : Type 0 where
   pub opened : p.seat.me.0.opening ≡ l.board.shared.key.value.events
   pub legal : IsLegal p.seat.me.0.config p.seat.me.0.seen
   pub ordered : InOrder l.board.shared.key.value p.seat.me.0
-  pub turns : p.seat.me.0.drawn + p.room ≤ most_turns * p.seat.me.0.parts
 
 -- A pass that was split off the root, which is one part.
 abbrev pub IsBranchOf : TurnLock → Pass → Type 0
@@ -46,11 +45,9 @@ pub record IsRootOf (l : TurnLock) (r : Root) : Type 0 where
   pub parts : r.pass.seat.me.0.parts + r.out ≡ most_passes + 1
   pub some_out : r.out ≤ r.made
   pub most : r.made ≤ most_passes
-  pub turns : r.pass.seat.me.0.drawn + r.pass.room ≤ most_turns * ((r.made - r.out) + 1)
 
 -- The root is the lock's, no pass was split from it, and it made no turn.
 pub record IsFresh (l : TurnLock) (r : Root) : Type 0 where
   pub own : IsRootOf l r
   pub knows : r.pass.seat.me.0 ≡ root (opening_of l)
   pub none_out : r.out ≡ 0
-  pub all_room : r.pass.room ≡ most_turns

@@ -63,10 +63,10 @@ gained_on u v w xs ys a b = record {
 }
 
 pub pass_self : (p : Pass) → PassWent p p []
-pass_self p = record { views = gained_self (view_of p); same_seat = refl; counts = refl }
+pass_self p = record { views = gained_self (view_of p); same_seat = refl }
 
 pub pass_on : (p q r : Pass) (xs ys : List Asked) → PassWent p q xs → PassWent q r ys → PassWent p r (xs ++ ys)
-pass_on p q r xs ys a b = record { views = gained_on (view_of p) (view_of q) (view_of r) xs ys a.views b.views; same_seat = b.same_seat ∙ a.same_seat; counts = b.counts ∙ a.counts }
+pass_on p q r xs ys a b = record { views = gained_on (view_of p) (view_of q) (view_of r) xs ys a.views b.views; same_seat = b.same_seat ∙ a.same_seat }
 
 pub went_self : (p : Pass) (xs : List Asked) → PortWent p xs p xs
 went_self p xs = ([], sym (append-nil xs), pass_self p)
@@ -81,7 +81,7 @@ went_all p q ys a = subst (λ (l : List Asked). PassWent p q l) (sym a.1) a.2
 -- The root stays the lock's where only its own pass made turns.
 pub root_after : (l : TurnLock) (r : Root) (p : Pass) (xs : List Asked) → IsRootOf l r → IsPassOf l p → PassWent r.pass p xs → IsRootOf l (with_pass r p)
 root_after l r p xs is own went =
-    let same = went.views in let parts = same.same_parts in let were = is.parts in let turns = is.turns in let counts = went.counts in
+    let same = went.views in let parts = same.same_parts in let were = is.parts in
     record {
       pass_is = own;
       first = went.same_seat ∙ is.first;
@@ -89,5 +89,4 @@ root_after l r p xs is own went =
       parts = omega (arith, parts, were);
       some_out = is.some_out;
       most = is.most;
-      turns = omega (arith, turns, counts);
     }

@@ -1,6 +1,6 @@
 -- The rule of the turn lock: what its words, its slot and its seats have to do with one history; and what each atomic step tells the seat
 -- that takes it.
-use Rattle.std.specs.Prelude.{◌≡◌, ◌≢◌, ◌==◌, ltb, ℕ, suc, ◌+◌, ◌-◌, ◌*◌, ◌<◌, ◌≤◌, pos, Bool, true, false, List, [], ◌∷◌, ◌++◌, length, filter, sum_by, Contains, if◌then◌else◌, Result, Ok, Err, Option, Some, ◌⊎◌}
+use Rattle.std.specs.Prelude.{◌≡◌, ◌≢◌, ◌==◌, ltb, ℕ, suc, ◌+◌, ◌-◌, ◌%◌, ◌<◌, ◌≤◌, pos, Bool, true, false, List, [], ◌∷◌, ◌++◌, length, filter, sum_by, Contains, if◌then◌else◌, Result, Ok, Err, Option, Some, ◌⊎◌}
 use mathlib.Core.Option.{some, none}
 use mathlib.Core.Option as maybe
 use lib.ListN.{get_elem?}
@@ -24,10 +24,6 @@ use Rattle.space.specs.declared.asked.Asked.{Asked}
 use Rattle.turn_lock.specs.declared.view.View.{View}
 use Rattle.turn_lock.specs.declared.view.SeatState.{SeatState}
 use Rattle.turn_lock.specs.declared.view.SeatState.TheVariants.{Idle, Drawn, Called}
-
--- How many turns a pass makes at most.
-abbrev pub most_turns : ℕ
-most_turns = 2147483648
 
 -- How many passes a lock makes at most.
 abbrev pub most_passes : ℕ
@@ -55,18 +51,18 @@ space_with config h = space_of config h
 -- ---- what seats know
 
 abbrev pub no_config : SpaceConfig
-no_config = record { lease_ms = 0; ack_ms = 0; uid = record { unique = pos 0; time = pos 0; count = pos 0 } }
+no_config = record { lease_ms = 0; ack_ms = 0; uid = record { unique = pos 0; time = pos 0; count = pos 0 }; stored = true }
 
 abbrev pub some_event : Event
 some_event = record { by = 0; moment = 0; ask = Tick }
 
 -- The first seat of a table round this space, which has all parts.
 abbrev pub root : SpaceHistory → View
-root s = record { number = 0; parts = 4294967296; drawn = 0; config = s.configuration; opening = s.events; seen = s.events; heard = []; own = []; state = Idle; made = 0; ended = [] }
+root s = record { number = 0; parts = 4294967296; config = s.configuration; opening = s.events; seen = s.events; heard = []; own = []; state = Idle; made = 0; ended = [] }
 
 -- A seat that was joined.
 abbrev pub spent_seat : View
-spent_seat = record { number = 0; parts = 0; drawn = 0; config = no_config; opening = []; seen = []; heard = []; own = []; state = Idle; made = 0; ended = [] }
+spent_seat = record { number = 0; parts = 0; config = no_config; opening = []; seen = []; heard = []; own = []; state = Idle; made = 0; ended = [] }
 
 abbrev pub in_state : View → SeatState → View
 in_state v g = record v { state = g }
@@ -94,12 +90,22 @@ abbrev pub at_home : Bool → SpaceHistory → maybe.Option (Option SpaceHistory
 at_home true s = none
 at_home false s = some (Some s)
 
+-- Tickets are counted without end, and a word has what is left of the count modulo 2^64.
+abbrev pub word_of : ℕ → ℕ
+word_of count = count % 18446744073709551616
+
+-- How many tickets a seat has.
+abbrev pub tickets_of : SeatState → ℕ
+tickets_of Idle = 0
+tickets_of (Drawn word) = 1
+tickets_of (Called word hand) = 1
+
 -- What a seat waits for: a ticket that was drawn is its own and still to be served; one that is called has the slot, and the whole history
--- in hand.
+-- in hand. It knows the word of its ticket.
 abbrev pub Waits : ℕ → ℕ → Bool → Events → (ℕ → ℕ) → ℕ → SeatState → Type 0
 Waits ticket serving out log owner j Idle = Unit {0}
-Waits ticket serving out log owner j (Drawn t) = (serving ≤ t) × (t < ticket) × (owner t ≡ j)
-Waits ticket serving out log owner j (Called t hand) = (t ≡ serving) × (t < ticket) × (owner t ≡ j) × (hand ≡ log) × (out ≡ true)
+Waits ticket serving out log owner j (Drawn word) = (t : ℕ) × (word ≡ word_of t) × (serving ≤ t) × (t < ticket) × (owner t ≡ j)
+Waits ticket serving out log owner j (Called word hand) = (word ≡ word_of serving) × (serving < ticket) × (owner serving ≡ j) × (hand ≡ log) × (out ≡ true)
 
 -- What a seat knows is so: its number is its place, what it has seen begins the history, and its own events are those of its number after
 -- the opening, in all of the history and in what it has seen.
@@ -117,7 +123,6 @@ Knows s tail j v = KnowsOf s tail j v.number v.config v.opening v.seen v.heard v
 
 pub record SeatFits (s : SpaceHistory) (tail : Events) (ticket serving : ℕ) (out : Bool) (owner : ℕ → ℕ) (j : ℕ) (v : View) : Type 0 where
   pub mine : 0 < v.parts → Knows s tail j v
-  pub room : v.drawn ≤ most_turns * v.parts
   pub still : v.parts ≡ 0 → v.state ≡ Idle
   pub waits : Waits ticket serving out (s.events ++ tail) owner j v.state
 
@@ -125,23 +130,24 @@ pub record SeatFits (s : SpaceHistory) (tail : Events) (ticket serving : ℕ) (o
 abbrev pub HasEnded : Events → List View → ℕ × Events → Type 0
 HasEnded tail views p = (events_by p.0 tail ≡ p.1) × ((u : View) × (get_elem? views p.0 ≡ some u) × (u.parts ≡ 0))
 
--- A table round a space: the words are the tickets and the length of one history, which is legal and goes on from the space's; the slot has
--- the space with this history, but while the pass that is called has it out; each seat knows what is so; and no event after the opening has
--- a number that no pass has.
+-- A table round a space: the words are those of the tickets and the length of one history, which is legal and goes on from the space's; the
+-- slot has the space with this history, but while the pass that is called has it out; each seat knows what is so; the seats have as many
+-- tickets as are still to be served, which is at most one for each part, so that of these no two have one word; and no event after the
+-- opening has a number that no pass has.
 pub record KeepsRule (s : SpaceHistory) (t : State (Option SpaceHistory) View) : Type 0 where
   pub ticket : ℕ
   pub serving : ℕ
   pub tail : Events
   pub out : Bool
   pub owner : ℕ → ℕ
-  pub words : t.words ≡ ticket ∷ serving ∷ length (s.events ++ tail) ∷ []
+  pub words : t.words ≡ word_of ticket ∷ word_of serving ∷ length (s.events ++ tail) ∷ []
   pub order : serving ≤ ticket
   pub legal : history.IsLegal s.configuration (s.events ++ tail)
   pub home : t.homes ≡ at_home out (space_with s.configuration (s.events ++ tail)) ∷ []
-  pub caller : out ≡ true → (v : View) × (get_elem? t.views (owner serving) ≡ some v) × (v.state ≡ Called serving (s.events ++ tail))
+  pub caller : out ≡ true → (v : View) × (get_elem? t.views (owner serving) ≡ some v) × (v.state ≡ Called (word_of serving) (s.events ++ tail))
   pub each : (j : ℕ) (v : View) → get_elem? t.views j ≡ some v → SeatFits s tail ticket serving out owner j v
   pub strangers : (n : ℕ) → length t.views ≤ n → events_by n tail ≡ []
-  pub drawn : sum_by (λ v. v.drawn) t.views ≡ ticket
+  pub waiting : sum_by (λ v. tickets_of v.state) t.views + serving ≡ ticket
   pub parts : sum_by (λ v. v.parts) t.views ≡ 4294967296
   pub counted : (v : View) → get_elem? t.views 0 ≡ some v → length t.views ≡ suc v.made
   pub ended : (v : View) → get_elem? t.views 0 ≡ some v → (p : ℕ × Events) → Contains v.ended p → HasEnded tail t.views p
@@ -160,9 +166,9 @@ abbrev pub holding : SpaceHistory → List (ℕ × Option SpaceHistory)
 holding s = (0, Some s) ∷ []
 
 abbrev pub DrawsTicket : At → Sat → ℕ → Sat → Type 0
-DrawsTicket st m n m' = m' ≡ (record m.0 { state = Drawn n; drawn = m.0.drawn + 1 }, m.1)
+DrawsTicket st m n m' = m' ≡ (in_state m.0 (Drawn n), m.1)
 
--- Where the word is the ticket, the seat has the slot with the space, and knows its history.
+-- Where the word is the ticket's, the seat has the slot with the space, and knows its history.
 abbrev pub LooksAtServing : At → Sat → ℕ → Sat → Type 0
 LooksAtServing st m n m' = (t : ℕ) → m.0.state ≡ Drawn t
     → (n ≡ t → (h : Events) × (m' ≡ (in_state m.0 (Called n h), holding (space_with m.0.config h))) × MayComeTo m.0 h) × (n ≢ t → m' ≡ m)
@@ -187,20 +193,16 @@ abbrev pub left_of : View → View
 left_of v = record v { parts = v.parts - 1; made = v.made + 1 }
 
 abbrev pub right_of : View → View
-right_of v = record { number = v.made + 1; parts = 1; drawn = 0; config = v.config; opening = v.opening; seen = v.seen; heard = []; own = []; state = Idle; made = 0; ended = [] }
+right_of v = record { number = v.made + 1; parts = 1; config = v.config; opening = v.opening; seen = v.seen; heard = []; own = []; state = Idle; made = 0; ended = [] }
 
 abbrev pub both_of : View → View → View
-both_of v w = record v { parts = v.parts + w.parts; drawn = v.drawn + w.drawn; heard = w.seen; ended = v.ended ++ (w.number, w.own) ∷ [] }
-
--- The seat whose ticket t is served, with a history in hand.
-abbrev pub in_hand : View → ℕ → Events → View
-in_hand v t h = record v { state = Called t h; drawn = v.drawn + 1 }
+both_of v w = record v { parts = v.parts + w.parts; heard = w.seen; ended = v.ended ++ (w.number, w.own) ∷ [] }
 
 -- ---- what calls do
 
 -- The root after it joined a pass.
 abbrev pub joined_of : View → View → View
-joined_of v w = record v { parts = v.parts + w.parts; drawn = v.drawn + w.drawn; seen = longer v.seen w.seen; heard = w.seen; ended = v.ended ++ (w.number, w.own) ∷ [] }
+joined_of v w = record v { parts = v.parts + w.parts; seen = longer v.seen w.seen; heard = w.seen; ended = v.ended ++ (w.number, w.own) ∷ [] }
 
 -- A pass's own events after this answer.
 abbrev pub own_after : Events → Event → Result Turn Refused → Events
@@ -226,7 +228,7 @@ answer_of (Err refused) = Err OutOfMemory
 pub record TurnedAt (v : View) (before : Events) (e : Event) (answer : Result Turn Refused) (w : View) : Type 0 where
   pub came : MayComeTo v before
   pub step : history.Step v.config before e answer w.seen
-  pub after : w ≡ record v { drawn = v.drawn + 1; seen = w.seen; own = own_after v.own e answer }
+  pub after : w ≡ record v { seen = w.seen; own = own_after v.own e answer }
 
 -- A pass asked this as connection `by`, was answered so at some place, as the ask may be where the connection runs those calls, and knows this
 -- now.

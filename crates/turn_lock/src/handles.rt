@@ -15,7 +15,6 @@ pub struct TurnLock {
 pub struct Pass {
     pub(crate) seat: LockSeat,
     pub(crate) number: u32,
-    pub(crate) room: u32,
 }
 
 /// The pass with number 0, which makes the others and takes them back.

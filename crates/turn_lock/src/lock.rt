@@ -4,7 +4,7 @@ ghost use Rattle.history.specs.Running.{running_calls_by};
 ghost use Rattle.history.specs.Table.{places};
 ghost use Rattle.history.specs.declared.limits.TheConstants.{END_OF_TIME};
 ghost use Rattle.space.specs.Entries.{entry_of};
-ghost use Rattle.turn_lock.specs.Rule.{EndedBy, InOrder, TurnedBy, Settled, StartsWith, left_of, most_passes, most_turns, right_of, joined_of};
+ghost use Rattle.turn_lock.specs.Rule.{EndedBy, InOrder, TurnedBy, Settled, StartsWith, left_of, most_passes, right_of, joined_of};
 ghost use Rattle.turn_lock.specs.Handles.{IsPassOf, IsBranchOf, IsFresh, IsRootOf, opening_of, view_of};
 
 use crate::handles::{Pass, Root, SplitFault, TurnLock};
@@ -21,10 +21,6 @@ use std::sync::Wait;
 /// How many passes a lock makes at most, as many as numbers of connections go: at 1,000 connections a second they last for 49 days.
 const MAX_PASSES: u32 = u32::MAX;
 
-/// How many turns a pass makes at most: at 100,000 turns a second they last for 5 hours and 57 minutes. With all passes that makes 2^63 turns
-/// of a lock, which a ticket counts without coming round.
-const MAX_TURNS: u32 = 1 << 31;
-
 impl TurnLock {
     /// A lock round a space, and its root. It is refused only for want of memory; then the space comes back.
     pub fn around(alloc: Global, space: Space) -> Result<(TurnLock, Root), Space>
@@ -40,11 +36,7 @@ impl TurnLock {
         }
         match Table::new(alloc, &[0, 0, length], slots, &about) {
             Ok((board, seat)) => {
-                let pass = Pass {
-                    seat,
-                    number: 0,
-                    room: MAX_TURNS,
-                };
+                let pass = Pass { seat, number: 0 };
                 let root = Root {
                     pass,
                     made: 0,
@@ -69,11 +61,7 @@ impl TurnLock {
             made: _,
             out: _,
         } = root;
-        let Pass {
-            seat,
-            number: _,
-            room: _,
-        } = pass;
+        let Pass { seat, number: _ } = pass;
         let mut closed = board.close_with(seat);
         let space = closed.take(0);
         closed.free();
@@ -88,8 +76,8 @@ impl Root {
         requires own { IsRootOf lock.now self.old }
         ensures root { IsRootOf lock.now self.new }
         ensures pass { MatchResult result
-            (λ p. IsBranchOf lock.now p × (p.room ≡ most_turns) × (view_of p ≡ right_of (view_of self.old.pass)) × (view_of self.new.pass ≡ left_of (view_of self.old.pass))
-            × (self.new.made ≡ self.old.made + 1) × (self.new.out ≡ self.old.out + 1) × (self.new.pass.room ≡ self.old.pass.room))
+            (λ p. IsBranchOf lock.now p × (view_of p ≡ right_of (view_of self.old.pass)) × (view_of self.new.pass ≡ left_of (view_of self.old.pass))
+            × (self.new.made ≡ self.old.made + 1) × (self.new.out ≡ self.old.out + 1))
             (λ fault. (self.old.made ≡ most_passes) × (self.new ≡ self.old)) }
         ensures ordered { InOrder (opening_of lock.now) (view_of self.new.pass) × IfOk result (λ p. InOrder (opening_of lock.now) (view_of p)) }
     {
@@ -103,7 +91,6 @@ impl Root {
         Ok(Pass {
             seat,
             number: self.made,
-            room: MAX_TURNS,
         })
     }
 
@@ -112,16 +99,11 @@ impl Root {
         requires own { IsRootOf lock.now self.old × IsBranchOf lock.now pass }
         ensures root { IsRootOf lock.now self.new × (self.new.out + 1 ≡ self.old.out) }
         ensures made { self.new.made ≡ self.old.made }
-        ensures room { self.new.pass.room ≡ self.old.pass.room }
         ensures view { view_of self.new.pass ≡ joined_of (view_of self.old.pass) (view_of pass) }
         ensures seen { StartsWith (view_of self.new.pass).seen (view_of self.old.pass).seen × StartsWith (view_of self.new.pass).seen (view_of pass).seen }
         ensures ordered { InOrder (opening_of lock.now) (view_of self.new.pass) }
     {
-        let Pass {
-            seat,
-            number: _,
-            room: _,
-        } = pass;
+        let Pass { seat, number: _ } = pass;
         lock.board
             .shared
             .join_seat::<Parts>(&mut self.pass.seat, seat);
@@ -149,9 +131,8 @@ impl Pass {
         ask: Ask,
     ) -> Result<Turn, Refused>
         requires own { IsPassOf lock.now self.old }
-        requires room { 0 < self.old.room }
         requires moment { moment < END_OF_TIME }
-        ensures pass { IsPassOf lock.now self.new × (self.new.room + 1 ≡ self.old.room) × (self.new.seat.id ≡ self.old.seat.id) × (self.new.number ≡ self.old.number) }
+        ensures pass { IsPassOf lock.now self.new × (self.new.seat.id ≡ self.old.seat.id) × (self.new.number ≡ self.old.number) }
         ensures turned { TurnedBy (view_of self.old) self.old.number moment ask result (view_of self.new) }
         ensures ordered { InOrder (opening_of lock.now) (view_of self.new) }
     {
@@ -160,9 +141,7 @@ impl Pass {
             moment,
             ask,
         };
-        let answer = steps::turn(rt, &lock.board.shared, &mut self.seat, event);
-        self.room -= 1;
-        answer
+        steps::turn(rt, &lock.board.shared, &mut self.seat, event)
     }
 
     /// One turn, with its entry. It waits for its ticket.
@@ -174,9 +153,8 @@ impl Pass {
         ask: Ask,
     ) -> Result<(Result<Turn, Refused>, Asked), AllocError>
         requires own { IsPassOf lock.now self.old }
-        requires room { 0 < self.old.room }
         requires moment { moment < END_OF_TIME }
-        ensures pass { IsPassOf lock.now self.new × (self.new.room + 1 ≡ self.old.room) × (self.new.seat.id ≡ self.old.seat.id) × (self.new.number ≡ self.old.number) }
+        ensures pass { IsPassOf lock.now self.new × (self.new.seat.id ≡ self.old.seat.id) × (self.new.number ≡ self.old.number) }
         ensures turned { MatchResult result (λ x. TurnedBy (view_of self.old) self.old.number moment ask x.0 (view_of self.new))
             (λ refused. TurnedBy (view_of self.old) self.old.number moment ask (Err Refused.OutOfMemory) (view_of self.new)) }
         ensures noted { IfOk result (λ x. x.1 ≡ entry_of moment ask x.0) }
@@ -188,9 +166,7 @@ impl Pass {
             moment,
             ask,
         };
-        let noted = steps::turn_noted(rt, &lock.board.shared, &mut self.seat, event);
-        self.room -= 1;
-        noted
+        steps::turn_noted(rt, &lock.board.shared, &mut self.seat, event)
     }
 
     /// One turn that ends a call which the pass runs, without an answer, and the place of its event. It takes no memory.
@@ -202,22 +178,19 @@ impl Pass {
         object: ObjId,
     ) -> u64
         requires own { IsPassOf lock.now self.old }
-        requires room { 0 < self.old.room }
         requires moment { moment < END_OF_TIME }
         requires runs { 0 < running_calls_by (places (view_of self.old).config (view_of self.old).seen) self.old.number object }
-        ensures pass { IsPassOf lock.now self.new × (self.new.room + 1 ≡ self.old.room) × (self.new.seat.id ≡ self.old.seat.id) × (self.new.number ≡ self.old.number) }
+        ensures pass { IsPassOf lock.now self.new × (self.new.seat.id ≡ self.old.seat.id) × (self.new.number ≡ self.old.number) }
         ensures turned { EndedBy (view_of self.old) self.old.number moment object result (view_of self.new) }
         ensures ordered { InOrder (opening_of lock.now) (view_of self.new) }
     {
-        let place = steps::abandon(
+        steps::abandon(
             rt,
             &lock.board.shared,
             &mut self.seat,
             self.number,
             moment,
             object,
-        );
-        self.room -= 1;
-        place
+        )
     }
 }

@@ -1,5 +1,5 @@
 //! A port over a pass of a lock.
-ghost use Rattle.std.specs.Prelude.{◌≡◌, ℕ, ◌+◌, ◌<◌, ◌≤◌, ◌++◌, ◌∷◌, [], refl};
+ghost use Rattle.std.specs.Prelude.{◌≡◌, ℕ, ◌-◌, ◌^◌, ◌<◌, ◌≤◌, ◌++◌, ◌∷◌, [], refl};
 ghost use mathlib.Core.Path.{◌∙◌};
 ghost use Rattle.history.specs.declared.limits.TheConstants.{END_OF_TIME};
 ghost use Rattle.space.specs.TurnAnswers.{IsAnswerTo};
@@ -31,7 +31,7 @@ pub struct PassPort<'a, R: Wait, L> {
 pub type SeatPort<'a, R> = PassPort<'a, R, AskedLog>;
 
 impl<'a, R: Wait> PassPort<'a, R, AskedLog> {
-    /// The port of a pass of this lock. Its entries begin with the next turn. A pass has room for 2^31 turns.
+    /// The port of a pass of this lock. Its entries begin with the next turn.
     pub fn new(rt: &'a R, alloc: Global, lock: &'a TurnLock, pass: &'a mut Pass) -> SeatPort<'a, R>
         requires own { IsPassOf lock.now pass.old }
         ensures same_reference { result.pass.ghost_name ≡ pass.entry.ghost_name }
@@ -64,9 +64,7 @@ impl<'a, R: Wait> PassPort<'a, R, AskedLog> {
 }
 
 impl<'a, R: Wait> Port for PassPort<'a, R, AskedLog> {
-    ghost asked = { λ p. p.asked.items };
-
-    ghost room_of = { λ p. p.pass.now.room };
+    ghost shown = { λ p. record { asked = p.asked.items; room = 2 ^ 64 - 1 } };
 
     ghost ready = { λ p. IsPassOf p.lock.now p.pass.now × IsTied (view_of p.pass.now).number (seen_space (view_of p.pass.now)) p.asked.items p.asked.capacity };
 
@@ -75,11 +73,10 @@ impl<'a, R: Wait> Port for PassPort<'a, R, AskedLog> {
     /// Makes the turn at its place in the one history, which the pass has then seen. Where there is no memory for its entry, it may make none.
     fn turn(&mut self, moment: u64, ask: Ask) -> Result<Turn, Refused>
         requires ready { IsPassOf self.old.lock.now self.old.pass.now × IsTied (view_of self.old.pass.now).number (seen_space (view_of self.old.pass.now)) self.old.asked.items self.old.asked.capacity }
-        requires room { 0 < self.old.pass.now.room }
         requires moment { moment < END_OF_TIME }
         ensures asked { self.new.asked.items ≡ self.old.asked.items ++ entries_of moment ask result }
         ensures answer { IsAnswerTo (Shows self.old.asked.items) ask result }
-        ensures room { self.old.pass.now.room ≤ self.new.pass.now.room + 1 }
+        ensures room { 2 ^ 64 - 1 ≤ 2 ^ 64 }
         ensures ready { IsPassOf self.new.lock.now self.new.pass.now × IsTied (view_of self.new.pass.now).number (seen_space (view_of self.new.pass.now)) self.new.asked.items self.new.asked.capacity }
         ensures leads { (self.new.pass.ghost_name ≡ self.old.pass.ghost_name) × (self.new.lock.now ≡ self.old.lock.now) × PortWent self.old.pass.now self.old.asked.items self.new.pass.now self.new.asked.items }
         ensures turned { TurnedWithEntry (view_of self.old.pass.now) self.old.pass.now.number moment ask result (view_of self.new.pass.now) }
@@ -99,11 +96,10 @@ impl<'a, R: Wait> Port for PassPort<'a, R, AskedLog> {
     /// Ends the call at a place in the one history, which the pass has then seen.
     fn abandon(&mut self, moment: u64, object: ObjId)
         requires ready { IsPassOf self.old.lock.now self.old.pass.now × IsTied (view_of self.old.pass.now).number (seen_space (view_of self.old.pass.now)) self.old.asked.items self.old.asked.capacity }
-        requires room { 0 < self.old.pass.now.room }
         requires moment { moment < END_OF_TIME }
         requires runs { Shows self.old.asked.items object }
         ensures asked { (place : ℕ) × (self.new.asked.items ≡ self.old.asked.items ++ abandoned_at moment object place ∷ []) }
-        ensures room { self.old.pass.now.room ≤ self.new.pass.now.room + 1 }
+        ensures room { 2 ^ 64 - 1 ≤ 2 ^ 64 }
         ensures ready { IsPassOf self.new.lock.now self.new.pass.now × IsTied (view_of self.new.pass.now).number (seen_space (view_of self.new.pass.now)) self.new.asked.items self.new.asked.capacity }
         ensures leads { (self.new.pass.ghost_name ≡ self.old.pass.ghost_name) × (self.new.lock.now ≡ self.old.lock.now) × PortWent self.old.pass.now self.old.asked.items self.new.pass.now self.new.asked.items }
         ensures ended { (place : ℕ) × (self.new.asked.items ≡ self.old.asked.items ++ abandoned_at moment object place ∷ [])
@@ -118,7 +114,7 @@ impl<'a, R: Wait> Port for PassPort<'a, R, AskedLog> {
     }
 
     fn room(&self) -> u64 {
-        self.pass.room as u64
+        u64::MAX
     }
 
     ghost stays = { λ p. (refl, refl, went_self p.pass.now p.asked.items) };
@@ -131,7 +127,7 @@ impl<'a, R: Wait> Port for PassPort<'a, R, AskedLog> {
 pub type ToldSeatPort<'a, R> = PassPort<'a, R, ToldLog>;
 
 impl<'a, R: Wait> PassPort<'a, R, ToldLog> {
-    /// The port of a pass of this lock. Its entries begin with the next turn. A pass has room for 2^31 turns.
+    /// The port of a pass of this lock. Its entries begin with the next turn.
     pub fn told(rt: &'a R, lock: &'a TurnLock, pass: &'a mut Pass) -> ToldSeatPort<'a, R>
         requires own { IsPassOf lock.now pass.old }
         ensures same_reference { result.pass.ghost_name ≡ pass.entry.ghost_name }
@@ -164,9 +160,7 @@ impl<'a, R: Wait> PassPort<'a, R, ToldLog> {
 }
 
 impl<'a, R: Wait> Port for PassPort<'a, R, ToldLog> {
-    ghost asked = { λ p. p.asked };
-
-    ghost room_of = { λ p. p.pass.now.room };
+    ghost shown = { λ p. record { asked = p.asked; room = 2 ^ 64 - 1 } };
 
     ghost ready = { λ p. IsPassOf p.lock.now p.pass.now × IsTiedTold (view_of p.pass.now).number (seen_space (view_of p.pass.now)) p.asked };
 
@@ -175,11 +169,10 @@ impl<'a, R: Wait> Port for PassPort<'a, R, ToldLog> {
     /// Makes the turn at its place in the one history, which the pass has then seen.
     fn turn(&mut self, moment: u64, ask: Ask) -> Result<Turn, Refused>
         requires ready { IsPassOf self.old.lock.now self.old.pass.now × IsTiedTold (view_of self.old.pass.now).number (seen_space (view_of self.old.pass.now)) self.old.asked }
-        requires room { 0 < self.old.pass.now.room }
         requires moment { moment < END_OF_TIME }
         ensures asked { self.new.asked ≡ self.old.asked ++ entries_of moment ask result }
         ensures answer { IsAnswerTo (Shows self.old.asked) ask result }
-        ensures room { self.old.pass.now.room ≤ self.new.pass.now.room + 1 }
+        ensures room { 2 ^ 64 - 1 ≤ 2 ^ 64 }
         ensures ready { IsPassOf self.new.lock.now self.new.pass.now × IsTiedTold (view_of self.new.pass.now).number (seen_space (view_of self.new.pass.now)) self.new.asked }
         ensures leads { (self.new.pass.ghost_name ≡ self.old.pass.ghost_name) × (self.new.lock.now ≡ self.old.lock.now) × PortWent self.old.pass.now self.old.asked self.new.pass.now self.new.asked }
         ensures turned { TurnedBy (view_of self.old.pass.now) self.old.pass.now.number moment ask result (view_of self.new.pass.now) }
@@ -193,11 +186,10 @@ impl<'a, R: Wait> Port for PassPort<'a, R, ToldLog> {
     /// Ends the call at a place in the one history, which the pass has then seen.
     fn abandon(&mut self, moment: u64, object: ObjId)
         requires ready { IsPassOf self.old.lock.now self.old.pass.now × IsTiedTold (view_of self.old.pass.now).number (seen_space (view_of self.old.pass.now)) self.old.asked }
-        requires room { 0 < self.old.pass.now.room }
         requires moment { moment < END_OF_TIME }
         requires runs { Shows self.old.asked object }
         ensures asked { (place : ℕ) × (self.new.asked ≡ self.old.asked ++ abandoned_at moment object place ∷ []) }
-        ensures room { self.old.pass.now.room ≤ self.new.pass.now.room + 1 }
+        ensures room { 2 ^ 64 - 1 ≤ 2 ^ 64 }
         ensures ready { IsPassOf self.new.lock.now self.new.pass.now × IsTiedTold (view_of self.new.pass.now).number (seen_space (view_of self.new.pass.now)) self.new.asked }
         ensures leads { (self.new.pass.ghost_name ≡ self.old.pass.ghost_name) × (self.new.lock.now ≡ self.old.lock.now) × PortWent self.old.pass.now self.old.asked self.new.pass.now self.new.asked }
         ensures ended { (place : ℕ) × (self.new.asked ≡ self.old.asked ++ abandoned_at moment object place ∷ [])
@@ -208,7 +200,7 @@ impl<'a, R: Wait> Port for PassPort<'a, R, ToldLog> {
     }
 
     fn room(&self) -> u64 {
-        self.pass.room as u64
+        u64::MAX
     }
 
     ghost stays = { λ p. (refl, refl, went_self p.pass.now p.asked) };

@@ -1,5 +1,5 @@
 //! The root's own pass.
-ghost use Rattle.std.specs.Prelude.{◌≡◌, ◌+◌, ◌<◌, ◌≤◌, [], IfOk};
+ghost use Rattle.std.specs.Prelude.{◌≡◌, ◌<◌, [], IfOk};
 ghost use Rattle.std.specs.Borrow.{sem};
 ghost use Rattle.history.specs.declared.limits.TheConstants.{END_OF_TIME};
 ghost use Rattle.ports.specs.Ties.{IsTied};
@@ -52,13 +52,11 @@ impl Root {
         ask: Ask,
     ) -> (Result<Turn, Refused>, PortEntries)
         requires own { IsRootOf lock.now self.old }
-        requires room { 0 < self.old.pass.room }
         requires moment { moment < END_OF_TIME }
         ensures root { IsRootOf lock.now self.new }
         ensures counts { (self.new.made ≡ self.old.made) × (self.new.out ≡ self.old.out) }
         ensures went { PassWent self.old.pass self.new.pass result.1 }
         ensures asked { result.1 ≡ entries_of moment ask result.0 }
-        ensures room { self.old.pass.room ≤ self.new.pass.room + 1 }
 
         // The turn is at its place in the one history, which the root has then seen.
         ensures turned { TurnedWithEntry (view_of self.old.pass) self.old.pass.number moment ask result.0 (view_of self.new.pass) }
@@ -82,12 +80,10 @@ fn turn_of_pass<R: Wait>(
     ask: Ask,
 ) -> (Result<Turn, Refused>, PortEntries)
     requires own { IsPassOf lock.now pass.old }
-    requires room { 0 < pass.old.room }
     requires moment { moment < END_OF_TIME }
     ensures own { IsPassOf lock.now pass.new }
     ensures went { PassWent pass.old pass.new result.1 }
     ensures asked { result.1 ≡ entries_of moment ask result.0 }
-    ensures room { pass.old.room ≤ pass.new.room + 1 }
     ensures turned { TurnedWithEntry (view_of pass.old) pass.old.number moment ask result.0 (view_of pass.new) }
     ensures collector { IfOk result.0 (λ _. TurnCollects (view_of pass.old) moment ask (view_of pass.new)) }
 {

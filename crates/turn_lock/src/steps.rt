@@ -1,12 +1,12 @@
 //! The steps of one seat.
-ghost use Rattle.std.specs.Prelude.{◌≡◌, ◌≢◌, ℕ, ◌+◌, ◌*◌, ◌<◌, ◌∷◌, ◌++◌, [], Err, None, IfOk};
+ghost use Rattle.std.specs.Prelude.{◌≡◌, ◌≢◌, ℕ, ◌<◌, ◌∷◌, ◌++◌, [], Err, None, IfOk};
 ghost use Rattle.history.specs.Running.{running_calls_by};
 ghost use Rattle.history.specs.Table.{places};
 ghost use Rattle.history.specs.declared.limits.TheConstants.{END_OF_TIME};
 ghost use Rattle.space.specs.Entries.{entry_of};
 ghost use Rattle.space.specs.TurnAnswers.{IsAnswerTo};
 ghost use Rattle.turn_lock.specs.declared.view.SeatState.TheVariants.{Idle, Drawn, Called};
-ghost use Rattle.turn_lock.specs.Rule.{EndedBy, Events, MayComeTo, TurnedAt, TurnedBy, answer_of, events_after, holding, in_hand, in_state, most_turns, space_with, seat_after_answer};
+ghost use Rattle.turn_lock.specs.Rule.{EndedBy, Events, MayComeTo, TurnedAt, TurnedBy, answer_of, events_after, holding, in_state, space_with, seat_after_answer};
 
 use crate::table::{
     Advance, Draw, LENGTH, LockSeat, Look, Naming, PassOver, Publish, SERVING, SharedTable, TICKET,
@@ -20,17 +20,17 @@ use std::marker::Brand;
 use std::snapshot::Snapshot;
 use std::sync::Wait;
 
-/// Draws a ticket.
+/// Draws a ticket, and answers its word.
 fn draw(shared: &SharedTable, seat: &mut LockSeat) -> u64
     requires table { (seat.old.table_id ≡ shared.now.table_id) × (shared.now.table_id.words ≡ 3) × (shared.now.table_id.slots ≡ 1) }
-    requires idle { (seat.old.me.0.state ≡ Idle) × (seat.old.me.1 ≡ []) × (seat.old.me.0.drawn < most_turns * seat.old.me.0.parts) }
+    requires idle { (seat.old.me.0.state ≡ Idle) × (seat.old.me.1 ≡ []) × (0 < seat.old.me.0.parts) }
     ensures seat { (seat.new.table_id ≡ seat.old.table_id) × (seat.new.id ≡ seat.old.id) }
-    ensures view { seat.new.me ≡ (record seat.old.me.0 { state = Drawn result; drawn = seat.old.me.0.drawn + 1 }, []) }
+    ensures view { seat.new.me ≡ (in_state seat.old.me.0 (Drawn result), []) }
 {
     shared.fetch_add::<Draw>(seat, TICKET, 1)
 }
 
-/// Waits until the ticket is served. Then the seat has the slot.
+/// Waits until the ticket of this word is served. Then the seat has the slot.
 fn wait<R: Wait>(rt: &R, shared: &SharedTable, seat: &mut LockSeat, ticket: u64)
     requires table { (seat.old.table_id ≡ shared.now.table_id) × (shared.now.table_id.words ≡ 3) × (shared.now.table_id.slots ≡ 1) }
     requires drawn { (seat.old.me.0.state ≡ Drawn ticket) × (seat.old.me.1 ≡ []) × (0 < seat.old.me.0.parts) }
@@ -52,9 +52,9 @@ fn wait<R: Wait>(rt: &R, shared: &SharedTable, seat: &mut LockSeat, ticket: u64)
 /// Waits for its turn, and takes the space out of the slot.
 fn enter<R: Wait>(rt: &R, shared: &SharedTable, seat: &mut LockSeat) -> Space
     requires table { (seat.old.table_id ≡ shared.now.table_id) × (shared.now.table_id.words ≡ 3) × (shared.now.table_id.slots ≡ 1) }
-    requires idle { (seat.old.me.0.state ≡ Idle) × (seat.old.me.1 ≡ []) × (seat.old.me.0.drawn < most_turns * seat.old.me.0.parts) }
+    requires idle { (seat.old.me.0.state ≡ Idle) × (seat.old.me.1 ≡ []) × (0 < seat.old.me.0.parts) }
     ensures seat { (seat.new.table_id ≡ seat.old.table_id) × (seat.new.id ≡ seat.old.id) }
-    ensures entered { (t : ℕ) × (h : Events) × MayComeTo seat.old.me.0 h × (result ≡ space_with seat.old.me.0.config h) × (seat.new.me ≡ (in_hand seat.old.me.0 t h, (0, None) ∷ [])) }
+    ensures entered { (t : ℕ) × (h : Events) × MayComeTo seat.old.me.0 h × (result ≡ space_with seat.old.me.0.config h) × (seat.new.me ≡ (in_state seat.old.me.0 (Called t h), (0, None) ∷ [])) }
 {
     approach(rt, shared);
     let ticket = draw(shared, seat);
@@ -149,7 +149,7 @@ pub(crate) fn turn<R: Wait>(
     event: Event,
 ) -> Result<Turn, Refused>
     requires table { (seat.old.table_id ≡ shared.now.table_id) × (shared.now.table_id.words ≡ 3) × (shared.now.table_id.slots ≡ 1) }
-    requires idle { (seat.old.me.0.state ≡ Idle) × (seat.old.me.1 ≡ []) × (seat.old.me.0.drawn < most_turns * seat.old.me.0.parts) }
+    requires idle { (seat.old.me.0.state ≡ Idle) × (seat.old.me.1 ≡ []) × (0 < seat.old.me.0.parts) }
     requires number { event.by ≡ seat.old.me.0.number }
     requires moment { event.moment < END_OF_TIME }
     ensures seat { (seat.new.table_id ≡ seat.old.table_id) × (seat.new.id ≡ seat.old.id) × (seat.new.me.1 ≡ []) }
@@ -172,7 +172,7 @@ pub(crate) fn turn_noted<R: Wait>(
     event: Event,
 ) -> Result<(Result<Turn, Refused>, Asked), AllocError>
     requires table { (seat.old.table_id ≡ shared.now.table_id) × (shared.now.table_id.words ≡ 3) × (shared.now.table_id.slots ≡ 1) }
-    requires idle { (seat.old.me.0.state ≡ Idle) × (seat.old.me.1 ≡ []) × (seat.old.me.0.drawn < most_turns * seat.old.me.0.parts) }
+    requires idle { (seat.old.me.0.state ≡ Idle) × (seat.old.me.1 ≡ []) × (0 < seat.old.me.0.parts) }
     requires number { event.by ≡ seat.old.me.0.number }
     requires moment { event.moment < END_OF_TIME }
     ensures seat { (seat.new.table_id ≡ seat.old.table_id) × (seat.new.id ≡ seat.old.id) × (seat.new.me.1 ≡ []) }
@@ -200,7 +200,7 @@ pub(crate) fn abandon<R: Wait>(
     object: ObjId,
 ) -> u64
     requires table { (seat.old.table_id ≡ shared.now.table_id) × (shared.now.table_id.words ≡ 3) × (shared.now.table_id.slots ≡ 1) }
-    requires idle { (seat.old.me.0.state ≡ Idle) × (seat.old.me.1 ≡ []) × (seat.old.me.0.drawn < most_turns * seat.old.me.0.parts) }
+    requires idle { (seat.old.me.0.state ≡ Idle) × (seat.old.me.1 ≡ []) × (0 < seat.old.me.0.parts) }
     requires number { by ≡ seat.old.me.0.number }
     requires moment { moment < END_OF_TIME }
     requires runs { 0 < running_calls_by (places seat.old.me.0.config seat.old.me.0.seen) by object }

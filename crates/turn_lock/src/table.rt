@@ -1,5 +1,5 @@
-//! The words that threads step on, and the slot with the space. Word 0 is the ticket to be drawn next, word 1 the one that is served,
-//! and word 2 the length of the history. Each struct here names what one kind of step tells the seat that takes it.
+//! The words that threads step on, and the slot with the space. Word 0 is the ticket to be drawn next, word 1 the one that is served, both
+//! modulo 2^64, and word 2 the length of the history. Each struct here names what one kind of step tells the seat that takes it.
 use crate::view::View;
 use atomic_table::{Join, Play, Seat, Shared, Split, Table, TableRule};
 use space::Space;

@@ -6,9 +6,9 @@ use std::collections::LinkedList;
 pub enum SeatState {
     /// It makes no turn.
     Idle,
-    /// It waits with this ticket.
+    /// It waits with this ticket's word.
     Drawn(u64),
-    /// Its ticket is served: it has the slot, by this ticket, and this history in hand.
+    /// Its ticket is served: it has the slot, by the ticket of this word, and this history in hand.
     Called(u64, LinkedList<Event>),
 }
 
@@ -18,8 +18,6 @@ pub struct View {
     pub number: u64,
     /// Its parts of the right to know that all passes have ended.
     pub parts: u64,
-    /// How many tickets it counts.
-    pub drawn: u64,
     /// The configuration of the space.
     pub config: SpaceConfig,
     /// The events that the space had when the lock was made.

@@ -32,13 +32,18 @@ pub(crate) fn pause<R: Wait>(rt: &R, shared: &SharedTable, word: usize, found: u
     }
 }
 
+/// Whether a count has come to another, where less than 2^63 lies between them. Their words come round at 2^64.
+fn has_come_to(word: u64, other: u64) -> bool {
+    word.wrapping_sub(other) < 1 << 63
+}
+
 /// Waits until no other thread has a ticket, or for some time. Then few sleep with a ticket in hand, and no turn waits for a sleeper.
 pub(crate) fn approach<R: Wait>(rt: &R, shared: &SharedTable)
     requires { shared.now.table_id.words ≡ 3 }
 {
     for looks in 0..PATIENCE {
         let next = shared.peek(TICKET);
-        if shared.peek(SERVING) >= next {
+        if has_come_to(shared.peek(SERVING), next) {
             return;
         }
         pause(rt, shared, TICKET, next, looks);
@@ -49,7 +54,7 @@ pub(crate) fn approach<R: Wait>(rt: &R, shared: &SharedTable)
 pub(crate) fn wake(shared: &SharedTable, served: u64)
     requires { shared.now.table_id.words ≡ 3 }
 {
-    if shared.peek(TICKET) > served {
+    if shared.peek(TICKET) != served {
         shared.wake_all(SERVING);
     }
 }

@@ -1,13 +1,13 @@
 -- Links that were accepted or dialled, and ports that are listened on.
-use Rattle.std.specs.Prelude.{◌≡◌, ◌≤◌, ℕ, ℤ, Bool, true, List, [], ◌∷◌, ◌++◌, map, Option, None, Some, Result, Ok, Err}
+use Rattle.std.specs.Prelude.{◌≡◌, ◌≤◌, ℕ, ℤ, Bool, false, true, List, [], ◌∷◌, ◌++◌, map, Option, None, Some, Result, Ok, Err}
 use Rattle.wire_io.specs.Wire.{ReadHalf, WriteHalf, AreNewHalves, Rose}
 use Rattle.wire_io.specs.declared.link.Link.{Link}
 use Rattle.wire_io.specs.declared.listener.Waited.{Waited}
 use Rattle.wire_io.specs.declared.listener.Waited.TheVariants.{Came, Quiet, Told}
 use Rattle.wire_io.specs.Mem.{SourceState, SinkState, ClockState, source_half, sink_half, moments_given}
 
--- a link as it was accepted: the peer's host and port, what its source had left, what its sink held, and what its clock had
--- given, where they tell it
+-- a link as it was accepted or dialled: the host and port of the end that made it, what its source had left, what its sink held, and
+-- what its clock had given, where they tell it
 pub record Accepted : Type 0 where
   pub host : List ℕ
   pub port : ℤ
@@ -53,13 +53,15 @@ Accepts shown old new (Ok link) = (new.accepted ≡ with_next old.accepted (show
 Accepts shown old new (Err _) = (new.accepted ≡ old.accepted) × Rose old.faults new.faults
 
 -- What a call did that waits for a link, which is shown so. It gave one, or none came, or the listener was told to stop. A call
--- that failed gave none.
+-- that failed gave none. A listener that was told before answers that again, and nothing else.
 abbrev pub Waits : {L E : Type 0} → (L → Accepted) → Listening → Listening → Result (Waited L) E → Type 0
 Waits shown old new (Ok (Came link)) =
-    (new.accepted ≡ with_next old.accepted (shown link)) × (old.faults ≤ new.faults) × (new.told ≡ old.told)
-Waits shown old new (Ok Quiet) = (new.accepted ≡ old.accepted) × (old.faults ≤ new.faults) × (new.told ≡ old.told)
+    (new.accepted ≡ with_next old.accepted (shown link)) × (old.faults ≤ new.faults) × (new.told ≡ old.told) × (old.told ≡ false)
+Waits shown old new (Ok Quiet) =
+    (new.accepted ≡ old.accepted) × (old.faults ≤ new.faults) × (new.told ≡ old.told) × (old.told ≡ false)
 Waits shown old new (Ok Told) = (new.accepted ≡ old.accepted) × (old.faults ≤ new.faults) × (new.told ≡ true)
-Waits shown old new (Err _) = (new.accepted ≡ old.accepted) × Rose old.faults new.faults × (new.told ≡ old.told)
+Waits shown old new (Err _) =
+    (new.accepted ≡ old.accepted) × Rose old.faults new.faults × (new.told ≡ old.told) × (old.told ≡ false)
 
 -- what holds of the link that came, if one did
 abbrev pub IfCame : {L : Type 0} → Waited L → (L → Type 0) → Type 0
@@ -67,10 +69,17 @@ IfCame (Came link) Holds = Holds link
 IfCame Quiet Holds = Unit {0}
 IfCame Told Holds = Unit {0}
 
+-- what holds where no link came
+abbrev pub IfNoneCame : {L E : Type 0} → Result (Waited L) E → Type 0 → Type 0
+IfNoneCame (Ok (Came link)) Holds = Unit {0}
+IfNoneCame (Ok Quiet) Holds = Holds
+IfNoneCame (Ok Told) Holds = Holds
+IfNoneCame (Err _) Holds = Holds
+
 -- a link as it was dialled: the host and port asked for, and what stood at it
 pub record Dialed : Type 0 where
   pub asked_host : List ℕ
-  pub asked_port : ℕ
+  pub asked_port : ℤ
   pub link : Accepted
 
 -- what a dialer shows: the links that it gave, in their order, where it tells them, and how often it failed
@@ -83,7 +92,7 @@ abbrev pub untold_dialer : ℕ → Dialing
 untold_dialer faults = record { dialed = None; faults = faults }
 
 -- What a call did that dials a port of a host, and shows a link so. A call that failed gave none.
-abbrev pub Dials : {L E : Type 0} → (L → Accepted) → Dialing → Dialing → List ℕ → ℕ → Result L E → Type 0
+abbrev pub Dials : {L E : Type 0} → (L → Accepted) → Dialing → Dialing → List ℕ → ℤ → Result L E → Type 0
 Dials shown old new host port (Ok link) =
     (new.dialed ≡ with_next old.dialed (record { asked_host = host; asked_port = port; link = shown link })) × (old.faults ≤ new.faults)
 Dials shown old new host port (Err _) = (new.dialed ≡ old.dialed) × Rose old.faults new.faults
@@ -121,11 +130,11 @@ listening_in_memory l = record {
 -- a dialer in memory: the links that it has still to give, those that it gave with what was asked for, and how often it failed
 pub record DialerState : Type 0 where
   pub links : List (Link SourceState SinkState ClockState)
-  pub dialed : List (Link SourceState SinkState ClockState × List ℕ × ℕ)
+  pub dialed : List (Link SourceState SinkState ClockState × List ℕ × ℤ)
   pub faults : ℕ
 
 -- a link of a dialer in memory, as it was dialled
-abbrev pub dialed_in_memory : Link SourceState SinkState ClockState × List ℕ × ℕ → Dialed
+abbrev pub dialed_in_memory : Link SourceState SinkState ClockState × List ℕ × ℤ → Dialed
 dialed_in_memory d = record { asked_host = d.1; asked_port = d.2; link = accepted_in_memory d.0 }
 
 -- what a dialer in memory shows

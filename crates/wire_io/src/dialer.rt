@@ -32,13 +32,14 @@ pub trait Dialer {
     // it failed. The count never falls, and stands still at the greatest u64.
     ghost dialing: { Self → Dialing };
 
-    /// A connection to a port of a host. The host is a name or the numbers of an address. Neither half failed or was shut yet.
+    /// A connection to a port of a host. The host is a name or the numbers of an address. The link's host and port are those of this end.
+    /// Neither half failed or was shut yet.
     ///
-    /// `Failed` comes only where the count of faults rose.
+    /// `Failed` comes only where the count of faults rose. A number that is no port is a fault where the system is asked.
     fn dial(
         &mut self,
         host: &Units,
-        port: u16,
+        port: i32,
     ) -> Result<Link<Self::In, Self::Out, Self::Ticks>, Failed>
         ensures dials { Dials (accepted_as Self.In.half Self.Out.half Self.Ticks.given)
             (dialing self.old) (dialing self.new) host.now port result }
@@ -59,7 +60,7 @@ pub struct Halves<I, O> {
 pub type HalvesList<I, O> = Sequence<Halves<I, O>>;
 
 /// A link that was given, the host and the port that were asked for. The first two take no bytes and are known to contracts alone.
-type Noted = (Snapshot<MemLink>, Snapshot<Units>, u16);
+type Noted = (Snapshot<MemLink>, Snapshot<Units>, i32);
 
 /// A dialer that gives the links of a list, one at each call, and then fails.
 ///
@@ -140,7 +141,7 @@ impl Dialer for MemDialer {
     ghost dialing = { dialing_in_memory };
 
     /// A link comes from the front of the list. It fails where none is left, or where no memory is found.
-    fn dial(&mut self, host: &Units, port: u16) -> Result<MemLink, Failed>
+    fn dial(&mut self, host: &Units, port: i32) -> Result<MemLink, Failed>
         ensures dials { Dials accepted_in_memory
             (dialing_in_memory self.old) (dialing_in_memory self.new) host.now port result }
         ensures halves { IfOk result

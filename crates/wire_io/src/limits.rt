@@ -15,5 +15,7 @@ pub const NEXT_BYTE_SECONDS: u64 = 7200;
 pub const WRITE_SECONDS: u64 = 60;
 /// How many seconds an address may take to answer a dial over TCP.
 pub const DIAL_SECONDS: u64 = 30;
+/// How many seconds a read of a dialled connection takes at most until bytes come, where its dialer says nothing else.
+pub const REPLY_SECONDS: u64 = 60;
 /// How many seconds a wait for a connection takes at most.
 pub const WAIT_SECONDS: u64 = 1;

@@ -1,7 +1,7 @@
 //! Where connections come from.
 ghost use Rattle.std.specs.Prelude.{◌≡◌, ◌≤◌, ℕ, List, [], ◌∷◌, ◌++◌, length, None, Option, Some, false, IfOk, IsSomeAnd, IfSome, IsTrue, OnOk, OnErr, Ok, Contains, ◌↔◌, ◌<◌};
 ghost use Rattle.std.specs.List.{AllByRecursion};
-ghost use Rattle.wire_io.specs.Links.{Listening, accepted_as, Listens, Accepts, Waits, IfCame, IsNew, accepted_in_memory, listening_in_memory};
+ghost use Rattle.wire_io.specs.Links.{Listening, accepted_as, Listens, Accepts, Waits, IfCame, IfNoneCame, IsNew, accepted_in_memory, listening_in_memory};
 ghost use Rattle.wire_io.specs.Mem.{source_half, sink_half};
 ghost use Rattle.wire_io.specs.declared.listener.Waited.{Waited};
 ghost use Rattle.wire_io.specs.Wire.{AreNewHalves, next_count};
@@ -54,18 +54,19 @@ pub trait Listener {
 
     /// The next connection. Neither of its halves failed or was shut yet.
     ///
-    /// `Failed` comes only where the count of faults rose.
+    /// `Failed` comes only where the count of faults rose. A listener that was told to stop fails.
     fn accept(&mut self) -> Result<Link<Self::In, Self::Out, Self::Ticks>, Failed>
         ensures accepts { Accepts (accepted_as Self.In.half Self.Out.half Self.Ticks.given)
             (listening self.old) (listening self.new) result }
         ensures halves { IfOk result
             (λ link. AreNewHalves (Self.In.half link.source) (Self.Out.half link.sink)) }
         ensures ports { (listening self.new).ports ≡ (listening self.old).ports }
-        ensures told { (listening self.new).told ≡ (listening self.old).told };
+        ensures told { (listening self.new).told ≡ (listening self.old).told }
+        ensures untold { OnOk result ((listening self.old).told ≡ false) };
 
     /// Waits for the next connection for a second at most. Neither of its halves failed or was shut yet.
     ///
-    /// `Told` comes where the listener was told to stop. `Failed` comes only where the count of faults rose.
+    /// `Told` comes where the listener was told to stop, and then at each further call. `Failed` comes only where the count of faults rose.
     fn wait(&mut self) -> Result<Waited<Link<Self::In, Self::Out, Self::Ticks>>, Failed>
         ensures waits { Waits (accepted_as Self.In.half Self.Out.half Self.Ticks.given)
             (listening self.old) (listening self.new) result }
@@ -82,7 +83,7 @@ pub type MemLinks = Sequence<MemLink>;
 /// A listener that gives the links of a list, one at each call, and then fails.
 ///
 /// It tells the addresses and ports that it was told to listen on and the links that it gave. A call that finds no memory to note that
-/// fails too. What it notes of a link is a snapshot, which takes no bytes and is known to contracts alone.
+/// fails too, and so does an `accept` after it was told to stop. What it notes of a link is a snapshot, which takes no bytes and is known to contracts alone.
 ///
 /// Its waits are counted from 0, up to `u64::MAX`, where the count stands still. It is told to stop at the wait whose index is `stop`, and at
 /// those after it. A wait before that whose index stands in `quiet` gives no link, and any other does what `accept` does.
@@ -120,7 +121,7 @@ impl Drop for MemListener {
 }
 
 impl Model for MemListener {
-    ghost use Rattle.std.specs.Prelude.{map};
+    ghost use Rattle.std.specs.Prelude.{◌≡◌, ◌≤◌, true, map, IsSomeAnd};
     ghost use Rattle.std.specs.List.{AllByRecursion};
     ghost use Rattle.std.specs.Vec.Iter.{into_iter_items};
     ghost use Rattle.wire_io.specs.Links.{ListenerState, IsNew};
@@ -138,7 +139,8 @@ impl Model for MemListener {
       told = l.told;
     } };
 
-    ghost invariant = { λ l. AllByRecursion IsNew (into_iter_items l.links) };
+    ghost invariant = { λ l. AllByRecursion IsNew (into_iter_items l.links)
+        × (l.told ≡ true → IsSomeAnd l.stop (λ first. first ≤ l.waits)) };
 }
 
 impl MemListener {
@@ -249,6 +251,7 @@ impl Listener for MemListener {
         ensures told { self.new.told ≡ self.old.told }
         ensures links { self.new.links ≡ self.old.links }
         ensures waits { self.new.waits ≡ self.old.waits }
+        ensures script { (self.new.quiet ≡ self.old.quiet) × (self.new.stop ≡ self.old.stop) }
     {
         if note_port(self.alloc, &mut self.ports, address.as_bytes(), port).is_err() {
             self.faults = self.faults.saturating_add(1);
@@ -257,7 +260,7 @@ impl Listener for MemListener {
         Ok(())
     }
 
-    /// A link comes from the front of the list. It fails where none is left, or where no memory is found.
+    /// A link comes from the front of the list. It fails where none is left, where no memory is found, and after it was told to stop.
     fn accept(&mut self) -> Result<MemLink, Failed>
         ensures accepts { Accepts accepted_in_memory
             (listening_in_memory self.old) (listening_in_memory self.new) result }
@@ -265,13 +268,14 @@ impl Listener for MemListener {
             (λ link. AreNewHalves (source_half link.source) (sink_half link.sink)) }
         ensures ports { self.new.ports ≡ self.old.ports }
         ensures told { self.new.told ≡ self.old.told }
+        ensures untold { OnOk result (self.old.told ≡ false) }
         ensures waits { self.new.waits ≡ self.old.waits }
         ensures script { (self.new.quiet ≡ self.old.quiet) × (self.new.stop ≡ self.old.stop) }
         ensures next { IfOk result (λ link. self.old.links ≡ link ∷ self.new.links) }
         ensures gave { IfOk result (λ link. self.new.accepted ≡ self.old.accepted ++ link ∷ []) }
         ensures kept { OnErr result (self.new.links ≡ self.old.links) }
     {
-        if self.accepted.reserve(1).is_err() {
+        if self.told || self.accepted.reserve(1).is_err() {
             self.faults = self.faults.saturating_add(1);
             return Err(Failed);
         }
@@ -294,10 +298,18 @@ impl Listener for MemListener {
         ensures halves { IfOk result (λ waited. IfCame waited
             (λ link. AreNewHalves (source_half link.source) (sink_half link.sink))) }
         ensures ports { self.new.ports ≡ self.old.ports }
-        ensures stops { IsSomeAnd self.old.stop (λ first. first ≤ self.old.waits) → result ≡ Ok Waited.Told }
-        ensures quiet { IfSome self.old.stop (λ first. self.old.waits < first)
-            → Contains self.old.quiet self.old.waits → result ≡ Ok Waited.Quiet }
+        ensures stops { (result ≡ Ok Waited.Told)
+            ↔ IsSomeAnd self.old.stop (λ first. first ≤ self.old.waits) }
+        ensures quiet { (result ≡ Ok Waited.Quiet)
+            ↔ (IfSome self.old.stop (λ first. self.old.waits < first)
+            × Contains self.old.quiet self.old.waits) }
         ensures count { self.new.waits ≡ next_count self.old.waits }
+        ensures script { (self.new.quiet ≡ self.old.quiet) × (self.new.stop ≡ self.old.stop) }
+        ensures next { IfOk result (λ waited. IfCame waited
+            (λ link. self.old.links ≡ link ∷ self.new.links)) }
+        ensures gave { IfOk result (λ waited. IfCame waited
+            (λ link. self.new.accepted ≡ self.old.accepted ++ link ∷ [])) }
+        ensures kept { IfNoneCame result (self.new.links ≡ self.old.links) }
     {
         let index = self.waits;
         self.waits = index.saturating_add(1);

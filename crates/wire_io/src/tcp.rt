@@ -1,6 +1,7 @@
 //! Connections over TCP. They tell no content. Contracts see each half as its count of faults and whether it was shut, a listener as its count
 //! of faults and whether it was told to stop, and a dialer as its count of faults.
 ghost use Rattle.std.specs.Prelude.{◌≡◌, ◌≤◌, length, None, false, is_none, IfOk, IfSome, OnOk, OnErr};
+ghost use Rattle.std.specs.Io.{ReadsAtMost, WritesAtMost};
 ghost use Rattle.mod_utf.specs.Utf.{utf};
 ghost use Rattle.wire_io.specs.Links.{accepted_as, Listens, Accepts, Waits, IfCame, Dials, untold_listener, untold_dialer};
 ghost use Rattle.wire_io.specs.Wire.{Read, Written, ShutsRead, ShutsWrite, AreNewHalves, next_count, first_shut, untold_read, untold_write};
@@ -8,8 +9,8 @@ ghost use Rattle.wire_io.specs.declared.limits.TheConstants.{MAX_HOST_BYTES};
 
 use crate::dialer::Dialer;
 use crate::limits::{
-    DIAL_SECONDS, FIRST_BYTE_SECONDS, MAX_HOST_BYTES, NEXT_BYTE_SECONDS, WAIT_SECONDS,
-    WRITE_SECONDS,
+    DIAL_SECONDS, FIRST_BYTE_SECONDS, MAX_HOST_BYTES, NEXT_BYTE_SECONDS, REPLY_SECONDS,
+    WAIT_SECONDS, WRITE_SECONDS,
 };
 use crate::link::Link;
 use crate::listener::{Listener, Waited};
@@ -29,8 +30,11 @@ use std::sync::atomic::{AtomicBool, Ordering};
 use std::time::Duration;
 use std::{io, str, time};
 
-/// The most connections in a row that their peers may abort while they wait. After so many one call of `accept` fails.
-const MAX_ABORTED_CONNECTIONS: u32 = 16;
+/// How often one call waits anew where no connection came within [`WAIT_SECONDS`], or its peer gave it up: for 136 years where none comes.
+const MAX_ACCEPT_WAITS: u32 = u32::MAX;
+
+/// How often one read or write asks the system anew where a signal interrupted it. Each time its limit of time begins anew.
+const MAX_INTERRUPTIONS: u32 = 16;
 
 /// A handle of a socket, of one half's own or shared by both halves of a link. The system has the socket back when the last handle is dropped.
 #[derive(Drop)]
@@ -49,11 +53,13 @@ impl Handle {
         }
     }
 
-    /// Lets a read take so many seconds until bytes come.
+    /// Lets a read take so many seconds until bytes come, and as long as it wants where that is 0.
     fn limit_reads(&self, seconds: u64) {
-        let _ = self
-            .stream()
-            .set_read_timeout(Some(Duration::from_secs(seconds)));
+        let limit = match seconds {
+            0 => None,
+            _ => Some(Duration::from_secs(seconds)),
+        };
+        let _ = self.stream().set_read_timeout(limit);
     }
 
     /// Lets a write take so many seconds until it takes bytes.
@@ -64,19 +70,36 @@ impl Handle {
     }
 }
 
-/// Reads a socket, each time for a while at most: a shorter one until the first byte, and a longer one from then on.
+/// How many seconds a read may take until bytes come. 0 stands for no limit.
+#[derive(Clone, Copy)]
+struct ReadLimits {
+    /// Until the first byte came.
+    first: u64,
+    /// From then on.
+    next: u64,
+}
+
+/// The limits of a connection that was accepted.
+const ACCEPTED_LIMITS: ReadLimits = ReadLimits {
+    first: FIRST_BYTE_SECONDS,
+    next: NEXT_BYTE_SECONDS,
+};
+
+/// Reads a socket, each time for a while at most: for one time until the first byte, and for another one from then on.
 #[derive(Drop)]
 struct Reader {
     handle: Handle,
+    limits: ReadLimits,
     has_first: bool,
 }
 
 impl Reader {
     /// The reader over this handle, of which no byte was read.
-    fn new(handle: Handle) -> Reader {
-        handle.limit_reads(FIRST_BYTE_SECONDS);
+    fn new(handle: Handle, limits: ReadLimits) -> Reader {
+        handle.limit_reads(limits.first);
         Reader {
             handle,
+            limits,
             has_first: false,
         }
     }
@@ -84,20 +107,48 @@ impl Reader {
 
 impl Read for Reader {
     fn read(&mut self, buf: &mut [u8]) -> io::Result<usize> {
-        let mut stream = self.handle.stream();
-        let count = stream.read(buf)?;
+        let count = read_stream(self.handle.stream(), buf)?;
         if count > 0 && !self.has_first {
             self.has_first = true;
-            self.handle.limit_reads(NEXT_BYTE_SECONDS);
+            self.handle.limit_reads(self.limits.next);
         }
         Ok(count)
     }
 }
 
+/// One read of a socket. Where a signal interrupts it, the system is asked again, [`MAX_INTERRUPTIONS`] times at most.
+fn read_stream(stream: &TcpStream, buf: &mut [u8]) -> io::Result<usize>
+    ensures { ReadsAtMost result buf.new }
+{
+    let mut stream = stream;
+    for _ in 0..MAX_INTERRUPTIONS {
+        match stream.read(buf) {
+            Err(error) if error.kind() == io::ErrorKind::Interrupted => {}
+            ended => return ended,
+        }
+    }
+    stream.read(buf)
+}
+
+/// One write to a socket. Where a signal interrupts it, the system is asked again, [`MAX_INTERRUPTIONS`] times at most.
+fn write_stream(stream: &TcpStream, piece: &[u8]) -> io::Result<usize>
+    ensures { WritesAtMost result piece.now }
+{
+    let mut stream = stream;
+    for _ in 0..MAX_INTERRUPTIONS {
+        match stream.write(piece) {
+            Err(error) if error.kind() == io::ErrorKind::Interrupted => {}
+            ended => return ended,
+        }
+    }
+    stream.write(piece)
+}
+
 /// The half of a TCP connection that bytes are read from.
 ///
 /// It reads ahead into a buffer of its own. Each error of the socket is a fault, and so is a read after `shut`. Where the first byte takes
-/// longer than [`FIRST_BYTE_SECONDS`], or a later one longer than [`NEXT_BYTE_SECONDS`], that is a fault too.
+/// longer than [`FIRST_BYTE_SECONDS`], or a later one longer than [`NEXT_BYTE_SECONDS`], that is a fault too; in a link that was dialled,
+/// where any read takes longer than its dialer lets it.
 #[derive(Drop)]
 pub struct TcpSource {
     half: Option<ReadAhead<Reader>>,
@@ -118,15 +169,15 @@ impl TcpSource {
     pub fn new(alloc: Global, stream: TcpStream) -> Result<TcpSource, AllocError>
         ensures { IfOk result (λ source. source ≡ untold_read 0 false) }
     {
-        TcpSource::over(alloc, Handle::Own(stream))
+        TcpSource::over(alloc, Handle::Own(stream), ACCEPTED_LIMITS)
     }
 
     /// The source over this handle.
-    fn over(alloc: Global, handle: Handle) -> Result<TcpSource, AllocError>
+    fn over(alloc: Global, handle: Handle, limits: ReadLimits) -> Result<TcpSource, AllocError>
         ensures { IfOk result (λ source. source ≡ untold_read 0 false) }
     {
         Ok(TcpSource {
-            half: Some(ReadAhead::new(alloc, Reader::new(handle))?),
+            half: Some(ReadAhead::new(alloc, Reader::new(handle, limits))?),
             faults: 0,
         })
     }
@@ -235,8 +286,7 @@ fn write_half(half: &Option<Handle>, piece: &[u8]) -> Result<usize, Failed>
     let Some(handle) = half else {
         return Err(Failed);
     };
-    let mut stream = handle.stream();
-    match stream.write(piece) {
+    match write_stream(handle.stream(), piece) {
         Ok(n) if n > 0 || piece.is_empty() => Ok(n),
         _ => Err(Failed),
     }
@@ -274,7 +324,7 @@ impl Sink for TcpSink {
 /// A link over TCP, whose clock is the time of day.
 pub type TcpLink<R> = Link<TcpSource, TcpSink, StdClock<R>>;
 
-/// The link of a connection with this peer, whose halves share its one handle. It fails where there is no memory.
+/// The link of a connection that this peer made, whose halves share its one handle. It fails where there is no memory.
 pub fn tcp_link<R>(
     alloc: Global,
     rt: R,
@@ -286,24 +336,40 @@ where
     ensures source { IfOk result (λ link. link.source ≡ untold_read 0 false) }
     ensures sink { IfOk result (λ link. link.sink ≡ untold_write 0 false) }
 {
-    let host = host_of(alloc, peer)?;
+    limited_link(alloc, rt, stream, peer, ACCEPTED_LIMITS)
+}
+
+/// The link of a connection, which names this address and whose reads have these limits.
+fn limited_link<R>(
+    alloc: Global,
+    rt: R,
+    stream: TcpStream,
+    address: SocketAddr,
+    limits: ReadLimits,
+) -> io::Result<TcpLink<R>>
+where
+    R: Drop,
+    ensures source { IfOk result (λ link. link.source ≡ untold_read 0 false) }
+    ensures sink { IfOk result (λ link. link.sink ≡ untold_write 0 false) }
+{
+    let host = host_of(alloc, address)?;
     let shared = Arc::new(alloc, stream)?;
     let sink = TcpSink::over(Handle::Shared(Arc::try_clone(&shared)?));
-    let source = TcpSource::over(alloc, Handle::Shared(shared))?;
+    let source = TcpSource::over(alloc, Handle::Shared(shared), limits)?;
     Ok(Link {
         source,
         sink,
         clock: StdClock::new(rt),
         host,
-        port: i32::from(peer.port()),
+        port: i32::from(address.port()),
     })
 }
 
 /// The numbers of an address as a text.
-fn host_of(alloc: Global, peer: SocketAddr) -> io::Result<Units>
+fn host_of(alloc: Global, address: SocketAddr) -> io::Result<Units>
     ensures { IfOk result (λ host. length (utf host) ≤ MAX_HOST_BYTES) }
 {
-    let text = peer.ip().to_string(alloc)?;
+    let text = address.ip().to_string(alloc)?;
     let host = units_of_ascii(alloc, text.as_bytes())?;
     if encoded_len(&host) > MAX_HOST_BYTES {
         return Err(io::Error::from(io::ErrorKind::InvalidInput));
@@ -314,7 +380,7 @@ fn host_of(alloc: Global, peer: SocketAddr) -> io::Result<Units>
 /// Accepts connections over TCP.
 ///
 /// Each error of the system is a fault, and so is an `accept` or a `wait` before `listen`. A connection that its peer gave up while it waited is
-/// passed over; where sixteen were, one after the other, that is a fault too. It is told to stop where someone sets its flag.
+/// passed over. It is told to stop where someone sets its flag and the next `wait` sees it, which gives the socket back to the system.
 #[derive(Drop)]
 pub struct TcpListen<R> {
     rt: R,
@@ -378,13 +444,23 @@ fn is_set(flag: &Option<Arc<AtomicBool>>) -> bool {
     }
 }
 
-/// Lets a call that accepts a connection take so long, or without end.
+/// A listener on a port of the first address of a name that can be had.
+fn bound<R: Net<Listener = TcpListener, Stream = TcpStream>>(
+    rt: &R,
+    address: &str,
+    port: u16,
+) -> io::Result<TcpListener> {
+    limited_listener(TcpListener::bind(rt, (address, port))?)
+}
+
+/// The listener, each of whose calls that accept a connection takes [`WAIT_SECONDS`] at most.
 ///
-/// The system knows that limit as the one of reads, and the kit sets that of a stream alone: so a second handle of the socket is taken for a
-/// stream's while it is set.
-fn limit_accepts(listener: &TcpListener, limit: Option<Duration>) -> io::Result<()> {
-    let socket = TcpStream::from(OwnedFd::from(listener.try_clone()?));
-    socket.set_read_timeout(limit)
+/// The system knows that limit as the one of reads, and the kit sets that of a stream alone: so the socket is taken for a stream's while it
+/// is set.
+fn limited_listener(listener: TcpListener) -> io::Result<TcpListener> {
+    let socket = TcpStream::from(OwnedFd::from(listener));
+    socket.set_read_timeout(Some(Duration::from_secs(WAIT_SECONDS)))?;
+    Ok(TcpListener::from(OwnedFd::from(socket)))
 }
 
 /// The next connection of a listener, if it listens.
@@ -415,35 +491,36 @@ fn next_link_soon<R: Copy + Drop>(
     let Some(listener) = listener else {
         return Err(io::Error::from(io::ErrorKind::NotConnected));
     };
-    limit_accepts(listener, Some(Duration::from_secs(WAIT_SECONDS)))?;
-    let next = next_stream(listener);
-    limit_accepts(listener, None)?;
-    match next {
-        Ok((stream, peer)) => Ok(Some(tcp_link(alloc, *rt, stream, peer)?)),
-        Err(error) if error.kind() == io::ErrorKind::WouldBlock => Ok(None),
+    match next_stream_soon(listener)? {
+        Some((stream, peer)) => Ok(Some(tcp_link(alloc, *rt, stream, peer)?)),
+        None => Ok(None),
+    }
+}
+
+/// The next connection that its peer hasn't given up while it waited. Each other error of the system comes at once.
+fn next_stream(listener: &TcpListener) -> io::Result<(TcpStream, SocketAddr)> {
+    for _ in 0..MAX_ACCEPT_WAITS {
+        if let Some(accepted) = next_stream_soon(listener)? {
+            return Ok(accepted);
+        }
+    }
+    Err(io::Error::from(io::ErrorKind::TimedOut))
+}
+
+/// The next connection, if one comes within [`WAIT_SECONDS`] and its peer hasn't given it up. The system is asked once.
+fn next_stream_soon(listener: &TcpListener) -> io::Result<Option<(TcpStream, SocketAddr)>> {
+    match listener.accept() {
+        Ok(accepted) => Ok(Some(accepted)),
+        Err(error) if gives_none(error.kind()) => Ok(None),
         Err(error) => Err(error),
     }
 }
 
-/// The next connection that its peer hasn't given up while it waited. Others are passed over, if there are fewer than
-/// `MAX_ABORTED_CONNECTIONS` of them. Each other error of the system comes at once.
-fn next_stream(listener: &TcpListener) -> io::Result<(TcpStream, SocketAddr)> {
-    for _i in 0..MAX_ABORTED_CONNECTIONS {
-        match listener.accept() {
-            Ok(accepted) => return Ok(accepted),
-            Err(error) => {
-                if !is_given_up(error.kind()) {
-                    return Err(error);
-                }
-            }
-        }
-    }
-    Err(io::Error::from(io::ErrorKind::ConnectionAborted))
-}
-
-/// Whether an error of this kind is one of the connection that was to be accepted, and not of the listener or the process.
-fn is_given_up(kind: io::ErrorKind) -> bool {
+/// Whether an error of this kind says that no connection came in time or that its peer gave it up, and nothing of the listener or the
+/// process.
+fn gives_none(kind: io::ErrorKind) -> bool {
     match kind {
+        io::ErrorKind::WouldBlock => true,
         io::ErrorKind::ConnectionAborted => true,
         io::ErrorKind::ConnectionReset => true,
         io::ErrorKind::Interrupted => true,
@@ -471,7 +548,7 @@ where
         ensures counted { OnErr result
             (self.new ≡ record self.old { faults = next_count self.old.faults }) }
     {
-        match TcpListener::bind(&self.rt, (address, port)) {
+        match bound(&self.rt, address, port) {
             Ok(listener) => {
                 self.listener = Some(listener);
                 Ok(())
@@ -489,19 +566,20 @@ where
         ensures halves { IfOk result (λ link. AreNewHalves link.source link.sink) }
         ensures ports { self.new.ports ≡ self.old.ports }
         ensures told { self.new.told ≡ self.old.told }
+        ensures untold { OnOk result (self.old.told ≡ false) }
         ensures counted { OnErr result
             (self.new ≡ record self.old { faults = next_count self.old.faults }) }
     {
-        match next_link(self.alloc, &self.rt, &self.listener) {
-            Ok(link) => Ok(link),
-            Err(_) => {
-                self.faults = self.faults.saturating_add(1);
-                Err(Failed)
+        if !self.told {
+            if let Ok(link) = next_link(self.alloc, &self.rt, &self.listener) {
+                return Ok(link);
             }
         }
+        self.faults = self.faults.saturating_add(1);
+        Err(Failed)
     }
 
-    /// It waits for [`WAIT_SECONDS`] at most.
+    /// It waits for [`WAIT_SECONDS`] at most, and gives no link where the one that came in this time was given up by its peer.
     fn wait(&mut self) -> Result<Waited<TcpLink<R>>, Failed>
         ensures waits { Waits (accepted_as (λ s. s) (λ s. s) (λ _. None)) self.old self.new result }
         ensures halves { IfOk result (λ waited. IfCame waited
@@ -512,6 +590,7 @@ where
     {
         if self.told || is_set(&self.flag) {
             self.told = true;
+            self.listener = None;
             return Ok(Waited::Told);
         }
         match next_link_soon(self.alloc, &self.rt, &self.listener) {
@@ -528,11 +607,12 @@ where
 /// Dials connections over TCP.
 ///
 /// The addresses of a name are tried in their order, each for [`DIAL_SECONDS`] at most. Where none answers, that is a fault, and so is each other
-/// error of the system.
+/// error of the system, and a port below 0 or above 65,535. A link's host and port are those that this end has of the system.
 #[derive(Drop)]
 pub struct TcpDial<R> {
     rt: R,
     alloc: Global,
+    reply_seconds: u64,
     faults: u64,
 }
 
@@ -545,13 +625,22 @@ impl<R> Model for TcpDial<R> {
 }
 
 impl<R> TcpDial<R> {
-    /// The dialer over this runtime's sockets, with no call so far. It takes no memory.
+    /// The dialer over this runtime's sockets, with no call so far. Each read of its links takes [`REPLY_SECONDS`] at most. It takes no memory.
     pub fn new(alloc: Global, rt: R) -> TcpDial<R>
+        ensures { result ≡ untold_dialer 0 }
+    {
+        TcpDial::waiting(alloc, rt, REPLY_SECONDS)
+    }
+
+    /// The dialer over this runtime's sockets, with no call so far. Each read of its links takes so many seconds at most, and as long as it
+    /// wants where that is 0. It takes no memory.
+    pub fn waiting(alloc: Global, rt: R, reply_seconds: u64) -> TcpDial<R>
         ensures { result ≡ untold_dialer 0 }
     {
         TcpDial {
             rt,
             alloc,
+            reply_seconds,
             faults: 0,
         }
     }
@@ -565,33 +654,48 @@ impl<R> TcpDial<R> {
 }
 
 /// A connection to a port of the first address of a host that answers.
-fn dialed_stream<R>(rt: &R, host: &str, port: u16) -> io::Result<(TcpStream, SocketAddr)>
+fn dialed_stream<R>(rt: &R, host: &str, port: u16) -> io::Result<TcpStream>
 where
     R: Net<Listener = TcpListener, Stream = TcpStream>,
 {
     let mut last = io::Error::from(io::ErrorKind::NotFound);
     for address in (host, port).to_socket_addrs(rt)? {
         match TcpStream::connect_timeout(rt, &address, Duration::from_secs(DIAL_SECONDS)) {
-            Ok(stream) => return Ok((stream, address)),
+            Ok(stream) => return Ok(stream),
             Err(error) => last = error,
         }
     }
     Err(last)
 }
 
-/// A link to a port of a host. It fails where the host's bytes as modified UTF are no text to the system, too.
-fn dialed_link<R>(alloc: Global, rt: &R, host: &Units, port: u16) -> io::Result<TcpLink<R>>
+/// A link to a port of a host, each of whose reads takes so many seconds at most. It fails where there is no such port, and where the host's
+/// bytes as modified UTF are no text to the system, too.
+fn dialed_link<R>(
+    alloc: Global,
+    rt: &R,
+    host: &Units,
+    port: i32,
+    reply_seconds: u64,
+) -> io::Result<TcpLink<R>>
 where
     R: Net<Listener = TcpListener, Stream = TcpStream> + Copy + Drop,
     ensures source { IfOk result (λ link. link.source ≡ untold_read 0 false) }
     ensures sink { IfOk result (λ link. link.sink ≡ untold_write 0 false) }
 {
+    let Ok(port) = u16::try_from(port) else {
+        return Err(io::Error::from(io::ErrorKind::InvalidInput));
+    };
     let bytes = encode(alloc, host)?;
     let Ok(name) = str::from_utf8(bytes.as_slice()) else {
         return Err(io::Error::from(io::ErrorKind::InvalidInput));
     };
-    let (stream, peer) = dialed_stream(rt, name, port)?;
-    tcp_link(alloc, *rt, stream, peer)
+    let stream = dialed_stream(rt, name, port)?;
+    let own = stream.local_addr()?;
+    let limits = ReadLimits {
+        first: reply_seconds,
+        next: reply_seconds,
+    };
+    limited_link(alloc, *rt, stream, own, limits)
 }
 
 impl<R> Dialer for TcpDial<R>
@@ -606,14 +710,14 @@ where
 
     ghost dialing = { λ d. d };
 
-    fn dial(&mut self, host: &Units, port: u16) -> Result<TcpLink<R>, Failed>
+    fn dial(&mut self, host: &Units, port: i32) -> Result<TcpLink<R>, Failed>
         ensures dials { Dials (accepted_as (λ s. s) (λ s. s) (λ _. None)) self.old self.new
             host.now port result }
         ensures halves { IfOk result (λ link. AreNewHalves link.source link.sink) }
         ensures counted { OnErr result
             (self.new ≡ record self.old { faults = next_count self.old.faults }) }
     {
-        match dialed_link(self.alloc, &self.rt, host, port) {
+        match dialed_link(self.alloc, &self.rt, host, port, self.reply_seconds) {
             Ok(link) => Ok(link),
             Err(_) => {
                 self.faults = self.faults.saturating_add(1);

@@ -56,6 +56,7 @@ pub(super) fn items<S: Source>(
             return Ok(Items::from_vec(items));
         }
         let item = item(alloc, pull, table, at, code, left)?;
+        table.add_entries(1)?;
         add(&mut items, item)?;
     }
 }

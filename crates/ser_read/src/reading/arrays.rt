@@ -119,6 +119,7 @@ fn slots<S: Source>(
     let mut slots = SlotList::new(alloc);
     for _ in 0..n {
         let slot = slot(alloc, pull, table, SlotPlace::Reference, left)?;
+        table.add_entries(1)?;
         slots.push(slot)?;
     }
     Ok(slots)

@@ -95,6 +95,7 @@ fn fields<S: Source>(
     let mut fields = Vec::new(alloc);
     for _ in 0..n {
         let field = field(alloc, pull, table, at, left)?;
+        table.add_entries(1)?;
         fields.push(field)?;
     }
     Ok(FieldList::from_vec(fields))
@@ -169,7 +170,7 @@ pub(super) fn proxy<S: Source>(
     let n = count(pull)?;
     let number = table.begin(blank(alloc))?;
     table.open(number)?;
-    let names = names(alloc, pull, n)?;
+    let names = names(alloc, pull, table, n)?;
     let note = items(alloc, pull, table, left)?;
     let parent = slot(alloc, pull, table, SlotPlace::Parent, left)?;
     table.close();

@@ -113,6 +113,11 @@ fn parts<S: Source>(
     Ok(PartList::from_vec(parts))
 }
 
+/// Counts the entries of a part of an object before its annotation's items: a value for each field, and the annotation.
+fn entries_of(row: &ClassRow) -> usize {
+    row.codes.as_slice().len() + usize::from(row.note)
+}
+
 /// A part of an object.
 #[cycle(reading)]
 #[tactic(auto, unfolding(crate::specs::ObjectRows::part_by))]
@@ -126,6 +131,7 @@ fn part<S: Source>(
     requires left { left ≤ LEVELS }
     ensures { ReadsNodes S.half pull.old pull.new table.old table.new result Any (λ end. part_by end (slot_at end left Reference table.old.unread.items) row.now) }
 {
+    table.add_entries(entries_of(row))?;
     let values = values(alloc, pull, table, row.codes.as_slice(), left)?;
     let note = note(alloc, pull, table, row.note, left)?;
     Ok(Part { values, note })

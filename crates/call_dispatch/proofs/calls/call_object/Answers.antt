@@ -10,42 +10,42 @@ use Rattle.call_dispatch.proofs.calls.call_object.Goals as goal
 pub run_call-requires-clause-runs : goal.run_call-requires-clause-runs
 run_call-requires-clause-runs g c =
     let (moment, led) = c.in-Ok.ensures.led in
-    rw led.asked (begin_runs c.args.head.id moment c.in-Started.kind c.in-Ok.turn (g.P.Port.asked c.args.connection.now.port.now) c.requires.balanced c.in-Started.is)
+    rw led.asked (begin_runs c.args.head.id moment c.in-Started.kind c.in-Ok.turn (g.P.Port.shown c.args.connection.now.port.now).asked c.requires.balanced c.in-Started.is)
 
 pub returns-in-Started-clause-answers : goal.returns-in-Started-clause-answers
 returns-in-Started-clause-answers g c first reads =
     let (moment, led) = c.in-Ok.ensures.led in
-    let same = c.take_turn.ensures.pull in
+    let same = c.take_turn.ensures.frame.pull in
     let runs = c.run_call.ensures.runs_on first (rw same reads) in
-    begun_answers _ _ (terms_of c.args.connection.now.book.now c.args.connection.now.setup.now) _ c.args.head c.in-Started.kind moment c.in-Ok.turn first _ _ _ _ _ _ c.run_call.result c.in-Started.is led (rw (c.take_turn.ensures.setup, c.take_turn.ensures.lent.book) at runs)
+    begun_answers _ _ (terms_of c.args.connection.now.book.now c.args.connection.now.setup.now) _ c.args.head c.in-Started.kind moment c.in-Ok.turn first _ _ _ _ _ _ c.run_call.result c.in-Started.is led (rw (c.take_turn.ensures.frame.setup, c.take_turn.ensures.frame.keeps.lent.book) at runs)
 
 pub returns-in-NoObject-clause-answers : goal.returns-in-NoObject-clause-answers
 returns-in-NoObject-clause-answers g c first reads =
     let (moment, led) = c.in-Ok.ensures.led in
     let (bytes, takes, whole) = head_ends first _ c.args.head c.args.reader.stand reads in
-    let prepared = rw c.take_turn.ensures.setup at c.refuse.ensures.prepared in
-    rw c.take_turn.ensures.pull (closing_answers _ _ (terms_of c.args.connection.now.book.now c.args.connection.now.setup.now) _ c.args.head (absent moment c.in-Ok.turn) bytes first (pull_state g.S.Source.half c.args.connection.now.pull) _ _ _ _ c.refuse.result
+    let prepared = rw c.take_turn.ensures.frame.setup at c.refuse.ensures.prepared in
+    rw c.take_turn.ensures.frame.pull (closing_answers _ _ (terms_of c.args.connection.now.book.now c.args.connection.now.setup.now) _ c.args.head (absent moment c.in-Ok.turn) bytes first (pull_state g.S.Source.half c.args.connection.now.pull) _ _ _ _ c.refuse.result
     takes (whole, c.in-NoObject.is) led (begin_absent c.args.head.id moment c.in-Ok.turn [] (λ o. refl) c.in-NoObject.is) prepared)
 
 pub returns-in-NoObject-clause-balanced : goal.returns-in-NoObject-clause-balanced
 returns-in-NoObject-clause-balanced g c =
     let (moment, led) = c.in-Ok.ensures.led in
-    rw led.asked (begin_absent c.args.head.id moment c.in-Ok.turn (g.P.Port.asked c.args.connection.now.port.now) c.requires.balanced c.in-NoObject.is)
+    rw led.asked (begin_absent c.args.head.id moment c.in-Ok.turn (g.P.Port.shown c.args.connection.now.port.now).asked c.requires.balanced c.in-NoObject.is)
 
 pub returns-in-Err-HistoryFull-clause-answers : goal.returns-in-Err-HistoryFull-clause-answers
 returns-in-Err-HistoryFull-clause-answers g c first reads =
     let (moment, led) = rw c.in-Err-HistoryFull.field-0-is at c.in-Err-HistoryFull.ensures.led in
     let (bytes, takes, whole) = head_ends first _ c.args.head c.args.reader.stand reads in
-    let prepared = rw c.take_turn.ensures.setup at c.refuse-in-Err-HistoryFull.ensures.prepared in
-    rw c.take_turn.ensures.pull (closing_answers _ _ (terms_of c.args.connection.now.book.now c.args.connection.now.setup.now) _ c.args.head (refused moment) bytes first (pull_state g.S.Source.half c.args.connection.now.pull) _ _ _ _ c.refuse-in-Err-HistoryFull.result
+    let prepared = rw c.take_turn.ensures.frame.setup at c.refuse-in-Err-HistoryFull.ensures.prepared in
+    rw c.take_turn.ensures.frame.pull (closing_answers _ _ (terms_of c.args.connection.now.book.now c.args.connection.now.setup.now) _ c.args.head (refused moment) bytes first (pull_state g.S.Source.half c.args.connection.now.pull) _ _ _ _ c.refuse-in-Err-HistoryFull.result
     takes whole led (begin_refused c.args.head.id moment HistoryFull [] (λ o. refl)) prepared)
 
 pub returns-in-Err-HistoryFull-clause-balanced : goal.returns-in-Err-HistoryFull-clause-balanced
 returns-in-Err-HistoryFull-clause-balanced g c =
     let (moment, led) = rw c.in-Err-HistoryFull.field-0-is at c.in-Err-HistoryFull.ensures.led in
-    rw led.asked (begin_refused c.args.head.id moment HistoryFull (g.P.Port.asked c.args.connection.now.port.now) c.requires.balanced)
+    rw led.asked (begin_refused c.args.head.id moment HistoryFull (g.P.Port.shown c.args.connection.now.port.now).asked c.requires.balanced)
 
 pub returns-clause-answers : goal.returns-clause-answers
 returns-clause-answers g c first reads =
     let (moment, led) = rw c.in-Err-OutOfMemory.field-0-is at c.in-Err-OutOfMemory.ensures.led in
-    rw c.take_turn.ensures.pull (lost_answers _ _ (terms_of c.args.connection.now.book.now c.args.connection.now.setup.now) _ c.args.head moment first (pull_state g.S.Source.half c.args.connection.now.pull) c.args.reader.stand _ _ _ _ reads led)
+    rw c.take_turn.ensures.frame.pull (lost_answers _ _ (terms_of c.args.connection.now.book.now c.args.connection.now.setup.now) _ c.args.head moment first (pull_state g.S.Source.half c.args.connection.now.pull) c.args.reader.stand _ _ _ _ reads led)

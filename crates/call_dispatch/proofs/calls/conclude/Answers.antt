@@ -23,7 +23,7 @@ returns-in-Ok-Exceptional-clause-concludes g c =
 pub returns-in-Ok-Exceptional-clause-balanced : goal.returns-in-Ok-Exceptional-clause-balanced
 returns-in-Ok-Exceptional-clause-balanced g c =
     let (moment, place, led) = c.give_up.ensures.led in
-    rw led.asked (give_up_balances c.args.object moment place (g.P.Port.asked c.args.connection.now.port.now) c.requires.runs)
+    rw led.asked (give_up_balances c.args.object moment place (g.P.Port.shown c.args.connection.now.port.now).asked c.requires.runs)
 
 pub returns-in-Err-clause-concludes : goal.returns-in-Err-clause-concludes
 returns-in-Err-clause-concludes g c =
@@ -33,4 +33,4 @@ returns-in-Err-clause-concludes g c =
 pub returns-in-Err-clause-balanced : goal.returns-in-Err-clause-balanced
 returns-in-Err-clause-balanced g c =
     let (moment, place, led) = c.give_up-in-Err.ensures.led in
-    rw led.asked (give_up_balances c.args.object moment place (g.P.Port.asked c.args.connection.now.port.now) c.requires.runs)
+    rw led.asked (give_up_balances c.args.object moment place (g.P.Port.shown c.args.connection.now.port.now).asked c.requires.runs)

@@ -12,24 +12,24 @@ use Rattle.call_dispatch.proofs.calls.finish.Goals as goal
 
 pub finished-requires : goal.finished-requires
 finished-requires g c =
-    let over = finish_answered c.args.object c.args.pending.made c.args.pending.listed c.args.uid (g.P.Port.asked c.args.connection.now.port.now) c.in-Ok.turn.reply c.requires.runs c.in-Ok.ensures.answers in
+    let over = finish_answered c.args.object c.args.pending.made c.args.pending.listed c.args.uid (g.P.Port.shown c.args.connection.now.port.now).asked c.in-Ok.turn.reply c.requires.runs c.in-Ok.ensures.answers in
     record { ready = ready_for c.args.pending.made c.in-Ok.turn.reply c.args.pending.sent c.requires.pending over }
 
 pub returns-in-Ok-clause-finishes : goal.returns-in-Ok-clause-finishes
 returns-in-Ok-clause-finishes g c outcome pends =
     let (moment, led) = c.in-Ok.ensures.led in
-    let over = finish_answered c.args.object c.args.pending.made c.args.pending.listed c.args.uid (g.P.Port.asked c.args.connection.now.port.now) c.in-Ok.turn.reply c.requires.runs c.in-Ok.ensures.answers in
+    let over = finish_answered c.args.object c.args.pending.made c.args.pending.listed c.args.uid (g.P.Port.shown c.args.connection.now.port.now).asked c.in-Ok.turn.reply c.requires.runs c.in-Ok.ensures.answers in
     let sends = c.finished.ensures.sends c.args.connection.now.book.now outcome in
     finishes_answered _ _ (terms_of c.args.connection.now.book.now c.args.connection.now.setup.now) c.args.object c.args.uid outcome c.args.pending.listed _ _ moment c.in-Ok.turn c.finished.result
     pends.listed (subst (λ made. IsFinished made c.in-Ok.turn.reply) pends.made over)
     (led_same _ _ _ _ _ _ (finish_same moment c.args.object outcome c.args.pending.made c.args.pending.listed c.args.uid (Ok c.in-Ok.turn) pends.made) led)
-    (rw c.take_turn.ensures.setup at sends pends.sent)
+    (rw c.take_turn.ensures.frame.setup at sends pends.sent)
 
 pub returns-in-Ok-clause-balanced : goal.returns-in-Ok-clause-balanced
 returns-in-Ok-clause-balanced g c =
     let (moment, led) = c.in-Ok.ensures.led in
-    rw led.asked (finish_balances c.args.object c.args.pending.made c.args.pending.listed c.args.uid moment c.in-Ok.turn (g.P.Port.asked c.args.connection.now.port.now) c.requires.runs
-    (finish_answered c.args.object c.args.pending.made c.args.pending.listed c.args.uid (g.P.Port.asked c.args.connection.now.port.now) c.in-Ok.turn.reply c.requires.runs c.in-Ok.ensures.answers))
+    rw led.asked (finish_balances c.args.object c.args.pending.made c.args.pending.listed c.args.uid moment c.in-Ok.turn (g.P.Port.shown c.args.connection.now.port.now).asked c.requires.runs
+    (finish_answered c.args.object c.args.pending.made c.args.pending.listed c.args.uid (g.P.Port.shown c.args.connection.now.port.now).asked c.in-Ok.turn.reply c.requires.runs c.in-Ok.ensures.answers))
 
 pub returns-in-Err-clause-finishes : goal.returns-in-Err-clause-finishes
 returns-in-Err-clause-finishes g c outcome pends =
@@ -43,5 +43,5 @@ returns-in-Err-clause-balanced g c =
     let (moment, led) = c.in-Err.ensures.led in
     let (moment2, place, up) = c.give_up.ensures.led in
     let ask = Finish c.args.object c.args.pending.made c.args.pending.listed c.args.uid in
-    rw (up.asked, led.asked) (give_up_balances c.args.object moment2 place (g.P.Port.asked c.args.connection.now.port.now ++ flat_map entries (acts_of moment ask (Err c.in-Err.refused)))
-    (finish_refused c.args.object c.args.pending.made c.args.pending.listed c.args.uid moment c.in-Err.refused (g.P.Port.asked c.args.connection.now.port.now) c.requires.runs))
+    rw (up.asked, led.asked) (give_up_balances c.args.object moment2 place ((g.P.Port.shown c.args.connection.now.port.now).asked ++ flat_map entries (acts_of moment ask (Err c.in-Err.refused)))
+    (finish_refused c.args.object c.args.pending.made c.args.pending.listed c.args.uid moment c.in-Err.refused (g.P.Port.shown c.args.connection.now.port.now).asked c.requires.runs))

@@ -9,26 +9,26 @@ use Rattle.call_dispatch.proofs.calls.run_call.Goals as goal
 pub returns-in_default-clause-runs_on : goal.returns-in_default-clause-runs_on
 returns-in_default-clause-runs_on g c first reads =
     let (moment, at, led) = c.give_up.ensures.led in
-    let prepared = rw c.no_such_method.ensures at (rw c.give_up.ensures.setup at c.refuse.ensures.prepared) in
-    rw c.give_up.ensures.pull (unknown_runs _ _ (terms_of c.args.connection.now.book.now c.args.connection.now.setup.now) _ c.args.head c.args.kind first (pull_state g.S.Source.half c.args.connection.now.pull) c.args.reader.stand _ _ _ _ moment at c.refuse.result c.in_default.ensures.none reads led prepared)
+    let prepared = rw c.no_such_method.ensures at (rw c.give_up.ensures.frame.setup at c.refuse.ensures.prepared) in
+    rw c.give_up.ensures.frame.pull (unknown_runs _ _ (terms_of c.args.connection.now.book.now c.args.connection.now.setup.now) _ c.args.head c.args.kind first (pull_state g.S.Source.half c.args.connection.now.pull) c.args.reader.stand _ _ _ _ moment at c.refuse.result c.in_default.ensures.none reads led prepared)
 
 pub returns-in_default-clause-balanced : goal.returns-in_default-clause-balanced
 returns-in_default-clause-balanced g c =
     let (moment, at, led) = c.give_up.ensures.led in
-    rw led.asked (give_up_balances c.args.head.id moment at (g.P.Port.asked c.args.connection.now.port.now) c.requires.runs)
+    rw led.asked (give_up_balances c.args.head.id moment at (g.P.Port.shown c.args.connection.now.port.now).asked c.requires.runs)
 
 pub returns-in-Ok-clause-runs_on : goal.returns-in-Ok-clause-runs_on
 returns-in-Ok-clause-runs_on g c first reads =
     let takes = c.in-Ok.ensures.call first c.args.head reads in
     rw c.conclude.ensures.pull (ran_runs _ _ (terms_of c.args.connection.now.book.now c.args.connection.now.setup.now) _ c.args.head c.args.kind c.in-Some.method_place c.in-Some-method.method.now c.in-Ok.arguments c.invoke-outcome.result first _ _ _ _ _ _ c.conclude.result
     c.in-Some.ensures.some c.in-Some-method.ensures takes
-    (led_invoked _ _ (g.P.Port.asked c.args.connection.now.port.now) (g.C.Clock.given c.args.connection.now.clock.now) _ c.invoke-outcome.result _ _ _ _ _ _ c.invoke-outcome.ensures.calls c.invoke-outcome.ensures.may c.invoke-outcome.ensures.seen c.invoke-outcome.ensures.state)
+    (led_invoked _ _ (g.P.Port.shown c.args.connection.now.port.now).asked (g.C.Clock.given c.args.connection.now.clock.now) _ c.invoke-outcome.result _ _ _ _ _ _ _ _ c.invoke-outcome.ensures.number c.invoke-outcome.ensures.calls c.invoke-outcome.ensures.may c.invoke-outcome.ensures.seen c.invoke-outcome.ensures.state)
     c.conclude.ensures.concludes)
 
 pub returns-in-Err-clause-runs_on : goal.returns-in-Err-clause-runs_on
 returns-in-Err-clause-runs_on g c first reads =
     inr (
-      ap (λ s. s.now.draw.drawn) c.give_up-in-Err.ensures.setup,
+      ap (λ s. s.now.draw.drawn) c.give_up-in-Err.ensures.frame.setup,
       (
         pull_state g.S.Source.half c.args.connection.now.pull,
         c.args.reader.stand,
@@ -38,7 +38,7 @@ returns-in-Err-clause-runs_on g c first reads =
         reads,
         c.in-Some.ensures.some,
         c.in-Some-method.ensures,
-        rw c.give_up-in-Err.ensures.pull c.in-Err.ensures.stops,
+        rw c.give_up-in-Err.ensures.frame.pull c.in-Err.ensures.stops,
         c.end_of.ensures,
       ),
       c.give_up-in-Err.ensures.led,
@@ -47,4 +47,4 @@ returns-in-Err-clause-runs_on g c first reads =
 pub returns-in-Err-clause-balanced : goal.returns-in-Err-clause-balanced
 returns-in-Err-clause-balanced g c =
     let (moment, at, led) = c.give_up-in-Err.ensures.led in
-    rw led.asked (give_up_balances c.args.head.id moment at (g.P.Port.asked c.args.connection.now.port.now) c.requires.runs)
+    rw led.asked (give_up_balances c.args.head.id moment at (g.P.Port.shown c.args.connection.now.port.now).asked c.requires.runs)

@@ -3,9 +3,10 @@ use Rattle.call_dispatch.specs.ConnectionState.{state_of_connection}
 use Rattle.call_dispatch.specs.Dialogue.{opened}
 use Rattle.call_dispatch.specs.declared.end.ConnEnd.TheVariants as ends
 use Rattle.call_dispatch.proofs.Steps.{talks_took}
-use Rattle.call_dispatch.proofs.MessageSteps.{code_ends, ping_steps, most_on}
+use Rattle.call_dispatch.proofs.MessageSteps.{code_ends, ping_steps, most_of_call}
 use Rattle.call_dispatch.proofs.AckSteps.{ack_steps, ack_most, most_of_ack, ack_blames}
 use Rattle.call_dispatch.proofs.Blaming.{blames_from}
+use Rattle.call_dispatch.proofs.Shutting.{ack_shut}
 use Rattle.call_dispatch.proofs.messages.serve_message.Goals as goal
 
 pub returns-in-Ok-None-clause-steps : goal.returns-in-Ok-None-clause-steps
@@ -54,7 +55,7 @@ returns-in-DgcAck-clause-blames g c =
 pub returns-in-Call-clause-steps : goal.returns-in-Call-clause-steps
 returns-in-Call-clause-steps g c start opening exchanges count code stands =
     let gives = rw c.in-Call.is at (rw c.in-Ok-Some.field-0-is at c.in-Ok-Some.ensures.gives) in
-    c.serve_call.ensures.serves start (state_of_connection g.S.Source.half g.K.Sink.half g.C.Clock.given g.P.Port.asked g.W.Worker.calls g.W.Worker.seen g.W.Worker.state c.args.connection.now) opening exchanges (record {
+    c.serve_call.ensures.serves start (state_of_connection g.S.Source.half g.K.Sink.half g.C.Clock.given g.P.Port.shown g.W.Worker.shown c.args.connection.now) opening exchanges (record {
       few = omega (arith, count, c.requires.served, c.if-served-eq-MAX_MESSAGES.false);
       code = code;
       place = c.args.connection.now.pull.at;
@@ -70,10 +71,22 @@ returns-in-Call-clause-steps g c start opening exchanges count code stands =
 pub returns-in-Call-clause-most : goal.returns-in-Call-clause-most
 returns-in-Call-clause-most g c =
     let gives = rw c.in-Call.is at (rw c.in-Ok-Some.field-0-is at c.in-Ok-Some.ensures.gives) in
-    most_on c.serve_call.result _ _ _ _ (omega (arith, gives.stop, c.mark.ensures.stop, c.requires.at)) c.serve_call.ensures.most
+    most_of_call c.serve_call.result _ _ _ _ _ (omega (arith, gives.stop, c.mark.ensures.stop, c.requires.at)) (omega (arith, gives.at, c.mark.ensures.at)) c.serve_call.ensures.most c.serve_call.ensures.early
 
 pub returns-in-Call-clause-blames : goal.returns-in-Call-clause-blames
 returns-in-Call-clause-blames g c =
     let gives = rw c.in-Call.is at (rw c.in-Ok-Some.field-0-is at c.in-Ok-Some.ensures.gives) in
     let faults = rw c.mark.ensures.source at gives.faults in
     blames_from _ _ _ _ c.serve_call.result faults c.serve_call.ensures.blames
+
+pub returns-in-DgcAck-clause-shut : goal.returns-in-DgcAck-clause-shut
+returns-in-DgcAck-clause-shut g c =
+    let gives = rw c.in-DgcAck.is at (rw c.in-Ok-Some.field-0-is at c.in-Ok-Some.ensures.gives) in (
+      ack_shut _ _ _ _ _ _ _ c.acknowledge.result c.acknowledge.ensures.acknowledges ∙ gives.shut ∙ ap (λ s. (g.S.Source.half s).shut) c.mark.ensures.source,
+      ap (λ s. (g.K.Sink.half s.now).shut) c.acknowledge.ensures.sink,
+    )
+
+pub returns-in-Call-clause-shut : goal.returns-in-Call-clause-shut
+returns-in-Call-clause-shut g c =
+    let gives = rw c.in-Call.is at (rw c.in-Ok-Some.field-0-is at c.in-Ok-Some.ensures.gives) in
+    (c.serve_call.ensures.shut.0 ∙ gives.shut ∙ ap (λ s. (g.S.Source.half s).shut) c.mark.ensures.source, c.serve_call.ensures.shut.1)

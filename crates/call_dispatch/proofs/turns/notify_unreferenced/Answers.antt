@@ -7,7 +7,7 @@ pub loop-object-preserved : goal.loop-object-preserved
 loop-object-preserved g c = (
   (λ asked given.
       led_told_more _ _ _ _ _ c.args.gone.now c.loop-object.object-index _ _ c.loop-object-test.true refl (c.loop-object.invariant.0 asked given)
-      (led_told _ _ asked given _ _ _ _ _ _ _ c.unreferenced.ensures.calls c.unreferenced.ensures.seen c.unreferenced.ensures.state)),
+      (led_told _ _ asked given _ _ _ _ _ _ _ _ _ c.unreferenced.ensures.number c.unreferenced.ensures.calls c.unreferenced.ensures.seen c.unreferenced.ensures.state)),
   c.unreferenced.ensures.calls ∙ c.loop-object.invariant.1,
 )
 

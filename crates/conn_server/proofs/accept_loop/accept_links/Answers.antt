@@ -1,4 +1,4 @@
-use Rattle.std.proofs.Common.{rules, ◌≡◌, ◌∙◌, ◌+◌, ◌++◌, ◌∷◌, [], length, ap, sym, refl, arith}
+use Rattle.std.proofs.Common.{◌≡◌, ◌∙◌, ◌+◌, ◌++◌, ◌∷◌, [], length, ap, sym, refl, arith}
 use Rattle.std.specs.Prelude.{vec_len}
 use Rattle.wire_io.specs.Links.{accepted_as}
 use Rattle.conn_server.specs.Accepts.{shown_all, links_of, ticks_of, with_all}
@@ -9,12 +9,10 @@ pub loop-init : goal.loop-init
 loop-init g c =
     let a = c.args.accepting in
     let fresh = c.requires.fresh in
-    let turns = c.requires.turns.1 in
     let read_half = g.L.In.Source.half in let write_half = g.L.Out.Sink.half in let given = g.L.Ticks.Clock.given in
     let told = (g.L.Listener.listening c.args.listener.now).accepted in
     record {
       is = c.requires.accepting;
-      turns = omega (arith, turns);
       count = a.started.ok.0 ∙ ap length fresh.0;
       tied = fresh.1 ∙ ap (λ l. ticks_of (shown_all read_half write_half given l)) (sym fresh.0);
       links = sym (with_none told) ∙ ap (λ l. with_all told (links_of (shown_all read_half write_half given l))) (sym fresh.0);
@@ -22,25 +20,23 @@ loop-init g c =
       ports = refl;
     }
 
-pub admit-next-requires-clause-turns : goal.admit-next-requires-clause-turns
-admit-next-requires-clause-turns g c κs within =
+pub admit-next-requires-clause-few : goal.admit-next-requires-clause-few
+admit-next-requires-clause-few g c κs within =
     let was = c.loop.invariant in
     let freed = c.join_ended-accepted.ensures in
-    let room = was.turns in
-    let room2 = freed.turns in
     let count = was.count in
     let count2 = freed.count in
     let test = c.loop-test.true in
-    let few = c.requires.turns.0 in
-    (omega (arith, room, room2, test, few), omega (arith, count, count2, test, few))
+    let few = c.requires.few in
+    omega (arith, count, count2, test, few)
 
 pub admit-next-requires-clause-tied : goal.admit-next-requires-clause-tied
 admit-next-requires-clause-tied g c κs within =
     let freed = c.join_ended-accepted.ensures in
     ap (λ v. v.items) freed.ticks ∙ (c.loop.invariant.tied ∙ ap (λ l. ticks_of l) (sym freed.links))
 
-pub returns-then-not-taken-clause-links : goal.returns-then-not-taken-clause-links
-returns-then-not-taken-clause-links g c =
+pub returns-in-Some-clause-links : goal.returns-in-Some-clause-links
+returns-in-Some-clause-links g c =
     let read_half = g.L.In.Source.half in let write_half = g.L.Out.Sink.half in let given = g.L.Ticks.Clock.given in
     let next = c.admit-next.result.0 in
     let was = c.loop.invariant in
@@ -48,15 +44,16 @@ returns-then-not-taken-clause-links g c =
     let told = (g.L.Listener.listening c.args.listener.now).accepted in
     let link = accepted_as read_half write_half given c.in-Ok.link in
     let freed = c.join_ended-accepted.result in
-    let here : links_of (shown_all read_half write_half given next.started.items) ≡ links_of (shown_all read_half write_half given freed.started.items) = search rules in
+    let here : links_of (shown_all read_half write_half given next.started.items) ≡ links_of (shown_all read_half write_half given freed.started.items) = rw c.in-Some.is at c.admit-next.ensures.links in
     let same : links_of (shown_all read_half write_half given next.started.items) ≡ before = here ∙ ap (λ l. links_of l) c.join_ended-accepted.ensures.links in
-    let count : vec_len next.started ≡ vec_len freed.started = search rules in
+    let count : vec_len next.started ≡ vec_len freed.started = rw c.in-Some.is at c.admit-next.ensures.count in
     let count2 = c.join_ended-accepted.ensures.count in
     let counter = was.count in
     let test = c.loop-test.true in (
       link ∷ [],
       one_more told (g.L.Listener.listening c.loop.listener).accepted (g.L.Listener.listening c.next_link.new.listener).accepted before link was.links c.in-Ok.ensures.accepts.0 ∙ ap (λ l. with_all told (l ++ link ∷ [])) (sym same),
       (omega (arith, count, count2, counter, test), refl),
+      rw c.in-Some.is at c.admit-next.ensures.lost,
     )
 
 pub loop-preserved : goal.loop-preserved
@@ -68,19 +65,15 @@ loop-preserved g c =
     let told = (g.L.Listener.listening c.args.listener.now).accepted in
     let link = accepted_as read_half write_half given c.in-Ok.link in
     let freed = c.join_ended-accepted.result in
-    let here : links_of (shown_all read_half write_half given next.started.items) ≡ links_of (shown_all read_half write_half given freed.started.items) ++ link ∷ [] = search rules in
+    let here : links_of (shown_all read_half write_half given next.started.items) ≡ links_of (shown_all read_half write_half given freed.started.items) ++ link ∷ [] = rw c.in-None.is at c.admit-next.ensures.links in
     let longer : links_of (shown_all read_half write_half given next.started.items) ≡ before ++ link ∷ [] = here ∙ ap (λ l. links_of l ++ link ∷ []) c.join_ended-accepted.ensures.links in
-    let count : vec_len next.started ≡ vec_len freed.started + 1 = search rules in
+    let count : vec_len next.started ≡ vec_len freed.started + 1 = rw c.in-None.is at c.admit-next.ensures.count in
     let count2 = c.join_ended-accepted.ensures.count in
     let counter = was.count in
-    let room = was.turns in
-    let room2 = c.admit-next.ensures.turns in
-    let room3 = c.join_ended-accepted.ensures.turns in
     let faults = was.faults in
     let faults2 = c.in-Ok.ensures.accepts.1 in
     record {
       is = c.admit-next.ensures.accepting;
-      turns = omega (arith, room, room2, room3);
       count = omega (arith, count, count2, counter);
       tied = c.admit-next.ensures.tied;
       links = one_more told (g.L.Listener.listening c.loop.listener).accepted (g.L.Listener.listening c.next_link.new.listener).accepted before link was.links c.in-Ok.ensures.accepts.0 ∙ ap (with_all told) (sym longer);

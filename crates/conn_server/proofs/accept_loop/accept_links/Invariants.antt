@@ -1,17 +1,15 @@
-use Rattle.std.specs.Prelude.{◌≡◌, ◌+◌, ◌≤◌, vec_len}
+use Rattle.std.specs.Prelude.{◌≡◌, ◌≤◌, vec_len}
 use Rattle.conn_server.specs.Accepts.{IsAccepting, shown_all, links_of, ticks_of, with_all}
 use Rattle.conn_server.specs.Made.{IsMadeFor}
 use Rattle.conn_server.specs.Talks.{TalksOver}
 use Rattle.conn_server.proofs.accept_loop.accept_links.Given as goal
-use Rattle.conn_server.specs.declared.plan.TheConstants.{MAX_LINKS}
 
 abbrev pub invariant-loop : goal.invariant-loop
 invariant-loop g l = record {
   is : IsAccepting
-      (TalksOver g.L.In.Source.half g.L.Out.Sink.half g.L.Ticks.Clock.given g.G.Hand.Worker.calls g.G.Hand.Worker.seen g.G.Hand.Worker.state g.G.Hand.Worker.may g.G.Hand.Worker.moves l.book)
-      (IsMadeFor g.L.In.Source.half g.L.Out.Sink.half g.L.Ticks.Clock.given g.G.Hand.Worker.seen g.G.Hand.Worker.state g.G.Hand.Worker.moves l.plan)
-      g.G.Hand.Worker.calls l.lock l.book l.accepting;
-  turns : MAX_LINKS ≤ l.accepting.root.pass.room + l.counter;
+      (TalksOver g.L.In.Source.half g.L.Out.Sink.half g.L.Ticks.Clock.given g.G.Hand.Worker.shown g.G.Hand.Worker.may g.G.Hand.Worker.moves l.book)
+      (IsMadeFor g.L.In.Source.half g.L.Out.Sink.half g.L.Ticks.Clock.given g.G.Hand.Worker.shown g.G.Hand.Worker.moves l.plan)
+      g.G.Hand.Worker.shown l.lock l.book l.accepting;
   count : vec_len l.accepting.started ≡ l.counter;
   tied : l.accepting.ticks.items ≡ ticks_of (shown_all g.L.In.Source.half g.L.Out.Sink.half g.L.Ticks.Clock.given l.accepting.started.items);
   links : (g.L.Listener.listening l.listener).accepted ≡ with_all (g.L.Listener.listening l.fn.listener).accepted (links_of (shown_all g.L.In.Source.half g.L.Out.Sink.half g.L.Ticks.Clock.given l.accepting.started.items));

@@ -19,8 +19,8 @@ loop-link-init g c =
     let len : into_iter_len it ≡ vec_len a.started = gives.1 in
     let none : vec_len a.reports ≡ 0 = a.reports.ok.0 ∙ ap length is.empty in
     let room = is.room in
-    let talked = TalksOver g.I.Source.half g.O.Sink.half g.T.Clock.given g.H.Worker.calls g.H.Worker.seen g.H.Worker.state g.H.Worker.may g.H.Worker.moves c.args.book.now in
-    let made = IsMadeFor g.I.Source.half g.O.Sink.half g.T.Clock.given g.H.Worker.seen g.H.Worker.state g.H.Worker.moves c.args.plan.now in
+    let talked = TalksOver g.I.Source.half g.O.Sink.half g.T.Clock.given g.H.Worker.shown g.H.Worker.may g.H.Worker.moves c.args.book.now in
+    let made = IsMadeFor g.I.Source.half g.O.Sink.half g.T.Clock.given g.H.Worker.shown g.H.Worker.moves c.args.plan.now in
     record {
       same = len ∙ (a.started.ok.0 ∙ ap length (sym gives.0));
       root = is.own;
@@ -28,8 +28,8 @@ loop-link-init g c =
       made = is.made;
       ticked = ticked_first _ _ is.ticked;
       room = omega (arith, none, len, room);
-      joining = subst (λ (l : List _). Joining talked made g.H.Worker.calls c.args.lock.now c.args.book.now a.started.items l (view_of a.root.pass) a.reports.items) (sym gives.0)
-          (joining_first talked made g.H.Worker.calls c.args.lock.now c.args.book.now a.started.items (view_of a.root.pass) a.reports.items is.links is.empty);
+      joining = subst (λ (l : List _). Joining talked made g.H.Worker.shown c.args.lock.now c.args.book.now a.started.items l (view_of a.root.pass) a.reports.items) (sym gives.0)
+          (joining_first talked made g.H.Worker.shown c.args.lock.now c.args.book.now a.started.items (view_of a.root.pass) a.reports.items is.links is.empty);
     }
 
 pub loop-link-preserved : goal.loop-link-preserved

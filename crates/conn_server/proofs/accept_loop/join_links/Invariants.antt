@@ -17,7 +17,7 @@ invariant-loop-link g l = record {
   ticked : IsTicked (view_of l.root.pass) l.fn.accepting.ticks.items;
   room : vec_len l.reports + into_iter_len l.link-iterator ≤ vec_capacity l.reports;
   joining : Joining
-      (TalksOver g.I.Source.half g.O.Sink.half g.T.Clock.given g.H.Worker.calls g.H.Worker.seen g.H.Worker.state g.H.Worker.may g.H.Worker.moves l.book)
-      (IsMadeFor g.I.Source.half g.O.Sink.half g.T.Clock.given g.H.Worker.seen g.H.Worker.state g.H.Worker.moves l.plan)
-      g.H.Worker.calls l.lock l.book l.fn.accepting.started.items (into_iter_items l.link-iterator) (view_of l.root.pass) l.reports.items;
+      (TalksOver g.I.Source.half g.O.Sink.half g.T.Clock.given g.H.Worker.shown g.H.Worker.may g.H.Worker.moves l.book)
+      (IsMadeFor g.I.Source.half g.O.Sink.half g.T.Clock.given g.H.Worker.shown g.H.Worker.moves l.plan)
+      g.H.Worker.shown l.lock l.book l.fn.accepting.started.items (into_iter_items l.link-iterator) (view_of l.root.pass) l.reports.items;
 }

@@ -10,9 +10,6 @@ use Rattle.conn_server.proofs.admission.admit.Goals as goal
 pub returns-in_default-clause-accepting : goal.returns-in_default-clause-accepting
 returns-in_default-clause-accepting g c = same_accepting _ _ _ _ _ _ _ c.reserve_link-accepting.ensures.same c.requires.accepting
 
-pub returns-in_default-clause-turns : goal.returns-in_default-clause-turns
-returns-in_default-clause-turns g c = let root = ap (λ r. r.pass.room) c.reserve_link-accepting.ensures.same.root in omega (arith, root)
-
 pub returns-in_default-clause-tied : goal.returns-in_default-clause-tied
 returns-in_default-clause-tied g c =
     let same = c.reserve_link-accepting.ensures.same in
@@ -27,16 +24,10 @@ returns-in_default-clause-count g c = c.reserve_link-accepting.ensures.same.coun
 pub prepare_link-accepting-requires-clause-accepting : goal.prepare_link-accepting-requires-clause-accepting
 prepare_link-accepting-requires-clause-accepting g c = same_accepting _ _ _ _ _ _ _ c.reserve_link-accepting.ensures.same c.requires.accepting
 
-pub prepare_link-accepting-requires-clause-turns : goal.prepare_link-accepting-requires-clause-turns
-prepare_link-accepting-requires-clause-turns g c =
-    let root = ap (λ r. r.pass.room) c.reserve_link-accepting.ensures.same.root in
-    let turns = c.requires.turns.0 in
-    omega (arith, root, turns)
-
 pub prepare_link-accepting-requires-clause-few : goal.prepare_link-accepting-requires-clause-few
 prepare_link-accepting-requires-clause-few g c =
     let count = c.reserve_link-accepting.ensures.same.count in
-    let few = c.requires.turns.1 in
+    let few = c.requires.few in
     omega (arith, count, few)
 
 pub prepare_link-accepting-requires-clause-room : goal.prepare_link-accepting-requires-clause-room
@@ -45,58 +36,45 @@ prepare_link-accepting-requires-clause-room g c = rw c.in-Some.is at c.reserve_l
 pub prepare_link-accepting-requires-clause-ready : goal.prepare_link-accepting-requires-clause-ready
 prepare_link-accepting-requires-clause-ready g c =
     let made = c.reserve_link-accepting.ensures in
-    subst (λ (n : ℕ). IsHandFor g.G.Hand.Worker.calls g.G.Hand.Worker.seen c.args.plan.now (n + 1) c.args.link.host c.args.link.port c.in-Some.ready) (sym made.same.count) (rw c.in-Some.is at made.ready)
+    subst (λ (n : ℕ). IsHandFor g.G.Hand.Worker.shown c.args.plan.now (n + 1) c.args.link.host c.args.link.port c.in-Some.ready) (sym made.same.count) (rw c.in-Some.is at made.ready)
 
-pub returns-in_default-admitted-clause-accepting : goal.returns-in_default-admitted-clause-accepting
-returns-in_default-admitted-clause-accepting g c = c.prepare_link-accepting.ensures.accepting
+pub returns-in-Err-clause-accepting : goal.returns-in-Err-clause-accepting
+returns-in-Err-clause-accepting g c = c.prepare_link-accepting.ensures.accepting
 
-pub returns-in_default-admitted-clause-turns : goal.returns-in_default-admitted-clause-turns
-returns-in_default-admitted-clause-turns g c =
-    let root = ap (λ r. r.pass.room) c.reserve_link-accepting.ensures.same.root in
-    let turns = c.prepare_link-accepting.ensures.turns in
-    omega (arith, root, turns)
-
-pub returns-in_default-admitted-clause-tied : goal.returns-in_default-admitted-clause-tied
-returns-in_default-admitted-clause-tied g c =
+pub returns-in-Err-clause-tied : goal.returns-in-Err-clause-tied
+returns-in-Err-clause-tied g c =
     let same = c.reserve_link-accepting.ensures.same in
     let prepared = c.prepare_link-accepting.ensures in
-    (rw c.in_default-admitted.is at prepared.ticks)
+    (rw c.in-Err.is at prepared.no_tick)
     ∙ (same.ticks ∙ (c.requires.tied ∙ ap (λ l. ticks_of (shown_all g.I.Source.half g.O.Sink.half g.T.Clock.given l)) (sym (ap (λ v. v.items) prepared.links.0 ∙ same.started))))
 
-pub returns-in_default-admitted-clause-links : goal.returns-in_default-admitted-clause-links
-returns-in_default-admitted-clause-links g c =
+pub returns-in-Err-clause-links : goal.returns-in-Err-clause-links
+returns-in-Err-clause-links g c =
     ap (λ v. links_of (shown_all g.I.Source.half g.O.Sink.half g.T.Clock.given v.items)) c.prepare_link-accepting.ensures.links.0
     ∙ ap (λ l. links_of (shown_all g.I.Source.half g.O.Sink.half g.T.Clock.given l)) c.reserve_link-accepting.ensures.same.started
 
-pub returns-in_default-admitted-clause-count : goal.returns-in_default-admitted-clause-count
-returns-in_default-admitted-clause-count g c = ap vec_len c.prepare_link-accepting.ensures.links.0 ∙ c.reserve_link-accepting.ensures.same.count
+pub returns-in-Err-clause-count : goal.returns-in-Err-clause-count
+returns-in-Err-clause-count g c = ap vec_len c.prepare_link-accepting.ensures.links.0 ∙ c.reserve_link-accepting.ensures.same.count
 
-pub returns-clause-accepting : goal.returns-clause-accepting
-returns-clause-accepting g c = c.start_link-accepting.ensures.accepting
+pub returns-in-Ok-clause-accepting : goal.returns-in-Ok-clause-accepting
+returns-in-Ok-clause-accepting g c = c.start_link-accepting.ensures.accepting
 
-pub returns-clause-turns : goal.returns-clause-turns
-returns-clause-turns g c =
-    let root = ap (λ r. r.pass.room) c.reserve_link-accepting.ensures.same.root in
-    let turns = c.prepare_link-accepting.ensures.turns in
-    let begun = c.start_link-accepting.ensures.turns in
-    omega (arith, root, turns, begun)
-
-pub returns-clause-tied : goal.returns-clause-tied
-returns-clause-tied g c =
+pub returns-in-Ok-clause-tied : goal.returns-in-Ok-clause-tied
+returns-in-Ok-clause-tied g c =
     let same = c.reserve_link-accepting.ensures.same in
     let prepared = c.prepare_link-accepting.ensures in
     let begun = c.start_link-accepting.ensures in
-    ticks_on (shown_all g.I.Source.half g.O.Sink.half g.T.Clock.given c.prepare_link-accepting.result.0.started.items) _ (shown_admitted g.I.Source.half g.O.Sink.half g.T.Clock.given c.in-Some-admitted.admitted) _ _ begun.links
+    ticks_on (shown_all g.I.Source.half g.O.Sink.half g.T.Clock.given c.prepare_link-accepting.result.0.started.items) _ (shown_admitted g.I.Source.half g.O.Sink.half g.T.Clock.given c.in-Ok.admitted) _ _ begun.links
     (same.ticks ∙ (c.requires.tied ∙ ap (λ l. ticks_of (shown_all g.I.Source.half g.O.Sink.half g.T.Clock.given l)) (sym (ap (λ v. v.items) prepared.links.0 ∙ same.started))))
-    (ap (λ v. v.items) begun.ticks ∙ (rw c.in-Some-admitted.is at prepared.ticks))
+    (ap (λ v. v.items) begun.ticks ∙ (rw c.in-Ok.is at prepared.ticks))
 
-pub returns-clause-links : goal.returns-clause-links
-returns-clause-links g c =
+pub returns-in-Ok-clause-links : goal.returns-in-Ok-clause-links
+returns-in-Ok-clause-links g c =
     let same = c.reserve_link-accepting.ensures.same in
     let prepared = c.prepare_link-accepting.ensures in
-    links_on (shown_all g.I.Source.half g.O.Sink.half g.T.Clock.given c.prepare_link-accepting.result.0.started.items) _ (shown_admitted g.I.Source.half g.O.Sink.half g.T.Clock.given c.in-Some-admitted.admitted) _ _ c.start_link-accepting.ensures.links
+    links_on (shown_all g.I.Source.half g.O.Sink.half g.T.Clock.given c.prepare_link-accepting.result.0.started.items) _ (shown_admitted g.I.Source.half g.O.Sink.half g.T.Clock.given c.in-Ok.admitted) _ _ c.start_link-accepting.ensures.links
     (ap (λ l. links_of (shown_all g.I.Source.half g.O.Sink.half g.T.Clock.given l)) (ap (λ v. v.items) prepared.links.0 ∙ same.started))
-    (ap (λ l. accepted_as g.I.Source.half g.O.Sink.half g.T.Clock.given l) (rw c.in-Some-admitted.is at prepared.first))
+    (ap (λ l. accepted_as g.I.Source.half g.O.Sink.half g.T.Clock.given l) (rw c.in-Ok.is at prepared.first))
 
-pub returns-clause-count : goal.returns-clause-count
-returns-clause-count g c = c.start_link-accepting.ensures.count ∙ ap (λ n. n + 1) (ap vec_len c.prepare_link-accepting.ensures.links.0 ∙ c.reserve_link-accepting.ensures.same.count)
+pub returns-in-Ok-clause-count : goal.returns-in-Ok-clause-count
+returns-in-Ok-clause-count g c = c.start_link-accepting.ensures.count ∙ ap (λ n. n + 1) (ap vec_len c.prepare_link-accepting.ensures.links.0 ∙ c.reserve_link-accepting.ensures.same.count)

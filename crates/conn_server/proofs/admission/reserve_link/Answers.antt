@@ -11,6 +11,8 @@ returns-in-Ok-clause-ready g c =
     record {
       told = made.calls;
       untold = made.untold;
+      uncounted = made.uncounted;
+      hand = made.number ∙ ap (λ n. n + 1) (c.len.ensures ∙ c.with_room-accepting.ensures.same.count);
       terms = λ kinds. subst (λ (k : ℕ). terms_of kinds c.in-Ok.ready.setup ≡ link_terms kinds c.args.plan.now k link.host link.port)
           (ap (λ n. n + 1) (c.len.ensures ∙ c.with_room-accepting.ensures.same.count)) (made.terms kinds);
       peer_host = made.peer_host;

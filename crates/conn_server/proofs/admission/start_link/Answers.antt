@@ -1,4 +1,4 @@
-use Rattle.std.proofs.Common.{refl, ap, arith, ◌+◌, ◌≤◌}
+use Rattle.std.proofs.Common.{refl, ap, ◌+◌}
 use Rattle.conn_server.proofs.Taking.{link_accepting}
 use Rattle.conn_server.proofs.admission.start_link.Goals as goal
 
@@ -8,8 +8,6 @@ returns-clause-accepting g c =
     let begun = c.start-begun in
     let next = c.requires in
     let is = next.accepting in
-    let r = s.pass.1 in
-    let full : 2147483648 ≤ c.in-Ok.pass.room = omega (arith, r) in
-    link_accepting _ _ _ c.args.lock.now c.args.book.now c.args.accepting _ _ begun.result is c.split.ensures.root s.pass.2 s.pass.3 s.pass.5 s.pass.4 (ap (λ n. n + 1) c.len.ensures)
-    (record { own = s.pass.0; room = full; admitted = next.can }) next.made begun.ensures.task begun.ensures.begun begun.ensures.out
+    link_accepting _ _ _ c.args.lock.now c.args.book.now c.args.accepting _ _ begun.result is c.split.ensures.root s.pass.1 s.pass.2 s.pass.4 s.pass.3 (ap (λ n. n + 1) c.len.ensures)
+    (record { own = s.pass.0; admitted = next.can }) next.made next.after_tick begun.ensures.task begun.ensures.begun begun.ensures.out
     c.push_reserved.ensures.items c.push_reserved.ensures.len next.reports is.empty refl

@@ -12,11 +12,14 @@ returns-in-Ok-clause-seen g c =
     let gone = c.as_slice.result.now in
     let same : flat_map calls (tells_of gone) ≡ map unreferenced (gone_with (end_of c.args.answer.now))
     = calls_told gone ∙ (ap (λ l. map unreferenced l) c.as_slice.ensures ∙ ap (λ a. map unreferenced (gone_with (end_of a))) (sym c.in-Ok.is)) in
-    subst (λ (l : List Call). TellsMore (g.H.Worker.seen c.args.hand.now) l (g.H.Worker.seen c.notify_unreferenced.new.worker)) same (c.notify_unreferenced.ensures.led [] None).seen
+    subst (λ (l : List Call). TellsMore (g.H.Worker.shown c.args.hand.now).seen l (g.H.Worker.shown c.notify_unreferenced.new.worker).seen) same (c.notify_unreferenced.ensures.led [] None).seen
 
 pub returns-in-Ok-clause-state : goal.returns-in-Ok-clause-state
 returns-in-Ok-clause-state g c =
     let gone = c.as_slice.result.now in
     let same : flat_map calls (tells_of gone) ≡ map unreferenced (gone_with (end_of c.args.answer.now))
     = calls_told gone ∙ (ap (λ l. map unreferenced l) c.as_slice.ensures ∙ ap (λ a. map unreferenced (gone_with (end_of a))) (sym c.in-Ok.is)) in
-    subst (λ (l : List Call). LeadsStates g.H.Worker.moves (g.H.Worker.state c.args.hand.now) l (g.H.Worker.state c.notify_unreferenced.new.worker)) same (c.notify_unreferenced.ensures.led [] None).state
+    subst (λ (l : List Call). LeadsStates g.H.Worker.moves (g.H.Worker.shown c.args.hand.now).state l (g.H.Worker.shown c.notify_unreferenced.new.worker).state) same (c.notify_unreferenced.ensures.led [] None).state
+
+pub returns-in-Ok-clause-number : goal.returns-in-Ok-clause-number
+returns-in-Ok-clause-number g c = (c.notify_unreferenced.ensures.led [] None).number

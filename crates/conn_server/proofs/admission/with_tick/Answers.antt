@@ -1,9 +1,10 @@
-use Rattle.std.proofs.Common.{◌≡◌, refl}
+use Rattle.std.proofs.Common.{◌≡◌, refl, length}
 use Rattle.std.specs.Prelude.{option_to_list, ◌∷◌, []}
 use Rattle.history.specs.declared.asks.Ask.TheVariants.{Tick}
 use Rattle.wire_io.specs.Wire.{Gave}
+use Rattle.turn_lock.specs.Handles.{view_of}
 use Rattle.call_dispatch.specs.Acts.{TellsMore, LeadsStates}
-use Rattle.conn_server.specs.Made.{told_of}
+use Rattle.conn_server.specs.Made.{IsTakenBelow, IsTickEnd, told_of}
 use Rattle.conn_server.proofs.Taking.{tick_accepting}
 use Rattle.conn_server.proofs.Ticks.{known_there, kept_there}
 use Rattle.conn_server.proofs.admission.with_tick.Goals as goal
@@ -19,11 +20,18 @@ returns-clause-ticks g c = kept_there (λ k. k.value) c.args.accepting.ticks.ite
 pub returns-clause-asked : goal.returns-clause-asked
 returns-clause-asked g c = known_there (λ k. k.value) (λ entry. entry.ask ≡ Tick) c.tick-entry.result c.keep_entry-known.result c.keep_entry-known.ensures.known c.tick-entry.ensures.asked
 
+pub returns-clause-end : goal.returns-clause-end
+returns-clause-end g c = known_there (λ k. k.value) (λ entry. IsTickEnd entry.end) c.tick-entry.result c.keep_entry-known.result c.keep_entry-known.ensures.known c.tick-entry.ensures.end
+
+pub returns-clause-place : goal.returns-clause-place
+returns-clause-place g c =
+    known_there (λ k. k.value) (λ entry. IsTakenBelow (length (view_of c.tick-entry.new.root.pass).seen) entry.end) c.tick-entry.result c.keep_entry-known.result c.keep_entry-known.ensures.known c.tick-entry.ensures.place
+
 pub returns-clause-given : goal.returns-clause-given
 returns-clause-given g c = known_there (λ k. k.value) (λ entry. Gave (g.T.Clock.given c.args.clock.now) (g.T.Clock.given c.tick-entry.new.clock) (entry.moment ∷ [])) c.tick-entry.result c.keep_entry-known.result c.keep_entry-known.ensures.known c.tick-entry.ensures.given
 
 pub returns-clause-seen : goal.returns-clause-seen
-returns-clause-seen g c = known_there (λ k. k.value) (λ entry. TellsMore (g.H.Worker.seen c.args.hand.now) (told_of entry) (g.H.Worker.seen c.tick-entry.new.hand)) c.tick-entry.result c.keep_entry-known.result c.keep_entry-known.ensures.known c.tick-entry.ensures.seen
+returns-clause-seen g c = known_there (λ k. k.value) (λ entry. TellsMore (g.H.Worker.shown c.args.hand.now).seen (told_of entry) (g.H.Worker.shown c.tick-entry.new.hand).seen) c.tick-entry.result c.keep_entry-known.result c.keep_entry-known.ensures.known c.tick-entry.ensures.seen
 
 pub returns-clause-state : goal.returns-clause-state
-returns-clause-state g c = known_there (λ k. k.value) (λ entry. LeadsStates g.H.Worker.moves (g.H.Worker.state c.args.hand.now) (told_of entry) (g.H.Worker.state c.tick-entry.new.hand)) c.tick-entry.result c.keep_entry-known.result c.keep_entry-known.ensures.known c.tick-entry.ensures.state
+returns-clause-state g c = known_there (λ k. k.value) (λ entry. LeadsStates g.H.Worker.moves (g.H.Worker.shown c.args.hand.now).state (told_of entry) (g.H.Worker.shown c.tick-entry.new.hand).state) c.tick-entry.result c.keep_entry-known.result c.keep_entry-known.ensures.known c.tick-entry.ensures.state

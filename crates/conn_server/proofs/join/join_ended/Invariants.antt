@@ -7,10 +7,9 @@ use Rattle.conn_server.proofs.join.join_ended.Given as goal
 abbrev pub invariant-loop : goal.invariant-loop
 invariant-loop g l = record {
   is : IsAccepting
-      (TalksOver g.I.Source.half g.O.Sink.half g.T.Clock.given g.H.Worker.calls g.H.Worker.seen g.H.Worker.state g.H.Worker.may g.H.Worker.moves l.book)
-      (IsMadeFor g.I.Source.half g.O.Sink.half g.T.Clock.given g.H.Worker.seen g.H.Worker.state g.H.Worker.moves l.plan)
-      g.H.Worker.calls l.lock l.book l.accepting;
-  turns : l.accepting.root.pass.room ≡ l.fn.accepting.root.pass.room;
+      (TalksOver g.I.Source.half g.O.Sink.half g.T.Clock.given g.H.Worker.shown g.H.Worker.may g.H.Worker.moves l.book)
+      (IsMadeFor g.I.Source.half g.O.Sink.half g.T.Clock.given g.H.Worker.shown g.H.Worker.moves l.plan)
+      g.H.Worker.shown l.lock l.book l.accepting;
   ticks : l.accepting.ticks ≡ l.fn.accepting.ticks;
   links : shown_all g.I.Source.half g.O.Sink.half g.T.Clock.given l.accepting.started.items ≡ shown_all g.I.Source.half g.O.Sink.half g.T.Clock.given l.fn.accepting.started.items;
   count : vec_len l.accepting.started ≡ vec_len l.fn.accepting.started;

@@ -18,7 +18,7 @@ returns-clause-served g c =
     let all = a.result.0.started in
     let w = view_of j.result.0.pass in
     let read_half = g.L.In.Source.half in let write_half = g.L.Out.Sink.half in let given = g.L.Ticks.Clock.given in
-    let calls = g.G.Hand.Worker.calls in let seen = g.G.Hand.Worker.seen in let state = g.G.Hand.Worker.state in
+    let shown = g.G.Hand.Worker.shown in
     let may = g.G.Hand.Worker.may in let moves = g.G.Hand.Worker.moves in
     let served = shown_all read_half write_half given all.items in
     let same : length all.items ≡ length j.result.1.items = paired_length _ 1 all.items j.result.1.items j.ensures.links in
@@ -30,7 +30,7 @@ returns-clause-served g c =
         made = j.ensures.made ∙ count;
         ticked = j.ensures.ticks.0;
         tied = ap (λ v. v.items) j.ensures.ticks.1 ∙ a.ensures.tied;
-        links = paired_known _ c.args.lock.now read_half write_half given _ _ calls (link_of read_half write_half given calls seen state may moves c.args.book.now c.args.plan.now) w 1 all.items j.result.1.items j.ensures.links;
+        links = paired_known _ c.args.lock.now read_half write_half given _ _ shown (link_of read_half write_half given shown may moves c.args.book.now c.args.plan.now) w 1 all.items j.result.1.items j.ensures.links;
       },
-      (a.ensures.links.0, a.ensures.links.1, subst (λ (n : ℕ). Stopped a.result.1 c.args.plan.now.count n a.ensures.links.0) count a.ensures.links.2),
+      (a.ensures.links.0, a.ensures.links.1, subst (λ (n : ℕ). Stopped a.result.1 c.args.plan.now.count n a.ensures.links.0) count a.ensures.links.2, a.ensures.links.3),
     )

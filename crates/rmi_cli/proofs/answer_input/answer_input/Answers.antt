@@ -1,4 +1,4 @@
-use Rattle.std.proofs.Common.{◌∙◌, refl}
+use Rattle.std.proofs.Common.{◌∙◌, refl, rules}
 use Rattle.rmi_cli.proofs.Serving.{serves_one, serves_exactly, memory_at_once, memory_unsettled}
 use Rattle.rmi_cli.proofs.answer_input.answer_input.Goals as goal
 
@@ -15,3 +15,14 @@ returns-in-Err-clause-serves g c = memory_at_once _ _ _ _
 
 pub returns-in-Err-clause-exact : goal.returns-in-Err-clause-exact
 returns-in-Err-clause-exact g c = memory_unsettled _ _ _
+
+pub serve_connection-requires-clause-can : goal.serve_connection-requires-clause-can
+serve_connection-requires-clause-can g c = record {
+  host = search rules;
+  time = search rules;
+  drawn = search rules;
+  ready = search rules;
+  room = search rules;
+  balanced = search rules;
+  calls = search rules;
+}

@@ -1,5 +1,6 @@
-use Rattle.std.proofs.Common.{refl, inl}
+use Rattle.std.proofs.Common.{refl, inl, ap, ◌∙◌}
 use Rattle.std.proofs.lemmas.Result.{err_from_is_err_and}
+use Rattle.history.specs.declared.asks.SpaceConfig.{SpaceConfig}
 use Rattle.rmi_cli.proofs.Replaying.{no_config, no_first_line, outlined, not_all}
 use Rattle.rmi_cli.proofs.outlines.replay.Goals as goal
 
@@ -21,3 +22,6 @@ pub returns : goal.returns
 returns c =
     outlined c.args.input.now c.in-Some-read_first_line.config c.in-Some.lines.now c.in_ok-outline.field-0 c.take_lines.new.space.events
     (c.in-Some.line.now, c.in-Some-read_first_line.ensures, c.in-Some.ensures.1) (rw c.fresh-space.ensures at c.in_ok-take_lines.ensures.goes) (rw c.in_ok-take_lines.ensures.config at c.in_ok-outline.ensures)
+
+pub outline-requires : goal.outline-requires
+outline-requires c = record { stored = ap (λ (k : SpaceConfig). k.stored) (c.in_ok-take_lines.ensures {u = tt}).config ∙ c.in-Some-read_first_line.ensures.1.1 }

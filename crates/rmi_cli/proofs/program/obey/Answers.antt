@@ -1,10 +1,17 @@
 use Rattle.std.proofs.Common.{refl}
-use Rattle.rmi_cli.proofs.Named.{drills_named, exactly_asked, serving_asked}
+use Rattle.rmi_cli.proofs.Answering.{answered, answers_asked}
+use Rattle.rmi_cli.proofs.Named.{drills_named, exactly_asked, prints_named, serving_asked}
 use Rattle.rmi_cli.proofs.Drilling.{drills_exactly}
 use Rattle.rmi_cli.proofs.Exactly.{told_settles}
 use Rattle.rmi_cli.proofs.Once.{replays_exactly}
+use Rattle.rmi_cli.proofs.PrintedOnce.{prints_exactly}
 use Rattle.rmi_cli.proofs.ShownOnce.{shows_exactly}
+use Rattle.rmi_cli.proofs.WorldOnce.{makes_exactly}
 use Rattle.rmi_cli.proofs.program.obey.Goals as goal
+
+pub returns-in-Answer-clause-answer : goal.returns-in-Answer-clause-answer
+returns-in-Answer-clause-answer g c options is =
+    answers_asked _ _ _ _ _ _ _ _ _ c.in-Answer.is is (answered _ _ _ _ _ _ _ _ c.answer_input-end.ensures.serves c.report_end.ensures.told)
 
 pub returns-in-Answer-clause-exact : goal.returns-in-Answer-clause-exact
 returns-in-Answer-clause-exact g c options is =
@@ -24,3 +31,10 @@ returns-in-Show-clause-show_exact g c is = shows_exactly _ _ _ _ c.show_input-en
 pub returns-in-Drill-clause-drill_exact : goal.returns-in-Drill-clause-drill_exact
 returns-in-Drill-clause-drill_exact g c text seed rounds is =
     drills_exactly text seed rounds _ _ _ (drills_named _ _ _ _ _ _ _ _ _ _ c.in-Drill.is is (c.write_drill-end.result, c.write_drill-end.ensures.ends, c.report_end-in-Drill.ensures.told, refl))
+
+pub returns-in-World-clause-world_exact : goal.returns-in-World-clause-world_exact
+returns-in-World-clause-world_exact g c is = makes_exactly _ _ _ _ c.print_world-end.ensures.ends c.report_end-in-World.ensures.told
+
+pub returns-in-Class-clause-class_exact : goal.returns-in-Class-clause-class_exact
+returns-in-Class-clause-class_exact g c output is =
+    prints_exactly output _ _ _ _ _ c.print_class-end.result (prints_named _ _ _ _ _ _ _ _ c.in-Class.is is c.print_class-end.ensures.ends) c.report_end-in-Class.ensures.told

@@ -1,78 +1,122 @@
 use Rattle.std.proofs.Common.{subst}
 use Rattle.rmi_cli.proofs.Named.{asked_fits}
-use Rattle.rmi_cli.proofs.Asked.{asked_once}
-use Rattle.rmi_cli.specs.Command.{AskFor}
-use Rattle.rmi_cli.specs.declared.words.Command.TheVariants.{Answer, Serve, Replay, Show, Drill}
+use Rattle.rmi_words.proofs.Asked.{asked_once}
+use Rattle.rmi_words.specs.Command.{AskFor}
+use Rattle.rmi_words.specs.declared.command.Command.TheVariants.{Answer, Serve, Replay, Show, Drill, World, Class, Help}
+use Rattle.rmi_cli.proofs.Wanting.{answers_none, answers_none_exactly, drills_none, drills_none_exactly, helps_none, none_told, prints_none, prints_none_exactly, replays_none, replays_none_exactly, serves_none, shows_none, shows_none_exactly, wanted, worlds_none, worlds_none_exactly}
+use Rattle.rmi_cli.proofs.WorldOnce.{keeps_promise}
 use Rattle.rmi_cli.proofs.program.run.Goals as goal
 
 pub obey-requires-clause-limits : goal.obey-requires-clause-limits
-obey-requires-clause-limits g c κs within = asked_fits _ _ c.in-Some.ensures.asked
+obey-requires-clause-limits g c κs within = asked_fits _ _ c.in-Ok.ensures.asked
 
-pub returns-in-Some-clause-answer : goal.returns-in-Some-clause-answer
-returns-in-Some-clause-answer g c options is = c.obey.ensures.answer options (asked_once _ _ (Answer options) c.in-Some.ensures.asked is)
+pub returns-in-Ok-clause-answer : goal.returns-in-Ok-clause-answer
+returns-in-Ok-clause-answer g c options is = c.obey.ensures.answer options (asked_once _ _ (Answer options) c.in-Ok.ensures.asked is)
 
-pub returns-in-Some-clause-exact : goal.returns-in-Some-clause-exact
-returns-in-Some-clause-exact g c options is = c.obey.ensures.exact options (asked_once _ _ (Answer options) c.in-Some.ensures.asked is)
+pub returns-in-Ok-clause-exact : goal.returns-in-Ok-clause-exact
+returns-in-Ok-clause-exact g c options is = c.obey.ensures.exact options (asked_once _ _ (Answer options) c.in-Ok.ensures.asked is)
 
-pub returns-in-Some-clause-serves : goal.returns-in-Some-clause-serves
-returns-in-Some-clause-serves g c serve is = c.obey.ensures.serves serve (asked_once _ _ (Serve serve) c.in-Some.ensures.asked is)
+pub returns-in-Ok-clause-serves : goal.returns-in-Ok-clause-serves
+returns-in-Ok-clause-serves g c serve is = c.obey.ensures.serves serve (asked_once _ _ (Serve serve) c.in-Ok.ensures.asked is)
 
-pub returns-in-Some-clause-replay : goal.returns-in-Some-clause-replay
-returns-in-Some-clause-replay g c is = c.obey.ensures.replay (asked_once _ _ Replay c.in-Some.ensures.asked is)
+pub returns-in-Ok-clause-replay : goal.returns-in-Ok-clause-replay
+returns-in-Ok-clause-replay g c is = c.obey.ensures.replay (asked_once _ _ Replay c.in-Ok.ensures.asked is)
 
-pub returns-in-Some-clause-replay_exact : goal.returns-in-Some-clause-replay_exact
-returns-in-Some-clause-replay_exact g c is = c.obey.ensures.replay_exact (asked_once _ _ Replay c.in-Some.ensures.asked is)
+pub returns-in-Ok-clause-replay_exact : goal.returns-in-Ok-clause-replay_exact
+returns-in-Ok-clause-replay_exact g c is = c.obey.ensures.replay_exact (asked_once _ _ Replay c.in-Ok.ensures.asked is)
 
-pub returns-in-Some-clause-show : goal.returns-in-Some-clause-show
-returns-in-Some-clause-show g c is = c.obey.ensures.show (asked_once _ _ Show c.in-Some.ensures.asked is)
+pub returns-in-Ok-clause-show : goal.returns-in-Ok-clause-show
+returns-in-Ok-clause-show g c is = c.obey.ensures.show (asked_once _ _ Show c.in-Ok.ensures.asked is)
 
-pub returns-in-Some-clause-show_exact : goal.returns-in-Some-clause-show_exact
-returns-in-Some-clause-show_exact g c is = c.obey.ensures.show_exact (asked_once _ _ Show c.in-Some.ensures.asked is)
+pub returns-in-Ok-clause-show_exact : goal.returns-in-Ok-clause-show_exact
+returns-in-Ok-clause-show_exact g c is = c.obey.ensures.show_exact (asked_once _ _ Show c.in-Ok.ensures.asked is)
 
-pub returns-in-Some-clause-drill : goal.returns-in-Some-clause-drill
-returns-in-Some-clause-drill g c text seed rounds is = c.obey.ensures.drill text seed rounds (asked_once _ _ (Drill text seed rounds) c.in-Some.ensures.asked is)
+pub returns-in-Ok-clause-drill : goal.returns-in-Ok-clause-drill
+returns-in-Ok-clause-drill g c text seed rounds is = c.obey.ensures.drill text seed rounds (asked_once _ _ (Drill text seed rounds) c.in-Ok.ensures.asked is)
 
-pub returns-in-Some-clause-drill_exact : goal.returns-in-Some-clause-drill_exact
-returns-in-Some-clause-drill_exact g c text seed rounds is = c.obey.ensures.drill_exact text seed rounds (asked_once _ _ (Drill text seed rounds) c.in-Some.ensures.asked is)
+pub returns-in-Ok-clause-drill_exact : goal.returns-in-Ok-clause-drill_exact
+returns-in-Ok-clause-drill_exact g c text seed rounds is = c.obey.ensures.drill_exact text seed rounds (asked_once _ _ (Drill text seed rounds) c.in-Ok.ensures.asked is)
 
-pub returns-in-Some-clause-network_fault : goal.returns-in-Some-clause-network_fault
-returns-in-Some-clause-network_fault g c serve is = c.obey.ensures.network_fault serve (asked_once _ _ (Serve serve) c.in-Some.ensures.asked is)
+pub returns-in-Ok-clause-world : goal.returns-in-Ok-clause-world
+returns-in-Ok-clause-world g c is = c.obey.ensures.world (asked_once _ _ World c.in-Ok.ensures.asked is)
 
-pub returns-in-Some-clause-clock : goal.returns-in-Some-clause-clock
-returns-in-Some-clause-clock g c not = c.obey.ensures.clock (λ options is. not options (subst (AskFor _) is c.in-Some.ensures.asked))
+pub returns-in-Ok-clause-world_exact : goal.returns-in-Ok-clause-world_exact
+returns-in-Ok-clause-world_exact g c is = c.obey.ensures.world_exact (asked_once _ _ World c.in-Ok.ensures.asked is)
 
-pub returns-in-Some-clause-network : goal.returns-in-Some-clause-network
-returns-in-Some-clause-network g c not = c.obey.ensures.network (λ serve is. not serve (subst (AskFor _) is c.in-Some.ensures.asked))
+pub returns-in-Ok-clause-promise : goal.returns-in-Ok-clause-promise
+returns-in-Ok-clause-promise g c is = keeps_promise _ _ _ (c.obey.ensures.world (asked_once _ _ World c.in-Ok.ensures.asked is))
 
-pub returns-in-Some-clause-read_fault : goal.returns-in-Some-clause-read_fault
-returns-in-Some-clause-read_fault g c not = c.obey.ensures.read_fault (λ serve is. not serve (subst (AskFor _) is c.in-Some.ensures.asked))
+pub returns-in-Ok-clause-class : goal.returns-in-Ok-clause-class
+returns-in-Ok-clause-class g c output is = c.obey.ensures.class output (asked_once _ _ (Class output) c.in-Ok.ensures.asked is)
 
-pub returns-in-None-clause-answer : goal.returns-in-None-clause-answer
-returns-in-None-clause-answer g c options is = absurd (c.in-None.ensures.none (Answer options) is)
+pub returns-in-Ok-clause-class_exact : goal.returns-in-Ok-clause-class_exact
+returns-in-Ok-clause-class_exact g c output is = c.obey.ensures.class_exact output (asked_once _ _ (Class output) c.in-Ok.ensures.asked is)
 
-pub returns-in-None-clause-exact : goal.returns-in-None-clause-exact
-returns-in-None-clause-exact g c options is = absurd (c.in-None.ensures.none (Answer options) is)
+pub returns-in-Ok-clause-help : goal.returns-in-Ok-clause-help
+returns-in-Ok-clause-help g c topic is = c.obey.ensures.help topic (asked_once _ _ (Help topic) c.in-Ok.ensures.asked is)
 
-pub returns-in-None-clause-serves : goal.returns-in-None-clause-serves
-returns-in-None-clause-serves g c serve is = absurd (c.in-None.ensures.none (Serve serve) is)
+pub returns-in-Ok-clause-no_command : goal.returns-in-Ok-clause-no_command
+returns-in-Ok-clause-no_command g c none = absurd (none _ c.in-Ok.ensures.asked)
 
-pub returns-in-None-clause-replay : goal.returns-in-None-clause-replay
-returns-in-None-clause-replay g c is = absurd (c.in-None.ensures.none Replay is)
+pub returns-in-Ok-clause-untouched : goal.returns-in-Ok-clause-untouched
+returns-in-Ok-clause-untouched g c none = absurd (none _ c.in-Ok.ensures.asked)
 
-pub returns-in-None-clause-replay_exact : goal.returns-in-None-clause-replay_exact
-returns-in-None-clause-replay_exact g c is = absurd (c.in-None.ensures.none Replay is)
+pub returns-in-Ok-clause-network_fault : goal.returns-in-Ok-clause-network_fault
+returns-in-Ok-clause-network_fault g c serve is = c.obey.ensures.network_fault serve (asked_once _ _ (Serve serve) c.in-Ok.ensures.asked is)
 
-pub returns-in-None-clause-show : goal.returns-in-None-clause-show
-returns-in-None-clause-show g c is = absurd (c.in-None.ensures.none Show is)
+pub returns-in-Ok-clause-clock : goal.returns-in-Ok-clause-clock
+returns-in-Ok-clause-clock g c not = c.obey.ensures.clock (λ options is. not options (subst (AskFor _) is c.in-Ok.ensures.asked))
 
-pub returns-in-None-clause-show_exact : goal.returns-in-None-clause-show_exact
-returns-in-None-clause-show_exact g c is = absurd (c.in-None.ensures.none Show is)
+pub returns-in-Ok-clause-network : goal.returns-in-Ok-clause-network
+returns-in-Ok-clause-network g c not = c.obey.ensures.network (λ serve is. not serve (subst (AskFor _) is c.in-Ok.ensures.asked))
 
-pub returns-in-None-clause-drill : goal.returns-in-None-clause-drill
-returns-in-None-clause-drill g c text seed rounds is = absurd (c.in-None.ensures.none (Drill text seed rounds) is)
+pub returns-in-Ok-clause-read_fault : goal.returns-in-Ok-clause-read_fault
+returns-in-Ok-clause-read_fault g c not = c.obey.ensures.read_fault (λ serve is. not serve (subst (AskFor _) is c.in-Ok.ensures.asked))
 
-pub returns-in-None-clause-drill_exact : goal.returns-in-None-clause-drill_exact
-returns-in-None-clause-drill_exact g c text seed rounds is = absurd (c.in-None.ensures.none (Drill text seed rounds) is)
+pub returns-in-Err-clause-no_command : goal.returns-in-Err-clause-no_command
+returns-in-Err-clause-no_command g c none = none_told _ _ c.report_words.ensures
 
-pub returns-in-None-clause-network_fault : goal.returns-in-None-clause-network_fault
-returns-in-None-clause-network_fault g c serve is = absurd (c.in-None.ensures.none (Serve serve) is)
+pub returns-in-Err-clause-answer : goal.returns-in-Err-clause-answer
+returns-in-Err-clause-answer g c options is = answers_none _ options _ _ _ (wanted _ _ _ c.in-Err.ensures.refused (Answer options) is c.report_words.ensures)
+
+pub returns-in-Err-clause-exact : goal.returns-in-Err-clause-exact
+returns-in-Err-clause-exact g c options is = answers_none_exactly _ options _ _ (wanted _ _ _ c.in-Err.ensures.refused (Answer options) is c.report_words.ensures)
+
+pub returns-in-Err-clause-serves : goal.returns-in-Err-clause-serves
+returns-in-Err-clause-serves g c serve is = serves_none _ _ _ serve _ _ _ _ (wanted _ _ _ c.in-Err.ensures.refused (Serve serve) is c.report_words.ensures)
+
+pub returns-in-Err-clause-replay : goal.returns-in-Err-clause-replay
+returns-in-Err-clause-replay g c is = replays_none _ _ (wanted _ _ _ c.in-Err.ensures.refused (Replay) is c.report_words.ensures)
+
+pub returns-in-Err-clause-replay_exact : goal.returns-in-Err-clause-replay_exact
+returns-in-Err-clause-replay_exact g c is = replays_none_exactly _ _ (wanted _ _ _ c.in-Err.ensures.refused (Replay) is c.report_words.ensures)
+
+pub returns-in-Err-clause-show : goal.returns-in-Err-clause-show
+returns-in-Err-clause-show g c is = shows_none _ _ (wanted _ _ _ c.in-Err.ensures.refused (Show) is c.report_words.ensures)
+
+pub returns-in-Err-clause-show_exact : goal.returns-in-Err-clause-show_exact
+returns-in-Err-clause-show_exact g c is = shows_none_exactly _ _ (wanted _ _ _ c.in-Err.ensures.refused (Show) is c.report_words.ensures)
+
+pub returns-in-Err-clause-drill : goal.returns-in-Err-clause-drill
+returns-in-Err-clause-drill g c text seed rounds is = drills_none text seed rounds _ _ (wanted _ _ _ c.in-Err.ensures.refused (Drill text seed rounds) is c.report_words.ensures)
+
+pub returns-in-Err-clause-drill_exact : goal.returns-in-Err-clause-drill_exact
+returns-in-Err-clause-drill_exact g c text seed rounds is = drills_none_exactly text seed rounds _ _ (wanted _ _ _ c.in-Err.ensures.refused (Drill text seed rounds) is c.report_words.ensures)
+
+pub returns-in-Err-clause-world : goal.returns-in-Err-clause-world
+returns-in-Err-clause-world g c is = worlds_none _ _ (wanted _ _ _ c.in-Err.ensures.refused (World) is c.report_words.ensures)
+
+pub returns-in-Err-clause-world_exact : goal.returns-in-Err-clause-world_exact
+returns-in-Err-clause-world_exact g c is = worlds_none_exactly _ _ (wanted _ _ _ c.in-Err.ensures.refused (World) is c.report_words.ensures)
+
+pub returns-in-Err-clause-promise : goal.returns-in-Err-clause-promise
+returns-in-Err-clause-promise g c is = keeps_promise _ _ _ (worlds_none _ _ (wanted _ _ _ c.in-Err.ensures.refused (World) is c.report_words.ensures))
+
+pub returns-in-Err-clause-class : goal.returns-in-Err-clause-class
+returns-in-Err-clause-class g c output is = prints_none output _ _ _ (wanted _ _ _ c.in-Err.ensures.refused (Class output) is c.report_words.ensures)
+
+pub returns-in-Err-clause-class_exact : goal.returns-in-Err-clause-class_exact
+returns-in-Err-clause-class_exact g c output is = prints_none_exactly output _ _ (wanted _ _ _ c.in-Err.ensures.refused (Class output) is c.report_words.ensures)
+
+pub returns-in-Err-clause-help : goal.returns-in-Err-clause-help
+returns-in-Err-clause-help g c topic is = helps_none topic _ _ _ (wanted _ _ _ c.in-Err.ensures.refused (Help topic) is c.report_words.ensures)

@@ -1,4 +1,5 @@
-use Rattle.std.proofs.Common.{◌∙◌, sym}
+use Rattle.std.proofs.Common.{◌∙◌, ap, sym}
+use Rattle.history.specs.declared.asks.SpaceConfig.{SpaceConfig}
 use Rattle.rmi_cli.proofs.Linking.{accept_failed, added, is_known, listened, print_failed}
 use Rattle.rmi_cli.proofs.serve_input.serve_on.Goals as goal
 
@@ -22,3 +23,6 @@ returns-clause-alone g c =
     let before = g.L.Listener.listening c.args.listener.now in
     let heard = g.L.Listener.listening c.listen.new.self in
     c.serve_links-report.ensures.ports ∙ added before heard _ _ _ (sym c.is_err.ensures.value ∙ c.if-is_err.false) c.listen.ensures.listens
+
+pub print_outline-printed-requires : goal.print_outline-printed-requires
+print_outline-printed-requires g c = ap (λ (k : SpaceConfig). k.stored) c.serve_links-report.ensures.served.config ∙ c.requires.stored

@@ -97,7 +97,7 @@ descriptions::proxy-returns g t c = record {
   grows = first_of (search rules, grind (arith, common_steps));
   unread = first_of (search rules, grind (arith, common_steps));
   some = first_of (search rules, grind (arith, common_steps));
-  reads = then _ c.in_ok-n.ensures.reads (then _ (c.in_ok-names.ensures.reads (push (now_of c.args.table.now) (nodes.Desc blank))) (then _ (rw (c.in_ok-open.ensures.unread, c.begin.ensures.unread, c.open.ensures.now, c.in_ok-number.ensures.now, c.blank.ensures, c.in_ok-number.ensures.number) at c.in_ok-note.ensures.reads) (then _ (rw (c.in_ok-note.ensures.unread, c.in_ok-open.ensures.unread, c.begin.ensures.unread, c.in_ok-number.ensures.number) at c.in_ok-parent.ensures.reads) (done (λ end bs. made _ _ _ _ _ bs _ refl c.in_ok-number.ensures.number (c.fill.ensures.now ∙ ap (λ (n : Progress). fill n c.in_ok-number.number (nodes.Proxy (record { names = c.in_ok-names.names; note = c.in_ok-note.note; parent = c.in_ok-parent.parent }))) c.close.ensures.now))))));
+  reads = then _ c.in_ok-n.ensures.reads (then _ (c.in_ok-names.ensures.reads (push (now_of c.args.table.now) (nodes.Desc blank))) (then _ (rw (c.names.ensures.unread, c.names.ensures.now, c.in_ok-open.ensures.unread, c.begin.ensures.unread, c.open.ensures.now, c.in_ok-number.ensures.now, c.blank.ensures, c.in_ok-number.ensures.number) at c.in_ok-note.ensures.reads) (then _ (rw (c.in_ok-note.ensures.unread, c.names.ensures.unread, c.in_ok-open.ensures.unread, c.begin.ensures.unread, c.in_ok-number.ensures.number) at c.in_ok-parent.ensures.reads) (done (λ end bs. made _ _ _ _ _ bs _ refl c.in_ok-number.ensures.number (c.fill.ensures.now ∙ ap (λ (n : Progress). fill n c.in_ok-number.number (nodes.Proxy (record { names = c.in_ok-names.names; note = c.in_ok-note.note; parent = c.in_ok-parent.parent }))) c.close.ensures.now))))));
   stops = tt;
 }
 
@@ -203,7 +203,7 @@ objects::part-returns g t c = record {
   grows = first_of (search rules, grind (arith, common_steps));
   unread = first_of (search rules, grind (arith, common_steps));
   some = tt;
-  reads = then _ (rw c.as_slice.ensures at c.in_ok-values.ensures.reads) (then _ (rw c.in_ok-values.ensures.unread at c.in_ok-note.ensures.reads) (done (λ end bs. refl)));
+  reads = then _ (rw (c.add_entries.ensures.unread, c.add_entries.ensures.now, c.as_slice.ensures) at c.in_ok-values.ensures.reads) (then _ (rw (c.in_ok-values.ensures.unread, c.add_entries.ensures.unread) at c.in_ok-note.ensures.reads) (done (λ end bs. refl)));
   stops = tt;
 }
 
@@ -220,10 +220,10 @@ slot-returns g t c = record {
 pub arrays::slots-loop-preserved : goal.arrays::slots-loop-preserved
 arrays::slots-loop-preserved g t c = record {
   lent = c.in_ok-slot.ensures.lent ∙ c.loop.invariant.lent;
-  grows = omega (arith, c.slot.ensures.grows, c.loop.invariant.grows);
-  unread = c.in_ok-slot.ensures.unread ∙ c.loop.invariant.unread;
-  leads = leads_more _ c.loop.invariant.leads (rw c.loop.invariant.unread at c.in_ok-slot.ensures.reads) (λ end bs rest here h. rw c.in_ok-push.ensures.ok (many_next (slot_at end c.args.left Reference c.args.table.now.unread.items) c.loop.slots c.args.n c.loop.counter (now_of c.loop.table) bs c.in_ok-slot.slot (now_of c.slot.new.table) rest c.loop-test.true h))
-      (λ end bs here is. many_err (slot_at end c.args.left Reference c.args.table.now.unread.items) c.loop.slots c.args.n c.loop.counter (now_of c.loop.table) bs short c.loop-test.true is);
+  grows = omega (arith, c.add_entries.ensures.grows, c.slot.ensures.grows, c.loop.invariant.grows);
+  unread = c.add_entries.ensures.unread ∙ c.in_ok-slot.ensures.unread ∙ c.loop.invariant.unread;
+  leads = rw c.add_entries.ensures.now (leads_more _ c.loop.invariant.leads (rw c.loop.invariant.unread at c.in_ok-slot.ensures.reads) (λ end bs rest here h. rw c.in_ok-push.ensures.ok (many_next (slot_at end c.args.left Reference c.args.table.now.unread.items) c.loop.slots c.args.n c.loop.counter (now_of c.loop.table) bs c.in_ok-slot.slot (now_of c.slot.new.table) rest c.loop-test.true h))
+      (λ end bs here is. many_err (slot_at end c.args.left Reference c.args.table.now.unread.items) c.loop.slots c.args.n c.loop.counter (now_of c.loop.table) bs short c.loop-test.true is));
 }
 
 pub arrays::slots-returns : goal.arrays::slots-returns
@@ -239,10 +239,10 @@ arrays::slots-returns g t c = record {
 pub descriptions::fields-loop-preserved : goal.descriptions::fields-loop-preserved
 descriptions::fields-loop-preserved g t c = record {
   lent = c.in_ok-field.ensures.lent ∙ c.loop.invariant.lent;
-  grows = omega (arith, c.field.ensures.grows, c.loop.invariant.grows);
-  unread = c.in_ok-field.ensures.unread ∙ c.loop.invariant.unread;
-  leads = leads_more _ c.loop.invariant.leads (rw c.loop.invariant.unread at c.in_ok-field.ensures.reads) (λ end bs rest here h. rw c.in_ok-push.ensures.items (many_next (field_at end c.args.at (slot_at end c.args.left Text c.args.table.now.unread.items)) c.loop.fields.items c.args.n c.loop.counter (now_of c.loop.table) bs c.in_ok-field.field (now_of c.field.new.table) rest c.loop-test.true h))
-      (λ end bs here is. many_err (field_at end c.args.at (slot_at end c.args.left Text c.args.table.now.unread.items)) c.loop.fields.items c.args.n c.loop.counter (now_of c.loop.table) bs short c.loop-test.true is);
+  grows = omega (arith, c.add_entries.ensures.grows, c.field.ensures.grows, c.loop.invariant.grows);
+  unread = c.add_entries.ensures.unread ∙ c.in_ok-field.ensures.unread ∙ c.loop.invariant.unread;
+  leads = rw c.add_entries.ensures.now (leads_more _ c.loop.invariant.leads (rw c.loop.invariant.unread at c.in_ok-field.ensures.reads) (λ end bs rest here h. rw c.in_ok-push.ensures.items (many_next (field_at end c.args.at (slot_at end c.args.left Text c.args.table.now.unread.items)) c.loop.fields.items c.args.n c.loop.counter (now_of c.loop.table) bs c.in_ok-field.field (now_of c.field.new.table) rest c.loop-test.true h))
+      (λ end bs here is. many_err (field_at end c.args.at (slot_at end c.args.left Text c.args.table.now.unread.items)) c.loop.fields.items c.args.n c.loop.counter (now_of c.loop.table) bs short c.loop-test.true is));
 }
 
 pub descriptions::fields-returns : goal.descriptions::fields-returns
@@ -332,9 +332,9 @@ annotations::items-returns-then-code-eq120 g t c = record {
 pub annotations::items-loop-items-preserved : goal.annotations::items-loop-items-preserved
 annotations::items-loop-items-preserved g t c = record {
   lent = c.in_ok-item.ensures.lent ∙ c.in_ok-code.ensures.lent ∙ c.loop-items.invariant.lent;
-  grows = omega (arith, c.item.ensures.grows, c.loop-items.invariant.grows);
-  unread = c.in_ok-item.ensures.unread ∙ c.loop-items.invariant.unread;
-  slack = rw c.in_ok-add.ensures (slack_more (λ end. coded end c.args.left (slot_at end (c.args.left - 1)) Reference c.args.table.now.unread.items c.loop-items.pull.at c.in_ok-code.code) c.loop-items.invariant.slack c.in_ok-code.ensures.reads (rw c.loop-items.invariant.unread at c.in_ok-item.ensures.reads) (ne_eqb c.in_ok-code.code 120 c.if-code-eq120.false)
+  grows = omega (arith, c.add_entries.ensures.grows, c.item.ensures.grows, c.loop-items.invariant.grows);
+  unread = c.add_entries.ensures.unread ∙ c.in_ok-item.ensures.unread ∙ c.loop-items.invariant.unread;
+  slack = rw (c.add_entries.ensures.now, c.in_ok-add.ensures) (slack_more (λ end. coded end c.args.left (slot_at end (c.args.left - 1)) Reference c.args.table.now.unread.items c.loop-items.pull.at c.in_ok-code.code) c.loop-items.invariant.slack c.in_ok-code.ensures.reads (rw c.loop-items.invariant.unread at c.in_ok-item.ensures.reads) (ne_eqb c.in_ok-code.code 120 c.if-code-eq120.false)
       (λ end bs here. slot_gives end c.args.left Reference c.args.table.now.unread.items (now_of c.loop-items.table) (c.in_ok-code.code ∷ bs) c.loop-items.pull.at c.in_ok-code.code bs here refl));
 }
 
@@ -374,11 +374,11 @@ descriptions::proxy-returns-in_err-names g t c = fell c.from_residual-in_err-nam
 
 pub descriptions::proxy-returns-in_err-note : goal.descriptions::proxy-returns-in_err-note
 unfolding proxy_at
-descriptions::proxy-returns-in_err-note g t c = fell c.from_residual-in_err-note.result c.from_residual-in_err-note.ensures.1 (λ f. tt) (first_of (search rules, grind (arith, common_steps))) (first_of (search rules, grind (arith, common_steps))) (later _ c.in_ok-n.ensures.reads (later _ (c.in_ok-names.ensures.reads (push (now_of c.args.table.now) (nodes.Desc blank))) (first _ (rw (c.in_ok-open.ensures.unread, c.begin.ensures.unread, c.open.ensures.now, c.in_ok-number.ensures.now, c.blank.ensures, c.in_ok-number.ensures.number) at c.in_err-note.ensures.stops))))
+descriptions::proxy-returns-in_err-note g t c = fell c.from_residual-in_err-note.result c.from_residual-in_err-note.ensures.1 (λ f. tt) (first_of (search rules, grind (arith, common_steps))) (first_of (search rules, grind (arith, common_steps))) (later _ c.in_ok-n.ensures.reads (later _ (c.in_ok-names.ensures.reads (push (now_of c.args.table.now) (nodes.Desc blank))) (first _ (rw (c.names.ensures.unread, c.names.ensures.now, c.in_ok-open.ensures.unread, c.begin.ensures.unread, c.open.ensures.now, c.in_ok-number.ensures.now, c.blank.ensures, c.in_ok-number.ensures.number) at c.in_err-note.ensures.stops))))
 
 pub descriptions::proxy-returns-in_err-parent : goal.descriptions::proxy-returns-in_err-parent
 unfolding proxy_at
-descriptions::proxy-returns-in_err-parent g t c = fell c.from_residual-in_err-parent.result c.from_residual-in_err-parent.ensures.1 (λ f. tt) (first_of (search rules, grind (arith, common_steps))) (first_of (search rules, grind (arith, common_steps))) (later _ c.in_ok-n.ensures.reads (later _ (c.in_ok-names.ensures.reads (push (now_of c.args.table.now) (nodes.Desc blank))) (later _ (rw (c.in_ok-open.ensures.unread, c.begin.ensures.unread, c.open.ensures.now, c.in_ok-number.ensures.now, c.blank.ensures, c.in_ok-number.ensures.number) at c.in_ok-note.ensures.reads) (first _ (rw (c.in_ok-note.ensures.unread, c.in_ok-open.ensures.unread, c.begin.ensures.unread, c.in_ok-number.ensures.number) at c.in_err-parent.ensures.stops)))))
+descriptions::proxy-returns-in_err-parent g t c = fell c.from_residual-in_err-parent.result c.from_residual-in_err-parent.ensures.1 (λ f. tt) (first_of (search rules, grind (arith, common_steps))) (first_of (search rules, grind (arith, common_steps))) (later _ c.in_ok-n.ensures.reads (later _ (c.in_ok-names.ensures.reads (push (now_of c.args.table.now) (nodes.Desc blank))) (later _ (rw (c.names.ensures.unread, c.names.ensures.now, c.in_ok-open.ensures.unread, c.begin.ensures.unread, c.open.ensures.now, c.in_ok-number.ensures.now, c.blank.ensures, c.in_ok-number.ensures.number) at c.in_ok-note.ensures.reads) (first _ (rw (c.in_ok-note.ensures.unread, c.names.ensures.unread, c.in_ok-open.ensures.unread, c.begin.ensures.unread, c.in_ok-number.ensures.number) at c.in_err-parent.ensures.stops)))))
 
 pub descriptions::desc_behind-returns-in_err-fields : goal.descriptions::desc_behind-returns-in_err-fields
 unfolding desc_behind
@@ -524,22 +524,31 @@ annotations::item-returns-in_err-take-2 g t c = fell c.from_residual-in_err-take
 pub annotations::item-returns-in_err-coded : goal.annotations::item-returns-in_err-coded
 annotations::item-returns-in_err-coded g t c = fell c.from_residual-in_err-coded.result c.from_residual-in_err-coded.ensures.1 (λ f. tt) (first_of (search rules, grind (arith, common_steps))) (first_of (search rules, grind (arith, common_steps))) (breaks_said (λ end bs here. item_other end _ c.args.code _ bs (ne_eqb c.args.code 119 c.if-code-eq119.false) (ne_eqb c.args.code 122 c.if-code-eq122.false)) (first _ c.in_err-coded.ensures.stops))
 
+pub objects::part-returns-in_err-add_entries : goal.objects::part-returns-in_err-add_entries
+objects::part-returns-in_err-add_entries g t c = fell c.from_residual.result c.from_residual.ensures.1 (λ f. tt) (first_of (search rules, grind (arith, common_steps))) (first_of (search rules, grind (arith, common_steps))) no_memory
+
 pub objects::part-returns-in_err-values : goal.objects::part-returns-in_err-values
 unfolding part_by
-objects::part-returns-in_err-values g t c = fell c.from_residual.result c.from_residual.ensures.1 (λ f. tt) (first_of (search rules, grind (arith, common_steps))) (first_of (search rules, grind (arith, common_steps))) (first _ (rw c.as_slice.ensures at c.in_err-values.ensures.stops))
+objects::part-returns-in_err-values g t c = fell c.from_residual-in_err-values.result c.from_residual-in_err-values.ensures.1 (λ f. tt) (first_of (search rules, grind (arith, common_steps))) (first_of (search rules, grind (arith, common_steps))) (first _ (rw (c.add_entries.ensures.unread, c.add_entries.ensures.now, c.as_slice.ensures) at c.in_err-values.ensures.stops))
 
 pub objects::part-returns-in_err-note : goal.objects::part-returns-in_err-note
 unfolding part_by
-objects::part-returns-in_err-note g t c = fell c.from_residual-in_err-note.result c.from_residual-in_err-note.ensures.1 (λ f. tt) (first_of (search rules, grind (arith, common_steps))) (first_of (search rules, grind (arith, common_steps))) (later _ (rw c.as_slice.ensures at c.in_ok-values.ensures.reads) (first _ (rw c.in_ok-values.ensures.unread at c.in_err-note.ensures.stops)))
+objects::part-returns-in_err-note g t c = fell c.from_residual-in_err-note.result c.from_residual-in_err-note.ensures.1 (λ f. tt) (first_of (search rules, grind (arith, common_steps))) (first_of (search rules, grind (arith, common_steps))) (later _ (rw (c.add_entries.ensures.unread, c.add_entries.ensures.now, c.as_slice.ensures) at c.in_ok-values.ensures.reads) (first _ (rw (c.in_ok-values.ensures.unread, c.add_entries.ensures.unread) at c.in_err-note.ensures.stops)))
 
 pub arrays::slots-returns-in_err-slot : goal.arrays::slots-returns-in_err-slot
 arrays::slots-returns-in_err-slot g t c = fell c.from_residual.result c.from_residual.ensures.1 (λ f. tt) (first_of (search rules, grind (arith, common_steps))) (first_of (search rules, grind (arith, common_steps))) (loop_stops c.loop.invariant.leads (λ end bs f here is. many_err (slot_at end c.args.left Reference c.args.table.now.unread.items) c.loop.slots c.args.n c.loop.counter (now_of c.loop.table) bs f c.loop-test.true is) (rw c.loop.invariant.unread at c.in_err-slot.ensures.stops))
+
+pub arrays::slots-returns-in_err-add_entries : goal.arrays::slots-returns-in_err-add_entries
+arrays::slots-returns-in_err-add_entries g t c = fell c.from_residual-in_err-add_entries.result c.from_residual-in_err-add_entries.ensures.1 (λ f. tt) (first_of (search rules, grind (arith, common_steps))) (first_of (search rules, grind (arith, common_steps))) (loop_stops c.loop.invariant.leads (λ end bs f here is. many_err (slot_at end c.args.left Reference c.args.table.now.unread.items) c.loop.slots c.args.n c.loop.counter (now_of c.loop.table) bs f c.loop-test.true is) (took (rw c.loop.invariant.unread at c.in_ok-slot.ensures.reads)))
 
 pub arrays::slots-returns-in_err-push : goal.arrays::slots-returns-in_err-push
 arrays::slots-returns-in_err-push g t c = fell c.from_residual-in_err-push.result c.from_residual-in_err-push.ensures.1 (λ f. tt) (first_of (search rules, grind (arith, common_steps))) (first_of (search rules, grind (arith, common_steps))) (loop_stops c.loop.invariant.leads (λ end bs f here is. many_err (slot_at end c.args.left Reference c.args.table.now.unread.items) c.loop.slots c.args.n c.loop.counter (now_of c.loop.table) bs f c.loop-test.true is) (took (rw c.loop.invariant.unread at c.in_ok-slot.ensures.reads)))
 
 pub descriptions::fields-returns-in_err-field : goal.descriptions::fields-returns-in_err-field
 descriptions::fields-returns-in_err-field g t c = fell c.from_residual.result c.from_residual.ensures.1 (λ f. tt) (first_of (search rules, grind (arith, common_steps))) (first_of (search rules, grind (arith, common_steps))) (loop_stops c.loop.invariant.leads (λ end bs f here is. many_err (field_at end c.args.at (slot_at end c.args.left Text c.args.table.now.unread.items)) c.loop.fields.items c.args.n c.loop.counter (now_of c.loop.table) bs f c.loop-test.true is) (rw c.loop.invariant.unread at c.in_err-field.ensures.stops))
+
+pub descriptions::fields-returns-in_err-add_entries : goal.descriptions::fields-returns-in_err-add_entries
+descriptions::fields-returns-in_err-add_entries g t c = fell c.from_residual-in_err-add_entries.result c.from_residual-in_err-add_entries.ensures.1 (λ f. tt) (first_of (search rules, grind (arith, common_steps))) (first_of (search rules, grind (arith, common_steps))) (loop_stops c.loop.invariant.leads (λ end bs f here is. many_err (field_at end c.args.at (slot_at end c.args.left Text c.args.table.now.unread.items)) c.loop.fields.items c.args.n c.loop.counter (now_of c.loop.table) bs f c.loop-test.true is) (took (rw c.loop.invariant.unread at c.in_ok-field.ensures.reads)))
 
 pub descriptions::fields-returns-in_err-push : goal.descriptions::fields-returns-in_err-push
 descriptions::fields-returns-in_err-push g t c = fell c.from_residual-in_err-push.result c.from_residual-in_err-push.ensures.1 (λ f. tt) (first_of (search rules, grind (arith, common_steps))) (first_of (search rules, grind (arith, common_steps))) (loop_stops c.loop.invariant.leads (λ end bs f here is. many_err (field_at end c.args.at (slot_at end c.args.left Text c.args.table.now.unread.items)) c.loop.fields.items c.args.n c.loop.counter (now_of c.loop.table) bs f c.loop-test.true is) (took (rw c.loop.invariant.unread at c.in_ok-field.ensures.reads)))
@@ -561,6 +570,9 @@ annotations::items-returns-in_err-code g t c = fell c.from_residual.result c.fro
 
 pub annotations::items-returns-in_err-item : goal.annotations::items-returns-in_err-item
 annotations::items-returns-in_err-item g t c = fell c.from_residual-in_err-item.result c.from_residual-in_err-item.ensures.1 (λ f. tt) (first_of (search rules, grind (arith, common_steps))) (first_of (search rules, grind (arith, common_steps))) (slack_stops (λ end. coded end c.args.left (slot_at end (c.args.left - 1)) Reference c.args.table.now.unread.items c.loop-items.pull.at c.in_ok-code.code) c.loop-items.invariant.slack c.in_ok-code.ensures.reads (ne_eqb c.in_ok-code.code 120 c.if-code-eq120.false) (λ end bs here. slot_gives end c.args.left Reference c.args.table.now.unread.items (now_of c.loop-items.table) (c.in_ok-code.code ∷ bs) c.loop-items.pull.at c.in_ok-code.code bs here refl) (rw c.loop-items.invariant.unread at c.in_err-item.ensures.stops))
+
+pub annotations::items-returns-in_err-add_entries : goal.annotations::items-returns-in_err-add_entries
+annotations::items-returns-in_err-add_entries g t c = fell c.from_residual-in_err-add_entries.result c.from_residual-in_err-add_entries.ensures.1 (λ f. tt) (first_of (search rules, grind (arith, common_steps))) (first_of (search rules, grind (arith, common_steps))) (slack_stops (λ end. coded end c.args.left (slot_at end (c.args.left - 1)) Reference c.args.table.now.unread.items c.loop-items.pull.at c.in_ok-code.code) c.loop-items.invariant.slack c.in_ok-code.ensures.reads (ne_eqb c.in_ok-code.code 120 c.if-code-eq120.false) (λ end bs here. slot_gives end c.args.left Reference c.args.table.now.unread.items (now_of c.loop-items.table) (c.in_ok-code.code ∷ bs) c.loop-items.pull.at c.in_ok-code.code bs here refl) (took (rw c.loop-items.invariant.unread at c.in_ok-item.ensures.reads)))
 
 pub annotations::items-returns-in_err-add : goal.annotations::items-returns-in_err-add
 annotations::items-returns-in_err-add g t c = fell c.from_residual-in_err-add.result c.from_residual-in_err-add.ensures.1 (λ f. tt) (first_of (search rules, grind (arith, common_steps))) (first_of (search rules, grind (arith, common_steps))) (slack_stops (λ end. coded end c.args.left (slot_at end (c.args.left - 1)) Reference c.args.table.now.unread.items c.loop-items.pull.at c.in_ok-code.code) c.loop-items.invariant.slack c.in_ok-code.ensures.reads (ne_eqb c.in_ok-code.code 120 c.if-code-eq120.false) (λ end bs here. slot_gives end c.args.left Reference c.args.table.now.unread.items (now_of c.loop-items.table) (c.in_ok-code.code ∷ bs) c.loop-items.pull.at c.in_ok-code.code bs here refl) (took (rw c.loop-items.invariant.unread at c.in_ok-item.ensures.reads)))

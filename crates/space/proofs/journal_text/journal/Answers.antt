@@ -1,4 +1,6 @@
 use Rattle.journal.proofs.Written.{config_spelled}
+use Rattle.std.proofs.Common.{ap, ◌∙◌}
+use Rattle.space.specs.Built.{SpaceHistory}
 use Rattle.space.proofs.SummaryLaws.{journalled, events-fit, journal_spelled}
 use Rattle.space.proofs.journal_text.journal.Goals as goal
 
@@ -13,4 +15,7 @@ returns-clause-spelled c =
     (λ fits. let ids = (c.in_ok-put_first_line.ensures {u = tt}).fits fits.count in config_spelled c.space.inside.tables.config ids.unique ids.time fits)
     (events-fit c.space.inside.tables.config c.space.inside.tables.events.items c.space.inside.tables.moment c.space.invariant.0.stands.moment_is c.space.invariant.0.early
     (c.in_ok-put_events.ensures {u = tt}).fits)
-    (returns-clause-text c)
+    (returns-clause-text c) c.requires.stored
+
+pub put_events-requires : goal.put_events-requires
+put_events-requires c = c.space.invariant.3.stored_is ∙ ap (λ (s : SpaceHistory). s.configuration.stored) c.space.view_is ∙ c.requires.stored

@@ -6,6 +6,6 @@ abbrev pub invariant-loop-k : goal.invariant-loop-k
 invariant-loop-k g l = record {
   ready : g.P.Port.ready l.port;
   leads : g.P.Port.leads l.fn.port l.port;
-  room : 2 * l.fn.count ≤ g.P.Port.room_of l.port + 2 * l.k;
-  ended : AllEnded (g.P.Port.asked l.port) l.object;
+  room : 2 * l.fn.count ≤ (g.P.Port.shown l.port).room + 2 * l.k;
+  ended : AllEnded (g.P.Port.shown l.port).asked l.object;
 }

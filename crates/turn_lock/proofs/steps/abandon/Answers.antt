@@ -30,8 +30,7 @@ publish-requires-clause-called g c =
     let e = event_of c.args.by c.args.moment (Abandon c.args.object) in
     let answer : Result Turn Refused = Ok (turn_of v.config x.1 e) in
     let s2 : SpaceHistory = c.abandon.new.self in
-    let idle = c.requires.idle.2 in
-    let part : 0 < v.parts = omega (arith, idle) in
+    let part = c.requires.idle.2 in
     let is = space_is s2 v.config (x.1 ++ e ∷ []) (collected_rows v.config x.1 c.enter-space.result s2 e x.3 c.abandon.ensures.config c.abandon.ensures.collector) (c.abandon.ensures.config ∙ ap (λ (s : SpaceHistory). s.configuration) x.3) (c.abandon.ensures.events ∙ ap (λ (s : SpaceHistory). s.events ++ e ∷ []) x.3) in
     may_publish c.enter-space.new.seat.me v x.0 x.1 c.of-taken.result.value e answer s2 x.4 c.of-taken.ensures c.requires.number part is
 
@@ -42,8 +41,7 @@ leave-requires-clause-called g c =
     let e = event_of c.args.by c.args.moment (Abandon c.args.object) in
     let answer : Result Turn Refused = Ok (turn_of v.config x.1 e) in
     let s2 : SpaceHistory = c.abandon.new.self in
-    let idle = c.requires.idle.2 in
-    let part : 0 < v.parts = omega (arith, idle) in
+    let part = c.requires.idle.2 in
     let is = space_is s2 v.config (x.1 ++ e ∷ []) (collected_rows v.config x.1 c.enter-space.result s2 e x.3 c.abandon.ensures.config c.abandon.ensures.collector) (c.abandon.ensures.config ∙ ap (λ (s : SpaceHistory). s.configuration) x.3) (c.abandon.ensures.events ∙ ap (λ (s : SpaceHistory). s.events ++ e ∷ []) x.3) in
     let told = has_published c.enter-space.new.seat.me c.publish.new.seat.me v x.0 x.1 c.of-taken.result.value e answer x.4 c.of-taken.ensures c.publish.ensures.view in
     may_leave c.publish.new.seat.me v x.0 x.1 e answer s2 told part is

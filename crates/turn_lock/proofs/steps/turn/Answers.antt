@@ -1,4 +1,4 @@
-use Rattle.std.proofs.Common.{◌<◌, ap, ◌∙◌, subst, arith}
+use Rattle.std.proofs.Common.{◌<◌, ap, ◌∙◌, subst}
 use Rattle.history.specs.Running.{running_calls_by}
 use Rattle.history.specs.Steps.{Step}
 use Rattle.history.specs.Table.{places}
@@ -16,8 +16,7 @@ publish_answer-requires-clause-called g c =
     let e = c.args.event in
     let answer = c.turn-answer.result in
     let s2 : SpaceHistory = c.turn-answer.new.self in
-    let idle = c.requires.idle.2 in
-    let part : 0 < v.parts = omega (arith, idle) in
+    let part = c.requires.idle.2 in
     let step : Step v.config x.1 e answer s2.events = subst (λ (s : SpaceHistory). Step s.configuration s.events e answer s2.events) x.3 c.turn-answer.ensures.step in
     let is = space_is s2 v.config (events_after x.1 e answer)
     (answered_rows answer v.config x.1 c.enter-space.result s2 e x.3 c.turn-answer.ensures.config c.turn-answer.ensures.collector c.turn-answer.ensures.err)
@@ -31,8 +30,7 @@ leave-requires-clause-called g c =
     let e = c.args.event in
     let answer = c.turn-answer.result in
     let s2 : SpaceHistory = c.turn-answer.new.self in
-    let idle = c.requires.idle.2 in
-    let part : 0 < v.parts = omega (arith, idle) in
+    let part = c.requires.idle.2 in
     let step : Step v.config x.1 e answer s2.events = subst (λ (s : SpaceHistory). Step s.configuration s.events e answer s2.events) x.3 c.turn-answer.ensures.step in
     let is = space_is s2 v.config (events_after x.1 e answer)
     (answered_rows answer v.config x.1 c.enter-space.result s2 e x.3 c.turn-answer.ensures.config c.turn-answer.ensures.collector c.turn-answer.ensures.err)

@@ -1,4 +1,4 @@
-use Rattle.std.proofs.Common.{◌<◌, ap, ◌∙◌, arith}
+use Rattle.std.proofs.Common.{ap, ◌∙◌}
 use Rattle.space.specs.Built.{SpaceHistory}
 use Rattle.turn_lock.specs.declared.view.SeatState.TheVariants.{Idle}
 use Rattle.turn_lock.specs.Rule.{Sat, answer_of, events_after, in_state}
@@ -12,8 +12,7 @@ publish_noted-requires-clause-called g c =
     let e = c.args.event in
     let n = c.turn_noted-noted.result in
     let s2 : SpaceHistory = c.turn_noted-noted.new.self in
-    let idle = c.requires.idle.2 in
-    let part : 0 < v.parts = omega (arith, idle) in
+    let part = c.requires.idle.2 in
     let step = noted_step n v.config x.1 c.enter-space.result s2 e x.3 c.turn_noted-noted.ensures.step c.turn_noted-noted.ensures.err in
     let is = space_is s2 v.config (events_after x.1 e (answer_of n))
     (noted_rows n v.config x.1 c.enter-space.result s2 e x.3 c.turn_noted-noted.ensures.config c.turn_noted-noted.ensures.collector c.turn_noted-noted.ensures.refused c.turn_noted-noted.ensures.err)
@@ -27,8 +26,7 @@ leave-requires-clause-called g c =
     let e = c.args.event in
     let n = c.turn_noted-noted.result in
     let s2 : SpaceHistory = c.turn_noted-noted.new.self in
-    let idle = c.requires.idle.2 in
-    let part : 0 < v.parts = omega (arith, idle) in
+    let part = c.requires.idle.2 in
     let step = noted_step n v.config x.1 c.enter-space.result s2 e x.3 c.turn_noted-noted.ensures.step c.turn_noted-noted.ensures.err in
     let is = space_is s2 v.config (events_after x.1 e (answer_of n))
     (noted_rows n v.config x.1 c.enter-space.result s2 e x.3 c.turn_noted-noted.ensures.config c.turn_noted-noted.ensures.collector c.turn_noted-noted.ensures.refused c.turn_noted-noted.ensures.err)

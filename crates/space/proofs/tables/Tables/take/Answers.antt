@@ -1,9 +1,9 @@
-use Rattle.std.proofs.Common.{◌++◌, ◌+◌, ◌∷◌, [], Ok, refl, subst, sym, ap, ◌∙◌, rules}
+use Rattle.std.proofs.Common.{◌++◌, ◌+◌, ◌∷◌, [], Ok, refl, subst, sym, ap, ◌∙◌, rules, arith}
 use Rattle.history.specs.declared.replies.Turn.{Turn}
 use Rattle.history.specs.Steps.{Step}
 use Rattle.space.specs.Acts.{event_of, acted_exports, reported_after}
 use Rattle.space.proofs.EndLaws.{has-withdrawn}
-use Rattle.space.proofs.ReadyLaws.{step-when-ready, whole-when-ready, few-when-ready, abandoned-when-ready, finished-when-ready, countable-when-ready, within-when-ready, early-when-ready, some-when-ready, references-when-ready, stands-when-ready, few-pins-when-ready, bound-when-ready, looks-when-ready, awaiting-when-ready, wait-room-when-ready, few-calls-when-ready, log-when-ready, withdrawal-room-when-ready, gone-room-when-ready, among-when-ready, copy-room-when-ready}
+use Rattle.space.proofs.ReadyLaws.{step-when-ready, whole-when-ready, few-when-ready, abandoned-when-ready, finished-when-ready, countable-when-ready, within-when-ready, early-when-ready, some-when-ready, references-when-ready, stands-when-ready, few-pins-when-ready, bound-when-ready, looks-when-ready, awaiting-when-ready, wait-room-when-ready, few-calls-when-ready, stored-when-ready, log-when-ready, withdrawal-room-when-ready, gone-room-when-ready, among-when-ready, copy-room-when-ready}
 use Rattle.space.proofs.tables.Tables.take.Goals as goal
 
 pub act-requires-clause-few : goal.act-requires-clause-few
@@ -84,8 +84,10 @@ returns-clause-taken c =
 
 pub returns-clause-with_event : goal.returns-clause-with_event
 returns-clause-with_event c =
-    whole-when-ready c.requires.ready c.max-now.ensures c.len-place.ensures
+    let reported = c.reported_after-self.ensures ∙ ap (λ n. reported_after c.args.self.now.reported n c.args.ask.now) c.len.ensures in
+    let whole = whole-when-ready c.requires.ready c.max-now.ensures c.len-place.ensures
     (has-withdrawn c.args.self.now.leases c.withdraw_among.new.leases (acted_exports c.args.admitted.stood c.args.admitted.effective c.max-now.result c.args.ask.now c.args.self.now.exports) c.act.new.exports c.withdraw_among.new.exports c.max-now.result c.args.ready.untold.gone.items c.withdraw_among.new.gone.items
     c.act.ensures c.withdraw_among.ensures.kept c.withdraw_among.ensures.gone c.withdraw_among.ensures.dropped)
-    c.act_on_runs.ensures c.withdraw_among.ensures.noted c.withdraw_among.ensures.room
-    (c.reported_after-self.ensures ∙ ap (λ n. reported_after c.args.self.now.reported n c.args.ask.now) c.len.ensures) refl (ap (λ n. c.args.self.now.units + n) c.units_of.ensures.value)
+    c.act_on_runs.ensures (c.forget_told.ensures.items ∙ c.withdraw_among.ensures.noted) (let first = c.withdraw_among.ensures.room in let later = c.forget_told.ensures.room in omega (arith, first, later))
+    reported refl (ap (λ n. c.args.self.now.units + n) c.units_of.ensures.value) in
+    (whole.0, whole.1, whole.2, stored-when-ready _ _ c.withdraw_among.new.self c.requires.ready c.withdraw_among.ensures.told c.withdraw_among.ensures.noted c.forget_told.ensures.items reported c.forget_told.ensures.told c.forget_told.ensures.stored)

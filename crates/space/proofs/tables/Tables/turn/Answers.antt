@@ -14,8 +14,9 @@ use Rattle.dgc_server.proofs.Told.{error-is}
 use Rattle.space.specs.Acts.{ForEachLogBy, event_of, effective_by, await_refusal, told_refusal, Agrees}
 use Rattle.space.proofs.TurnLaws.{room-step, await-step, memory-step, reported-step, whole-err}
 use Rattle.space.proofs.AheadLaws.{room-grown, few-calls}
-use Rattle.space.proofs.AskLaws.{stood-is, keeps-roomy, asked, room-as, room-exports, room-units, returned-few}
+use Rattle.space.proofs.AskLaws.{stood-is, keeps-roomy, asked, room-as, room-exports}
 use Rattle.space.proofs.ReadyLaws.{is-ready}
+use Rattle.space.proofs.StoredLaws.{stored-kept}
 use Rattle.rmi_registry.specs.Bindings.{object_of}
 use Rattle.space.proofs.Bindings.{bindings-counted, bindings-same}
 use Rattle.space.proofs.tables.Tables.turn.Goals as goal
@@ -43,6 +44,7 @@ returns-in_err-room_for_all-clause-whole c =
     c.requires.whole.1 c.room_for_all.ensures.events c.room_for_all.ensures.runs c.room_for_all.ensures.withdrawn c.room_for_all.ensures.rest
     c.room_for_all.ensures.grow c.room_for_all.ensures.grow_withdrawn)
     (bindings-same c.args.self.now.config c.args.self.now.events.items c.room_for_all.new.events.items c.args.self.now.names c.args.self.now.names c.requires.whole.2 c.room_for_all.ensures.events refl)
+    (stored-kept c.requires.whole.3 c.room_for_all.ensures.stored c.room_for_all.ensures.told)
 
 pub returns-in_err-settle-clause-whole : goal.returns-in_err-settle-clause-whole
 returns-in_err-settle-clause-whole c =
@@ -55,6 +57,7 @@ returns-in_err-settle-clause-whole c =
     c.requires.whole.1 c.room_for_all.ensures.events c.room_for_all.ensures.runs c.room_for_all.ensures.withdrawn c.room_for_all.ensures.rest
     c.room_for_all.ensures.grow c.room_for_all.ensures.grow_withdrawn)
     (bindings-same c.args.self.now.config c.args.self.now.events.items c.room_for_all.new.events.items c.args.self.now.names c.settle.new.names c.requires.whole.2 c.room_for_all.ensures.events (c.in_err-settle.ensures {u = tt}).kept)
+    (stored-kept c.requires.whole.3 c.room_for_all.ensures.stored c.room_for_all.ensures.told)
 
 pub returns-in_err-room_for_all-clause-refused : goal.returns-in_err-room_for_all-clause-refused
 returns-in_err-room_for_all-clause-refused c =
@@ -74,7 +77,7 @@ returns-in_err-settle-clause-refused c =
     c.args.self.now.reported c.args.self.now.added c.args.self.now.units c.args.self.now.moment c.in_ok-admitted.admitted.effective c.in_err-settle.field-0.0
     (asked c.args.self.now.config c.args.self.now.events.items (event_of c.args.by c.args.moment c.args.ask.now) c.args.self.now.leases c.args.self.now.exports c.room_for_all.new.exports c.args.self.now.runs.items c.args.self.now.runs.items c.args.self.now.withdrawn.items
     c.args.self.now.reported c.args.self.now.added c.args.self.now.units c.args.self.now.moment c.in_ok-admitted.admitted.stood c.in_ok-admitted.admitted.effective c.requires.whole.0 (c.in_ok-admitted.ensures.stood ∙ stood-is (places c.args.self.now.config c.args.self.now.events.items) c.args.self.now.names c.args.ask.now c.requires.whole.2) c.in_ok-admitted.ensures.effective refl c.room_for_all.ensures.rest)
-    (room-as c.args.self.now.units (length c.args.self.now.runs.items) (length c.args.self.now.exports.rows) c.in_ok-admitted.admitted.effective c.args.ask.now c.args.self.now.runs.items c.args.self.now.exports c.room_for_all.new.exports None None
+    (room-as c.args.self.now.config.stored c.args.self.now.units (length c.args.self.now.runs.items) (length c.args.self.now.exports.rows) c.in_ok-admitted.admitted.effective c.args.ask.now c.args.self.now.runs.items c.args.self.now.exports c.room_for_all.new.exports None None
     (sym c.in_ok-admitted.ensures.room) refl refl c.room_for_all.ensures.rest refl)
     (ap (λ o. await_refusal (max c.args.moment c.args.self.now.moment) c.room_for_all.new.exports.rows c.room_for_all.new.exports.waits o c.in_ok-admitted.admitted.effective c.args.ask.now) (sym (c.in_ok-admitted.ensures.stood ∙ stood-is (places c.args.self.now.config c.args.self.now.events.items) c.args.self.now.names c.args.ask.now c.requires.whole.2))
     ∙ ap (λ n. await_refusal n c.room_for_all.new.exports.rows c.room_for_all.new.exports.waits c.in_ok-admitted.admitted.stood c.in_ok-admitted.admitted.effective c.args.ask.now) (sym time) ∙ ap (λ (t : ExportTable). await_refusal c.max-now.result t.rows t.waits c.in_ok-admitted.admitted.stood c.in_ok-admitted.admitted.effective c.args.ask.now) c.room_for_all.ensures.rest ∙ c.in_ok-ready.ensures.refusal)
@@ -91,17 +94,9 @@ returns-in_err-ready-clause-refused c =
     c.args.self.now.reported c.args.self.now.added c.args.self.now.units c.args.self.now.moment c.in_ok-admitted.admitted.effective c.in_err-ready.field-0.0
     (asked c.args.self.now.config c.args.self.now.events.items (event_of c.args.by c.args.moment c.args.ask.now) c.args.self.now.leases c.args.self.now.exports c.args.self.now.exports c.args.self.now.runs.items c.args.self.now.runs.items c.args.self.now.withdrawn.items
     c.args.self.now.reported c.args.self.now.added c.args.self.now.units c.args.self.now.moment c.in_ok-admitted.admitted.stood c.in_ok-admitted.admitted.effective c.requires.whole.0 (c.in_ok-admitted.ensures.stood ∙ stood-is (places c.args.self.now.config c.args.self.now.events.items) c.args.self.now.names c.args.ask.now c.requires.whole.2) c.in_ok-admitted.ensures.effective refl refl)
-    (room-as c.args.self.now.units (length c.args.self.now.runs.items) (length c.args.self.now.exports.rows) c.in_ok-admitted.admitted.effective c.args.ask.now c.args.self.now.runs.items c.args.self.now.exports c.args.self.now.exports None None
+    (room-as c.args.self.now.config.stored c.args.self.now.units (length c.args.self.now.runs.items) (length c.args.self.now.exports.rows) c.in_ok-admitted.admitted.effective c.args.ask.now c.args.self.now.runs.items c.args.self.now.exports c.args.self.now.exports None None
     (sym c.in_ok-admitted.ensures.room) refl refl refl refl)
     (subst O (c.in_ok-admitted.ensures.stood ∙ stood-is (places c.args.self.now.config c.args.self.now.events.items) c.args.self.now.names c.args.ask.now c.requires.whole.2) (subst N time c.in_err-ready.ensures.refusal)))
-
-pub room_for_all-requires-clause-few_returned : goal.room_for_all-requires-clause-few_returned
-room_for_all-requires-clause-few_returned c =
-    let count : c.len.result ≡ length c.in_ok-ready.ready.listed.references.items = search rules in
-    let same = ap length c.in_ok-ready.ensures.references in
-    let few = returned-few c.args.self.now.config.uid c.args.self.now.added c.args.self.now.exports.rows c.in_ok-admitted.admitted.stood c.in_ok-admitted.admitted.effective c.args.ask.now in
-    let some = room-units c.args.self.now.units (length c.args.self.now.runs.items) (length c.args.self.now.exports.rows) c.in_ok-admitted.admitted.effective c.args.ask.now c.in_ok-admitted.ensures.room in
-    omega (arith, count, same, few, some)
 
 pub room_for_all-requires-clause-few_runs : goal.room_for_all-requires-clause-few_runs
 room_for_all-requires-clause-few_runs c =
@@ -110,12 +105,12 @@ room_for_all-requires-clause-few_runs c =
 
 pub prepare-requires-clause-countable : goal.prepare-requires-clause-countable
 prepare-requires-clause-countable c =
-    let k = c.requires.whole.0 in let within = k.stands.within.history in
-    omega (arith, k.few_opened, k.stands.used_is, within, room-exports c.args.self.now.units (length c.args.self.now.runs.items) (length c.args.self.now.exports.rows) c.in_ok-admitted.admitted.effective c.args.ask.now c.in_ok-admitted.ensures.room)
+    let k = c.requires.whole.0 in let within = k.stands.within.countable in
+    omega (arith, k.few_opened, k.stands.used_is, within, room-exports c.args.self.now.config.stored c.args.self.now.units (length c.args.self.now.runs.items) (length c.args.self.now.exports.rows) c.in_ok-admitted.admitted.effective c.args.ask.now c.in_ok-admitted.ensures.room)
 
 pub room_for_all-requires-clause-few_opened : goal.room_for_all-requires-clause-few_opened
 room_for_all-requires-clause-few_opened c =
-    omega (arith, c.in_ok-ready.ensures.opened, room-exports c.args.self.now.units (length c.args.self.now.runs.items) (length c.args.self.now.exports.rows) c.in_ok-admitted.admitted.effective c.args.ask.now c.in_ok-admitted.ensures.room)
+    omega (arith, c.in_ok-ready.ensures.opened, room-exports c.args.self.now.config.stored c.args.self.now.units (length c.args.self.now.runs.items) (length c.args.self.now.exports.rows) c.in_ok-admitted.admitted.effective c.args.ask.now c.in_ok-admitted.ensures.room)
 
 pub settle-requires : goal.settle-requires
 settle-requires c =
@@ -130,7 +125,7 @@ take-requires c =
       ready = is-ready c.args.self.now c.requires.whole c.requires.moment c.max-now.ensures c.in_ok-admitted.ensures.stood c.in_ok-admitted.ensures.effective c.in_ok-admitted.ensures.room
           c.in_ok-ready.ensures.opened c.in_ok-ready.ensures.objects c.in_ok-ready.ensures.references c.in_ok-ready.ensures.doubtful c.in_ok-ready.ensures.gone c.in_ok-ready.ensures.room c.in_ok-ready.ensures.spare c.in_ok-ready.ensures.reply c.in_ok-ready.ensures.refusal
           count (c.in_ok-room_for_all.ensures {u = tt}).event (c.in_ok-room_for_all.ensures {u = tt}).run (c.in_ok-room_for_all.ensures {u = tt}).withdrawals (c.in_ok-room_for_all.ensures {u = tt}).opened (c.in_ok-room_for_all.ensures {u = tt}).returned
-          c.room_for_all.ensures.events c.room_for_all.ensures.runs c.room_for_all.ensures.withdrawn c.room_for_all.ensures.rest
+          c.room_for_all.ensures.stored c.room_for_all.ensures.told c.room_for_all.ensures.events c.room_for_all.ensures.runs c.room_for_all.ensures.withdrawn c.room_for_all.ensures.rest
           (c.in_ok-settle.ensures {u = tt}).ok (c.in_ok-settle.ensures {u = tt}).names (c.in_ok-settle.ensures {u = tt}).refusal;
     }
 

@@ -8,6 +8,7 @@ use Rattle.space.proofs.CollectLaws.{appended-collects}
 use Rattle.space.proofs.AbandonLaws.{is-running, runs-effective, end-counted, end-acted, end-keeps, end-room, end-rows, end-step, some-rows}
 use Rattle.space.proofs.Bindings.{bindings-same, names-next}
 use Rattle.space.proofs.EndLaws.{has-log}
+use Rattle.space.proofs.StoredLaws.{stored-kept}
 use Rattle.space.proofs.Settling.{settled-but}
 use Rattle.space.proofs.TurnLaws.{HasWithdrawn}
 use Rattle.space.proofs.turns.Space.abandon.Goals as goal
@@ -69,6 +70,7 @@ invariant_of-self c =
       bindings-same c.self.inside.tables.config (c.self.inside.tables.events.items ++ event_of c.args.by c.args.moment (Abandon c.args.object) ∷ []) c.put_event.new.events.items c.self.inside.tables.names c.self.inside.tables.names
           (names-next c.self.inside.tables.config c.self.inside.tables.events.items (event_of c.args.by c.args.moment (Abandon c.args.object)) true c.self.inside.tables.names c.self.inside.tables.names c.self.invariant.2 (sym (runs-effective c.self.inside.tables.config c.self.inside.tables.events.items c.args.by c.args.object runs)) refl)
           c.put_event.ensures.items refl,
+      stored-kept c.self.invariant.3 c.put_event.ensures.stored c.withdraw.ensures.told,
     )
 
 pub returns-clause-step : goal.returns-clause-step

@@ -1,7 +1,7 @@
 use Rattle.std.proofs.Common.{◌≡◌, ◌-◌, ◌++◌, length, drop, map, ap, ◌∙◌, rules, arith, length-append}
 use Rattle.space.specs.Acts.{withdrawal_at}
-use Rattle.space.specs.Withdrawals.{WithdrawalTable}
-use Rattle.space.proofs.WithdrawalLaws.{paired-length, noted, noted-even, gone-is, gone-after, gone-within}
+use Rattle.space.specs.Withdrawals.{WithdrawalTable, paired_withdrawals}
+use Rattle.space.proofs.WithdrawalLaws.{paired-length, noted, noted-even, told-noted, gone-is, gone-after, gone-within}
 use Rattle.space.proofs.withdrawals.Withdrawals.withdraw.Goals as goal
 
 pub withdraw_known-requires-clause-room : goal.withdraw_known-requires-clause-room
@@ -9,7 +9,8 @@ withdraw_known-requires-clause-room c =
     let items = ap (λ (t : WithdrawalTable). length t.items) c.self.view_is in
     let room = ap (λ (t : WithdrawalTable). t.room) c.self.view_is in
     let long = paired-length c.self.inside.objects.items c.self.inside.places.items c.self.invariant in
-    omega (arith, c.requires.room, items, room, long, c.self.inside.objects.ok.0)
+    let sum = length-append c.self.inside.told (paired_withdrawals c.self.inside.objects.items c.self.inside.places.items) in
+    omega (arith, c.requires.room, items, room, long, sum, c.self.inside.objects.ok.0)
 
 pub overflow_sub-len : goal.overflow_sub-len
 overflow_sub-len c =
@@ -24,12 +25,13 @@ fill-requires c =
     let items = ap (λ (t : WithdrawalTable). length t.items) c.self.view_is in
     let room = ap (λ (t : WithdrawalTable). t.room) c.self.view_is in
     let long = paired-length c.self.inside.objects.items c.self.inside.places.items c.self.invariant in
+    let sum = length-append c.self.inside.told (paired_withdrawals c.self.inside.objects.items c.self.inside.places.items) in
     let before : c.len-before.result ≡ length c.self.inside.objects.items = search rules in
     let after : c.len.result ≡ length c.withdraw_known.new.gone.items = search rules in
     let few = gone-within c.args.leases.now c.args.now c.args.exports.now c.self.inside.objects.items c.withdraw_known.new.gone.items c.requires.log c.withdraw_known.ensures.gone in
     let more = ap length (gone-after c.args.leases.now c.args.now c.args.exports.now c.self.inside.objects.items c.withdraw_known.new.gone.items c.requires.log c.withdraw_known.ensures.gone)
     ∙ length-append c.self.inside.objects.items (drop (length c.self.inside.objects.items) c.withdraw_known.new.gone.items) in
-    omega (arith, c.requires.room, items, room, long, before, after, few, more, c.self.invariant, c.self.inside.places.ok.0)
+    omega (arith, c.requires.room, items, room, long, sum, before, after, few, more, c.self.invariant, c.self.inside.places.ok.0)
 
 pub invariant_of-self : goal.invariant_of-self
 invariant_of-self c =
@@ -47,8 +49,10 @@ returns-clause-goes c =
     let all = gone-after c.args.leases.now c.args.now c.args.exports.now c.self.inside.objects.items c.withdraw_known.new.gone.items c.requires.log c.withdraw_known.ensures.gone in
     let more = ap length all ∙ length-append c.self.inside.objects.items (drop (length c.self.inside.objects.items) c.withdraw_known.new.gone.items) in (
       drop (length c.self.inside.objects.items) c.withdraw_known.new.gone.items,
-      noted c.self.inside.objects.items c.withdraw_known.new.gone.items (drop (length c.self.inside.objects.items) c.withdraw_known.new.gone.items) c.self.inside.places.items c.fill.new.places.items c.args.place
-          (c.len.result - c.len-before.result) c.self.invariant all c.fill.ensures.items (omega (arith, before, after, more))
+      told-noted c.self.inside.told (paired_withdrawals c.self.inside.objects.items c.self.inside.places.items) (paired_withdrawals c.withdraw_known.new.gone.items c.fill.new.places.items)
+          (map (withdrawal_at c.args.place) (drop (length c.self.inside.objects.items) c.withdraw_known.new.gone.items))
+          (noted c.self.inside.objects.items c.withdraw_known.new.gone.items (drop (length c.self.inside.objects.items) c.withdraw_known.new.gone.items) c.self.inside.places.items c.fill.new.places.items c.args.place
+          (c.len.result - c.len-before.result) c.self.invariant all c.fill.ensures.items (omega (arith, before, after, more)))
           ∙ ap (λ (t : WithdrawalTable). t.items ++ map (withdrawal_at c.args.place) (drop (length c.self.inside.objects.items) c.withdraw_known.new.gone.items)) c.self.view_is,
       gone-is c.args.leases.now c.args.now c.args.exports.now c.self.inside.objects.items c.withdraw_known.new.gone.items c.withdraw_known.ensures.gone,
     )

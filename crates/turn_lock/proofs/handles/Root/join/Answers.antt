@@ -37,7 +37,7 @@ pub returns-clause-root : goal.returns-clause-root
 returns-clause-root c =
     let r : Root = c.args.self.now in
     let p : Pass = c.args.pass in
-    let s : Root = record { pass = record { seat = c.load.new.seat; number = r.pass.number; room = r.pass.room }; made = r.made; out = r.out - 1 } in
+    let s : Root = record { pass = record { seat = c.load.new.seat; number = r.pass.number }; made = r.made; out = r.out - 1 } in
     let e = c.join_seat.ensures in let f = c.load.ensures in
     let few = f.2.4 in let one = c.requires.own.1.1 in
     let parts = ap (λ (m : Sat). m.0.parts) e.2 in
@@ -45,7 +45,7 @@ returns-clause-root c =
     let out : r.out - 1 + 1 ≡ r.out = omega (arith, some) in
     let me : c.load.new.seat.me ≡ (joined_of (view_of r.pass) (view_of p), []) =
     f.2.0 ∙ (ap (λ (m : Sat). (record m.0 { seen = longer m.0.seen m.0.heard }, m.1)) e.2 ∙ ap (λ l. (joined_of (view_of r.pass) (view_of p), l)) c.requires.own.0.pass_is.empty) in
-    (root_joined c.args.lock.now r s p c.requires.own.0 c.requires.own.1 f.2.3 (f.0 ∙ e.0) (f.1 ∙ e.1) me refl refl refl out, out)
+    (root_joined c.args.lock.now r s p c.requires.own.0 c.requires.own.1 f.2.3 (f.0 ∙ e.0) (f.1 ∙ e.1) me refl refl out, out)
 
 pub returns-clause-ordered : goal.returns-clause-ordered
 returns-clause-ordered c = (returns-clause-root c).0.pass_is.ordered

@@ -1,4 +1,4 @@
-use Rattle.std.proofs.Common.{◌≤◌, ◌+◌, refl, subst}
+use Rattle.std.proofs.Common.{refl, subst}
 use Rattle.std.specs.Prelude.{IfOk}
 use Rattle.turn_lock.specs.declared.handles.Pass.{Pass}
 use Rattle.turn_lock.specs.Handles.{view_of}
@@ -17,7 +17,6 @@ returns g c =
       counts = (refl, refl);
       went = went;
       asked = t.asked;
-      room = subst (λ (p : Pass). p.room ≤ c.turn_of_pass.new.pass.room + 1) c.own.ensures.value t.room;
       turned = subst (λ (p : Pass). TurnedWithEntry (view_of p) p.number c.args.moment c.args.ask c.turn_of_pass.result.0 (view_of c.turn_of_pass.new.pass)) c.own.ensures.value t.turned;
       ordered = t.own.ordered;
       collector = subst (λ (p : Pass). IfOk c.turn_of_pass.result.0 (λ _. TurnCollects (view_of p) c.args.moment c.args.ask (view_of c.turn_of_pass.new.pass))) c.own.ensures.value t.collector;

@@ -19,7 +19,7 @@ returns-in-Ok-clause-fresh c =
     let opened : c.in-Ok.board.shared.key.value ≡ c.args.space = ap (λ k. k.value) ok.5 ∙ c.of-about.ensures in
     let me : c.in-Ok.seat.me ≡ (root c.in-Ok.board.shared.key.value, []) = ok.4 ∙ ap (λ k. (root k.value, [])) (sym ok.5) in
     let legal = subst (λ (s : SpaceHistory). IsLegal s.configuration s.events) (sym opened) c.len-length.ensures.legal in
-    (fresh_root _ _ ok.2 ok.3 me refl refl refl refl legal, opened)
+    (fresh_root _ _ ok.2 ok.3 me refl refl refl legal, opened)
 
 pub returns-in-Ok-clause-ordered : goal.returns-in-Ok-clause-ordered
 returns-in-Ok-clause-ordered c =

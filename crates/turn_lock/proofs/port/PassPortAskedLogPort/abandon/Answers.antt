@@ -25,7 +25,7 @@ returns-clause-leads g c =
     let after = c.abandon-place.ensures.pass in (
       refl,
       refl,
-      went_ended p c.abandon-place.new.self c.args.self.now.asked.items c.push_reserved.new.self.items t.0 p.number c.args.moment c.args.object c.abandon-place.result c.requires.ready.0.numbered t.1 t.2 t.3 c.push_reserved.ensures.items after.2 after.1,
+      went_ended p c.abandon-place.new.self c.args.self.now.asked.items c.push_reserved.new.self.items t.0 p.number c.args.moment c.args.object c.abandon-place.result c.requires.ready.0.numbered t.1 t.2 t.3 c.push_reserved.ensures.items after.1,
     )
 
 pub returns-clause-ended : goal.returns-clause-ended

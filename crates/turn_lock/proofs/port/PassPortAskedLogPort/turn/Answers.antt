@@ -35,7 +35,7 @@ returns-in-Ok-clause-leads g c =
       refl,
       refl,
       went_entered p c.turn_noted.new.self c.args.self.now.asked.items c.push_reserved.new.self.items t.0 p.number c.args.moment c.args.ask c.in-Ok.answer c.in-Ok.entry c.in-Ok.ensures.known c.requires.ready.0.numbered t.1 c.in-Ok.ensures.noted
-          (c.push_reserved.ensures.items ∙ ap (λ l. l ++ c.in-Ok.entry ∷ []) c.reserve.ensures.items) after.2 after.1,
+          (c.push_reserved.ensures.items ∙ ap (λ l. l ++ c.in-Ok.entry ∷ []) c.reserve.ensures.items) after.1,
     )
 
 pub returns-in-Err-clause-ready : goal.returns-in-Err-clause-ready
@@ -53,7 +53,7 @@ returns-in-Err-clause-leads g c =
     let p = c.args.self.now.pass.now in
     let t = c.in-Err.ensures.turned in
     let after = c.turn_noted.ensures.pass in
-    (refl, refl, went_unentered p c.turn_noted.new.self c.args.self.now.asked.items c.reserve.new.self.items t.0 _ t.1 c.reserve.ensures.items after.2 after.1)
+    (refl, refl, went_unentered p c.turn_noted.new.self c.args.self.now.asked.items c.reserve.new.self.items t.0 _ t.1 c.reserve.ensures.items after.1)
 
 pub returns-then-is_err-clause-leads : goal.returns-then-is_err-clause-leads
 returns-then-is_err-clause-leads g c = (refl, refl, went_same c.args.self.now.pass.now c.args.self.now.asked.items c.reserve.new.self.items c.reserve.ensures.items)

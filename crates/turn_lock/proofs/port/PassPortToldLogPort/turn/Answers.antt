@@ -35,5 +35,5 @@ returns-clause-leads g c =
     let after = c.turn-answer.ensures.pass in (
       refl,
       refl,
-      went_told p c.turn-answer.new.self c.args.self.now.asked c.push_turn.new.self t.0 p.number c.args.moment c.args.ask c.turn-answer.result c.requires.ready.0.numbered t.1 (returns-clause-asked g c) after.2 after.1,
+      went_told p c.turn-answer.new.self c.args.self.now.asked c.push_turn.new.self t.0 p.number c.args.moment c.args.ask c.turn-answer.result c.requires.ready.0.numbered t.1 (returns-clause-asked g c) after.1,
     )

@@ -1,0 +1,7 @@
+mod Talking
+mod Playing
+pub mod Stepping
+pub mod Joining
+pub mod Leaving
+pub mod Registry
+mod Rows

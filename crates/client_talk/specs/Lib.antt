@@ -1,0 +1,6 @@
+pub mod Scripts
+pub mod Talk
+pub mod Steps
+pub mod Rmi
+pub mod Sessions
+pub mod Commands

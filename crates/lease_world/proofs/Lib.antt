@@ -1,0 +1,14 @@
+pub mod Lists
+pub mod TableCalls
+pub mod Tenures
+pub mod Kept
+pub mod ClientStep
+pub mod Turns
+pub mod Arrivals
+pub mod Theorem
+pub mod Positions
+pub mod Standing
+pub mod Stepping
+pub mod Turning
+pub mod Scripts
+pub mod SpelledOnce

@@ -1,0 +1,144 @@
+-- A line spells at most one step, and at most one first line of a world.
+use Rattle.std.proofs.Common.{◌≡◌, ℕ, ◌^◌, List, [], ◌∷◌, refl, ap, sym, subst, ◌∙◌, arith, codes, ℤ, w64}
+use Rattle.journal.specs.Grammar.{◌▸◌, End, SpellsSigned, SpellsDuration}
+use Rattle.journal.specs.Parts.{parts}
+use Rattle.journal.proofs.Decimals.{same_number}
+use Rattle.journal.proofs.Unique.{IsOnce, apart, below_once, duration_once, signed_once}
+use Rattle.lease_world.specs.Script.{StepWords, SpellsStep, SpellsCount, SpellsClient, SpellsClients, WorldWords, SpellsWorld}
+use Rattle.lease_world.specs.declared.step.Step.{Step}
+use Rattle.lease_world.specs.declared.step.Step.TheVariants as steps
+
+-- ---- words
+
+-- The same of a word and of the words after it.
+same_first : {X : Type 0} (S : X → List ℕ → Type 0) → IsOnce S → (P Q : List (List ℕ) → Type 0) (words : List (List ℕ)) (x y : X) → (S x ▸ P) words → (S y ▸ Q) words
+    → (x ≡ y) × ((rest : List (List ℕ)) × P rest × Q rest)
+same_first S once P Q [] x y of_x of_y = absurd of_x
+same_first S once P Q (word ∷ words) x y of_x of_y = (once.same x y word of_x.0 of_y.0, (words, of_x.1, of_y.1))
+
+same_one : {X : Type 0} (S : X → List ℕ → Type 0) → IsOnce S → (words : List (List ℕ)) (x y : X) → (S x ▸ End) words → (S y ▸ End) words → x ≡ y
+same_one S once words x y of_x of_y = (same_first S once End End words x y of_x of_y).0
+
+same_two : {X Y : Type 0} (S : X → List ℕ → Type 0) (T : Y → List ℕ → Type 0) → IsOnce S → IsOnce T → (words : List (List ℕ)) (x y : X) (u v : Y)
+    → (S x ▸ T u ▸ End) words → (S y ▸ T v ▸ End) words → (x ≡ y) × (u ≡ v)
+same_two S T once more words x y u v of_x of_y =
+    let first = same_first S once (T u ▸ End) (T v ▸ End) words x y of_x of_y in
+    (first.0, same_one T more first.1.0 u v first.1.1 first.1.2)
+
+count_once : IsOnce SpellsCount
+count_once = below_once (2 ^ 63) (omega arith)
+
+client_once : IsOnce SpellsClient
+client_once = below_once (2 ^ 8) (omega arith)
+
+number_once : IsOnce (SpellsSigned w64)
+number_once = signed_once w64 (omega arith)
+
+clients_once : IsOnce SpellsClients
+clients_once = record { same = λ m n word of_m of_n. same_number word m n (omega (arith, of_m.1)) (omega (arith, of_n.1)) of_m.2 of_n.2 }
+
+-- ---- each keyword begins the steps of its kind alone
+
+only_at : {Z : Type 0} (rest : List (List ℕ)) (s : Step) → StepWords s (codes "at" ∷ rest) → ((m : ℕ) → s ≡ steps.At m → (SpellsCount m ▸ End) rest → Z) → Z
+only_at rest (steps.At m) spells then = then m refl spells.1
+only_at rest _ spells then = absurd (apart _ _ refl spells.0)
+
+only_make : {Z : Type 0} (rest : List (List ℕ)) (s : Step) → StepWords s (codes "make" ∷ rest) → (s ≡ steps.Make → Z) → Z
+only_make rest steps.Make spells then = then refl
+only_make rest _ spells then = absurd (apart _ _ refl spells.0)
+
+only_ack : {Z : Type 0} (rest : List (List ℕ)) (s : Step) → StepWords s (codes "ack" ∷ rest) → ((m : ℕ) → s ≡ steps.Ack m → (SpellsCount m ▸ End) rest → Z) → Z
+only_ack rest (steps.Ack m) spells then = then m refl spells.1
+only_ack rest _ spells then = absurd (apart _ _ refl spells.0)
+
+only_register : {Z : Type 0} (rest : List (List ℕ)) (s : Step) → StepWords s (codes "register" ∷ rest)
+    → ((c : ℕ) (n : ℤ) → s ≡ steps.Register c n → (SpellsClient c ▸ SpellsSigned w64 n ▸ End) rest → Z) → Z
+only_register rest (steps.Register c n) spells then = then c n refl spells.1
+only_register rest _ spells then = absurd (apart _ _ refl spells.0)
+
+only_drop : {Z : Type 0} (rest : List (List ℕ)) (s : Step) → StepWords s (codes "drop" ∷ rest)
+    → ((c : ℕ) (n : ℤ) → s ≡ steps.Release c n → (SpellsClient c ▸ SpellsSigned w64 n ▸ End) rest → Z) → Z
+only_drop rest (steps.Release c n) spells then = then c n refl spells.1
+only_drop rest _ spells then = absurd (apart _ _ refl spells.0)
+
+only_due : {Z : Type 0} (rest : List (List ℕ)) (s : Step) → StepWords s (codes "due" ∷ rest) → ((c : ℕ) → s ≡ steps.Due c → (SpellsClient c ▸ End) rest → Z) → Z
+only_due rest (steps.Due c) spells then = then c refl spells.1
+only_due rest _ spells then = absurd (apart _ _ refl spells.0)
+
+only_deliver : {Z : Type 0} (rest : List (List ℕ)) (s : Step) → StepWords s (codes "deliver" ∷ rest) → ((m : ℕ) → s ≡ steps.Deliver m → (SpellsCount m ▸ End) rest → Z) → Z
+only_deliver rest (steps.Deliver m) spells then = then m refl spells.1
+only_deliver rest _ spells then = absurd (apart _ _ refl spells.0)
+
+only_answer : {Z : Type 0} (rest : List (List ℕ)) (s : Step) → StepWords s (codes "answer" ∷ rest) → ((m : ℕ) → s ≡ steps.Answer m → (SpellsCount m ▸ End) rest → Z) → Z
+only_answer rest (steps.Answer m) spells then = then m refl spells.1
+only_answer rest _ spells then = absurd (apart _ _ refl spells.0)
+
+only_fail : {Z : Type 0} (rest : List (List ℕ)) (s : Step) → StepWords s (codes "fail" ∷ rest) → ((m : ℕ) → s ≡ steps.Fail m → (SpellsCount m ▸ End) rest → Z) → Z
+only_fail rest (steps.Fail m) spells then = then m refl spells.1
+only_fail rest _ spells then = absurd (apart _ _ refl spells.0)
+
+only_tick : {Z : Type 0} (rest : List (List ℕ)) (s : Step) → StepWords s (codes "tick" ∷ rest) → (s ≡ steps.Tick → Z) → Z
+only_tick rest steps.Tick spells then = then refl
+only_tick rest _ spells then = absurd (apart _ _ refl spells.0)
+
+only_ask : {Z : Type 0} (rest : List (List ℕ)) (s : Step) → StepWords s (codes "ask" ∷ rest)
+    → ((c : ℕ) (n : ℤ) → s ≡ steps.Ask c n → (SpellsClient c ▸ SpellsSigned w64 n ▸ End) rest → Z) → Z
+only_ask rest (steps.Ask c n) spells then = then c n refl spells.1
+only_ask rest _ spells then = absurd (apart _ _ refl spells.0)
+
+-- ---- lines
+
+no_words : (s : Step) → StepWords s [] → ⊥
+no_words steps.Tick spells = spells
+no_words _ spells = spells
+
+-- A step's words begin with this keyword too, where they begin with a word that is the keyword.
+begun : (s : Step) (word keyword : List ℕ) (rest : List (List ℕ)) → word ≡ keyword → StepWords s (word ∷ rest) → StepWords s (keyword ∷ rest)
+begun s word keyword rest is spells = subst (λ (w : List ℕ). StepWords s (w ∷ rest)) is spells
+
+at_word : (a b : Step) (word : List ℕ) (rest : List (List ℕ)) → StepWords a (word ∷ rest) → StepWords b (word ∷ rest) → a ≡ b
+at_word (steps.At m) b word rest of_a of_b = only_at rest b (begun b word _ rest of_a.0 of_b) (λ n is spells.
+    ap steps.At (same_one SpellsCount count_once rest m n of_a.1 spells) ∙ sym is)
+at_word steps.Make b word rest of_a of_b = only_make rest b (begun b word _ rest of_a.0 of_b) (λ is. sym is)
+at_word (steps.Ack m) b word rest of_a of_b = only_ack rest b (begun b word _ rest of_a.0 of_b) (λ n is spells.
+    ap steps.Ack (same_one SpellsCount count_once rest m n of_a.1 spells) ∙ sym is)
+at_word (steps.Register c m) b word rest of_a of_b = only_register rest b (begun b word _ rest of_a.0 of_b) (λ d n is spells.
+    let both = same_two SpellsClient (SpellsSigned w64) client_once number_once rest c d m n of_a.1 spells in
+    ap (λ (x : ℕ). steps.Register x m) both.0 ∙ ap (λ (x : ℤ). steps.Register d x) both.1 ∙ sym is)
+at_word (steps.Release c m) b word rest of_a of_b = only_drop rest b (begun b word _ rest of_a.0 of_b) (λ d n is spells.
+    let both = same_two SpellsClient (SpellsSigned w64) client_once number_once rest c d m n of_a.1 spells in
+    ap (λ (x : ℕ). steps.Release x m) both.0 ∙ ap (λ (x : ℤ). steps.Release d x) both.1 ∙ sym is)
+at_word (steps.Due c) b word rest of_a of_b = only_due rest b (begun b word _ rest of_a.0 of_b) (λ d is spells.
+    ap steps.Due (same_one SpellsClient client_once rest c d of_a.1 spells) ∙ sym is)
+at_word (steps.Deliver m) b word rest of_a of_b = only_deliver rest b (begun b word _ rest of_a.0 of_b) (λ n is spells.
+    ap steps.Deliver (same_one SpellsCount count_once rest m n of_a.1 spells) ∙ sym is)
+at_word (steps.Answer m) b word rest of_a of_b = only_answer rest b (begun b word _ rest of_a.0 of_b) (λ n is spells.
+    ap steps.Answer (same_one SpellsCount count_once rest m n of_a.1 spells) ∙ sym is)
+at_word (steps.Fail m) b word rest of_a of_b = only_fail rest b (begun b word _ rest of_a.0 of_b) (λ n is spells.
+    ap steps.Fail (same_one SpellsCount count_once rest m n of_a.1 spells) ∙ sym is)
+at_word steps.Tick b word rest of_a of_b = only_tick rest b (begun b word _ rest of_a.0 of_b) (λ is. sym is)
+at_word (steps.Ask c m) b word rest of_a of_b = only_ask rest b (begun b word _ rest of_a.0 of_b) (λ d n is spells.
+    let both = same_two SpellsClient (SpellsSigned w64) client_once number_once rest c d m n of_a.1 spells in
+    ap (λ (x : ℕ). steps.Ask x m) both.0 ∙ ap (λ (x : ℤ). steps.Ask d x) both.1 ∙ sym is)
+
+words_once : (a b : Step) (words : List (List ℕ)) → StepWords a words → StepWords b words → a ≡ b
+words_once a b [] of_a of_b = absurd (no_words a of_a)
+words_once a b (word ∷ rest) of_a of_b = at_word a b word rest of_a of_b
+
+-- A line spells at most one step.
+pub step_once : (a b : Step) (text : List ℕ) → SpellsStep a text → SpellsStep b text → a ≡ b
+step_once a b text of_a of_b = words_once a b (parts 32 text) of_a of_b
+
+-- A line spells at most one first line of a world.
+pub world_once : (lease lease2 ack ack2 clients clients2 : ℕ) (text : List ℕ) → SpellsWorld lease ack clients text → SpellsWorld lease2 ack2 clients2 text
+    → (lease ≡ lease2) × (ack ≡ ack2) × (clients ≡ clients2)
+world_once lease lease2 ack ack2 clients clients2 text of_a of_b =
+    let others = after_world (parts 32 text) of_a of_b in
+    let first = same_first SpellsDuration duration_once (SpellsDuration ack ▸ SpellsClients clients ▸ End) (SpellsDuration ack2 ▸ SpellsClients clients2 ▸ End) others.0 lease lease2 others.1 others.2 in
+    let both = same_two SpellsDuration SpellsClients duration_once clients_once first.1.0 ack ack2 clients clients2 first.1.1 first.1.2 in
+    (first.0, both.0, both.1)
+  where
+    after_world : (words : List (List ℕ)) → WorldWords lease ack clients words → WorldWords lease2 ack2 clients2 words
+        → (rest : List (List ℕ)) × (SpellsDuration lease ▸ SpellsDuration ack ▸ SpellsClients clients ▸ End) rest × (SpellsDuration lease2 ▸ SpellsDuration ack2 ▸ SpellsClients clients2 ▸ End) rest
+    after_world [] of_x of_y = absurd of_x
+    after_world (word ∷ words) of_x of_y = (words, of_x.1, of_y.1)

@@ -1,0 +1,18 @@
+//! Tests of a client's sessions and commands, and of the server's replies that they read, over links in memory.
+//!
+//! A case is a line of text: what is read or called, what the server sends, what the client sends, and the answer or the end. One loop runs all
+//! lines.
+#![tactic(auto)]
+
+#[cfg(test)]
+mod replies;
+#[cfg(test)]
+mod sessions;
+#[cfg(test)]
+mod shuts;
+#[cfg(test)]
+mod talks;
+#[cfg(test)]
+mod texts;
+#[cfg(test)]
+mod words;
