@@ -1,7 +1,8 @@
-//! Times a part of the product, which the first word names: `graphs`, `streams`, `suid` or `lock`. The other words say how much of it.
+//! Times a part of the product, which the first word names: `graphs`, `streams`, `suid`, `lock` or `client`. The other words say how much of it.
 #![tactic(auto)]
 
 mod classes;
+mod client;
 mod crew;
 mod graphs;
 mod lock;
@@ -10,6 +11,7 @@ mod sizes;
 mod streams;
 
 use classes::time_class;
+use client::time_client;
 use graphs::time_graph;
 use lock::time_lock;
 use std::process::ExitCode;
@@ -23,6 +25,7 @@ enum Part {
     Streams,
     Suid,
     Lock,
+    Client,
 }
 
 impl Part {
@@ -33,6 +36,7 @@ impl Part {
             "streams" => Some(Part::Streams),
             "suid" => Some(Part::Suid),
             "lock" => Some(Part::Lock),
+            "client" => Some(Part::Client),
             _ => None,
         }
     }
@@ -50,9 +54,10 @@ fn main(rt: HostRuntime) -> io::Result<ExitCode> {
         Some(Part::Streams) => time_stream(&rt, alloc, rt.stdin()),
         Some(Part::Suid) => time_class(&rt, alloc, rt.stdin()),
         Some(Part::Lock) => time_lock(&rt, alloc, words.as_slice()),
+        Some(Part::Client) => time_client(&rt, alloc, words.as_slice()),
         None => {
             eprintln!(rt;
-                "usage: bench_parts graphs NODES BYTES, streams, suid, or lock THREADS TURNS"
+                "usage: bench_parts graphs NODES BYTES, streams, suid, lock THREADS TURNS, or client HOST PORT CALLS"
             )?;
             Ok(ExitCode::from(1))
         }

@@ -1,7 +1,8 @@
 //! Copies of descriptions and of what they hold.
 
 use crate::desc::{ClassDesc, ProxyDesc};
-use crate::field::FieldDesc;
+use crate::field::{FieldDesc, TypeCode};
+use crate::known_class::PartField;
 use crate::slot::{Item, Slot};
 use sequence::TryCopy;
 use std::alloc::{AllocError, Global};
@@ -9,6 +10,22 @@ use std::alloc::{AllocError, Global};
 impl TryCopy for Slot {
     fn try_copy(&self, _alloc: Global) -> Result<Slot, AllocError> {
         Ok(*self)
+    }
+}
+
+impl TryCopy for TypeCode {
+    fn try_copy(&self, _alloc: Global) -> Result<TypeCode, AllocError> {
+        Ok(*self)
+    }
+}
+
+impl TryCopy for PartField {
+    fn try_copy(&self, alloc: Global) -> Result<PartField, AllocError> {
+        Ok(PartField {
+            code: self.code,
+            name: self.name.copy(alloc)?,
+            type_text: self.type_text.copy(alloc)?,
+        })
     }
 }
 

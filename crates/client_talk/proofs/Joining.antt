@@ -31,18 +31,20 @@ use Rattle.ser_read.specs.Wants.{inside, WantIsBad}
 use Rattle.java_shapes.specs.Throwable.{fault_text_at}
 use Rattle.jrmp_frames.specs.Gives.{StopsIn}
 use Rattle.rmi_client.specs.Ends.{end_of, IsOutside}
-use Rattle.rmi_client.specs.Replies.{reading, reply_stop, to_come, NoCode, exception_end, StopsReturn, TakesAck, HearsAck, TakesAnswer, HearsAnswer, reference_in, reference_of, viewed}
+use Rattle.rmi_client.specs.Replies.{reading, reply_stop, to_come, NoCode, exception_end, StopsReturn, TakesAck, HearsAck, TakesAnswer, HearsAnswer, reference_of, viewed}
 use Rattle.rmi_client.specs.Requests.{HearsSeen, Sees}
 use Rattle.rmi_client.specs.Sessions.{LinkState, link_at, Exchanges, IsCut, ReadsNothing}
 use Rattle.rmi_client.specs.Sessions as session
+use Rattle.rmi_client.specs.declared.end.ReplyKind.TheVariants as replies
 use Rattle.rmi_client.specs.declared.end.ReplyKind.TheVariants.{WrongShape}
 use Rattle.rmi_client.specs.declared.end.ClientEnd.{ClientEnd}
 use Rattle.rmi_client.specs.declared.end.ClientEnd.TheVariants as ends
 use Rattle.rmi_client.specs.declared.reply.Answer.{Answer}
+use Rattle.client_talk.specs.Contents.{content_of, content_in, reference_held, single, tree}
 use Rattle.client_talk.specs.Scripts.{Script, tells, got, stopped}
 use Rattle.client_talk.specs.Talk.{Seen, Linked, IsSettledBy, ShowsBy, Talks}
 use Rattle.client_talk.specs.Steps.{Stands, with_seen, IsAt, Asks, Answers, Breaks, Tells, Fails}
-use Rattle.client_talk.specs.Rmi.{Message, Header, OwnHost, Acknowledge, Reply, Welcome, rmi, cause_of_end, IsMessageBytes, want_of, view_at, view_of, IsReplyBytes, HearsEnd, StopsReading, sent_before, StopsSession, heard_view, heard_return, heard_call, heard_ack, heard_header, heard_at}
+use Rattle.client_talk.specs.Rmi.{Message, Header, OwnHost, Acknowledge, Reply, Welcome, rmi, cause_of_end, IsMessageBytes, want_of, view_at, view_of, IsReplyBytes, HearsEnd, past_limit, StopsReading, sent_before, StopsSession, heard_view, heard_return, heard_call, heard_ack, heard_header, heard_at}
 use Rattle.client_talk.specs.Commands.{greets}
 use Rattle.client_talk.proofs.Talking.{now_at}
 use Rattle.client_talk.proofs.Stepping.{asked_on, told_on, steps_again}
@@ -59,51 +61,62 @@ IsDry _ left = Unit {0}
 record Took (old new : PullState) (end : ClientEnd) : Type 0 where
   pub taken : List ℕ
   pub left : old.left ≡ with_front taken new.left
+  pub counted : old.at + length taken ≡ new.at + past_limit end
+  pub shut : new.shut ≡ old.shut
   pub dry : IsDry end new.left
 
 took_more : (old mid new : PullState) (bytes : List ℕ) (end : ClientEnd) → Takes old mid bytes → Took mid new end → Took old new end
 took_more old mid new bytes end takes t = record {
   taken = bytes ++ t.taken;
   left = takes.left ∙ ap (with_front bytes) t.left ∙ with_front-with_front bytes t.taken new.left;
+  counted = omega (arith, takes.at, t.counted, length-append bytes t.taken);
+  shut = t.shut ∙ takes.shut;
   dry = t.dry;
 }
 
 stops_took : (old new : PullState) (why : PullEnd) → Stops old new why → Took old new (end_of (fault_of why))
-stops_took old new (pulls.End at) stops = record { taken = []; left = stops.1.left; dry = stops.2 }
-stops_took old new (pulls.Limit at) stops = record { taken = stops.1.dropped ∷ []; left = stops.1.left; dry = tt }
-stops_took old new pulls.ReadFault stops = record { taken = []; left = stops.0.left; dry = tt }
-stops_took old new pulls.OutOfMemory stops = record { taken = []; left = stops.left; dry = tt }
+stops_took old new (pulls.End at) stops = record { taken = []; left = stops.1.left; counted = omega (arith, stops.1.at); shut = stops.1.shut; dry = stops.2 }
+stops_took old new (pulls.Limit at) stops = record { taken = stops.1.dropped ∷ []; left = stops.1.left; counted = omega (arith, stops.1.at); shut = stops.1.shut; dry = tt }
+stops_took old new pulls.ReadFault stops = record { taken = []; left = stops.0.left; counted = omega (arith, stops.0.at); shut = stops.0.shut; dry = tt }
+stops_took old new pulls.OutOfMemory stops = record { taken = []; left = stops.left; counted = omega (arith, stops.at); shut = stops.shut; dry = tt }
+
+-- exactly these bytes
+took_by : (old new : PullState) (end : ClientEnd) (bytes : List ℕ) → Takes old new bytes → past_limit end ≡ 0 → IsDry end new.left → Took old new end
+took_by old new end bytes takes none dry = record { taken = bytes; left = takes.left; counted = omega (arith, takes.at, none); shut = takes.shut; dry = dry }
 
 no_code_took : (old new : PullState) (end : ClientEnd) → NoCode old new end → Took old new end
 no_code_took old new end h = subst (Took old new) (sym h.is) (stops_took old new h.why h.stops)
 
 breaks_took : {Y F : Type 0} (said : Fault → F) (of_kind : Result Y F → StreamKind → ℕ → Type 0) (old new : PullState) (fault : StreamFault) (read : ℕ → List ℕ → Result Y F)
     → BreaksBy said of_kind old new fault read → Took old new (end_of fault)
-breaks_took said of_kind old new (faults.Bad kind at) read h = record { taken = h.taken; left = h.takes.left; dry = tt }
-breaks_took said of_kind old new (faults.TooLarge larges.Nodes at) read h = record { taken = h.taken; left = h.takes.left; dry = tt }
-breaks_took said of_kind old new (faults.TooLarge larges.Depth at) read h = record { taken = h.taken; left = h.takes.left; dry = tt }
+breaks_took said of_kind old new (faults.Bad kind at) read h = took_by old new (ends.BadReply (replies.Stream kind) at) h.taken h.takes refl tt
+breaks_took said of_kind old new (faults.TooLarge larges.Nodes at) read h = took_by old new (ends.TooLarge larges.Nodes at) h.taken h.takes refl tt
+breaks_took said of_kind old new (faults.TooLarge larges.Depth at) read h = took_by old new (ends.TooLarge larges.Depth at) h.taken h.takes refl tt
 breaks_took said of_kind old new (faults.TooLarge larges.Bytes at) read (mid, short, passes) =
-    took_more old mid new short.taken (ends.TooLarge larges.Bytes at) short.takes (record { taken = passes.dropped ∷ []; left = passes.left; dry = tt })
-breaks_took said of_kind old new (faults.Truncated at) read (short, nothing) = record { taken = short.taken; left = short.takes.left; dry = nothing }
-breaks_took said of_kind old new faults.ReadFault read (short, rose) = record { taken = short.taken; left = short.takes.left; dry = tt }
-breaks_took said of_kind old new faults.OutOfMemory read h = record { taken = h.taken; left = h.takes.left; dry = tt }
+    took_more old mid new short.taken (ends.TooLarge larges.Bytes at) short.takes
+    (record { taken = passes.dropped ∷ []; left = passes.left; counted = omega (arith, passes.at); shut = passes.shut; dry = tt })
+breaks_took said of_kind old new (faults.Truncated at) read (short, nothing) = took_by old new (ends.Truncated at) short.taken short.takes refl nothing
+breaks_took said of_kind old new faults.ReadFault read (short, rose) = took_by old new ends.ReadFault short.taken short.takes refl tt
+breaks_took said of_kind old new faults.OutOfMemory read h = took_by old new ends.OutOfMemory h.taken h.takes refl tt
 
-dry_exception : (at : ℕ) (text : Option (List ℕ)) (left : Option (List ℕ)) → IsDry (exception_end at text) left
-dry_exception at (Some text) left = tt
-dry_exception at None left = tt
+took_exception : (old new : PullState) (bytes : List ℕ) (text : Option (List ℕ)) → Takes old new bytes → Took old new (exception_end new.at text)
+took_exception old new bytes (Some text) takes = took_by old new (ends.RemoteFault text) bytes takes refl tt
+took_exception old new bytes None takes = took_by old new (ends.BadReply WrongShape new.at) bytes takes refl tt
 
 answer_took : (old new : PullState) (want : Option TypeCode) (end : ClientEnd) → HearsAnswer old new want (Err end) → Took old new end
 answer_took old new want end h = go h.takes
   where
     behind : (mid : PullState) → StopsReturn mid new want end → Took mid new end
     behind mid (inl (fault, breaks, is)) = subst (Took mid new) (sym is) (breaks_took inside WantIsBad mid new fault (return_at want) breaks.is)
-    behind mid (inr (inl (byte, at, (one, two, here, reads), is))) = record { taken = reads.taken; left = reads.takes.left; dry = subst (λ e. IsDry e new.left) (sym is) tt }
-    behind mid (inr (inr (inl (uid, body, t, is)))) = record { taken = t.message; left = t.takes.left; dry = subst (λ e. IsDry e new.left) (sym is) (dry_exception new.at (viewed fault_text_at (reference_of body)) new.left) }
-    behind mid (inr (inr (inr (normal, uid, body, t, is)))) = record { taken = t.message; left = t.takes.left; dry = subst (λ e. IsDry e new.left) (sym is) tt }
+    behind mid (inr (inl (byte, at, (one, two, here, reads), is))) =
+        subst (Took mid new) (sym is) (took_by mid new (ends.BadReply replies.BadReturnKind at) reads.taken reads.takes refl tt)
+    behind mid (inr (inr (inl (uid, body, t, is)))) =
+        subst (Took mid new) (sym is) (took_exception mid new t.message (viewed fault_text_at (reference_of body)) t.takes)
+    behind mid (inr (inr (inr (normal, uid, body, t, is)))) = subst (Took mid new) (sym is) (took_by mid new ends.OutOfMemory t.message t.takes refl tt)
 
     go : TakesAnswer old new want (Err end) → Took old new end
     go (inl none) = no_code_took old new end none
-    go (inr (inl (byte, one, not))) = record { taken = byte ∷ []; left = not.0.left; dry = subst (λ e. IsDry e new.left) (sym not.1) tt }
+    go (inr (inl (byte, one, not))) = subst (Took old new) (sym not.1) (took_by old new (ends.BadReply replies.NotReturn old.at) (byte ∷ []) not.0 refl tt)
     go (inr (inr (mid, t, s))) = took_more old mid new (0x51 ∷ []) end t (behind mid s)
 
 -- ---- a whole Return
@@ -128,12 +141,12 @@ whole_of old new want answer h =
       is = r.is;
     }
 
-carried_reference : (want : Option TypeCode) (answers : List Item) (nodes : List Node) (body : Body) → Carries want answers nodes body → reference_in nodes answers ≡ reference_of body
-carried_reference None [] nodes bodies.Void h = refl
-carried_reference (Some code) (items.Bytes b ∷ []) nodes (bodies.Prim value) h = refl
-carried_reference (Some code) (items.Ref s ∷ []) nodes (bodies.Tree graph) h =
-    ap (λ ns. reference_in ns (items.Ref s ∷ [])) (sym h.0) ∙ ap (reference_in graph.nodes) (sym h.1)
-carried_reference _ _ _ _ h = absurd h
+carried_content : (want : Option TypeCode) (answers : List Item) (nodes : List Node) (body : Body) → Carries want answers nodes body → content_in want nodes answers ≡ content_of body
+carried_content None [] nodes bodies.Void h = refl
+carried_content (Some code) (items.Bytes b ∷ []) nodes (bodies.Prim value) h = ap single (sym h)
+carried_content (Some code) (items.Ref s ∷ []) nodes (bodies.Tree graph) h =
+    ap (λ ns. tree ns (items.Ref s ∷ [])) (sym h.0) ∙ ap (tree graph.nodes) (sym h.1)
+carried_content _ _ _ _ h = absurd h
 
 -- what the bytes to come answer, where a Return was read
 return_heard : (message : Message) (half half2 : ReadHalf) (at at2 : ℕ) (answer : Answer) (bytes : List ℕ)
@@ -153,9 +166,14 @@ return_heard message half half2 at at2 answer bytes h left =
     ) in
     ap (heard_call message at) (sym left)
     ∙ ap (heard_return message at (length (to_come (reading half at at)))) read
-    ∙ ap (λ n. heard_view (at + n) n (view_at message y.0.uid (reference_in y.0.nodes y.0.answers))) count
-    ∙ ap (λ uid. heard_view (at + length w.taken) (length w.taken) (view_at message uid (reference_in y.0.nodes y.0.answers))) is.0
-    ∙ ap (λ found. heard_view (at + length w.taken) (length w.taken) (view_at message (bytes_of_uid answer.uid) found)) (carried_reference (want_of message) y.0.answers y.0.nodes answer.body is.1)
+    ∙ ap (λ n. heard_view (at + n) n (view_at message y.0.uid (content_in (want_of message) y.0.nodes y.0.answers))) count
+    ∙ ap (λ uid. heard_view (at + length w.taken) (length w.taken) (view_at message uid (content_in (want_of message) y.0.nodes y.0.answers))) is.0
+    ∙ ap (λ content. heard_view (at + length w.taken) (length w.taken) (view_at message (bytes_of_uid answer.uid) content)) (carried_content (want_of message) y.0.answers y.0.nodes answer.body is.1)
+
+pub held_same : (body : Body) → reference_held (content_of body) ≡ reference_of body
+held_same bodies.Void = refl
+held_same (bodies.Prim value) = refl
+held_same (bodies.Tree graph) = refl
 
 -- ---- the messages whose replies are Returns
 
@@ -164,7 +182,7 @@ IsCall Header = ⊥
 IsCall _ = Unit {0}
 
 reply_by : (message : Message) (at : ℕ) (bytes : List ℕ) (uid : Uid) (body : Body) (reply : Reply) → IsCall message → ReturnOf (want_of message) true uid body bytes
-    → view_at message (bytes_of_uid uid) (reference_of body) ≡ Some reply → IsReplyBytes message at bytes reply
+    → view_at message (bytes_of_uid uid) (content_of body) ≡ Some reply → IsReplyBytes message at bytes reply
 reply_by Header at bytes uid body reply call is view = absurd call
 reply_by _ at bytes uid body reply call is view = (uid, body, is, view)
 
@@ -182,11 +200,12 @@ IsRead ends.Over = ⊥
 IsRead (ends.WriteFault n) = ⊥
 IsRead _ = Unit {0}
 
-stops_by : (message : Message) (at : ℕ) (sent taken : List ℕ) (end : ClientEnd) → IsRead end → IsMessageBytes message sent → StopsReading message at taken end → StopsSession message at sent taken end
-stops_by message at sent taken ends.Over reads is stops = absurd reads
-stops_by message at sent taken (ends.WriteFault n) reads is stops = absurd reads
-stops_by message at sent taken ends.OutOfMemory reads is stops = inr (is, stops)
-stops_by message at sent taken _ reads is stops = (is, stops)
+stops_by : (message : Message) (at : ℕ) (sent taken : List ℕ) (rest : Option (List ℕ)) (end : ClientEnd) → IsRead end → IsMessageBytes message sent → StopsReading message at taken rest end
+    → StopsSession message at sent taken rest end
+stops_by message at sent taken rest ends.Over reads is stops = absurd reads
+stops_by message at sent taken rest (ends.WriteFault n) reads is stops = absurd reads
+stops_by message at sent taken rest ends.OutOfMemory reads is stops = inr (is, stops)
+stops_by message at sent taken rest _ reads is stops = (is, stops)
 
 risen : (before after : ℕ) → Rose before after → 0 < after
 risen before after rose = grind (arith, rose.0, rose.1)
@@ -227,7 +246,7 @@ answered_call message view into call viewed old new value (bytes, is, sends, inl
     record {
       sent = bytes;
       taken = w.taken;
-      moves = record { left = w.takes.left; held = sends.held };
+      moves = record { left = w.takes.left; held = sends.held; read_shut = w.takes.shut; write_shut = sends.shut };
       position = w.takes.at;
       is_message = is;
       is_reply = reply_by message old.at w.taken answer.uid answer.body (into value) call w.is seen;
@@ -235,10 +254,16 @@ answered_call message view into call viewed old new value (bytes, is, sends, inl
           ∙ ap (heard_view (old.at + length w.taken) (length w.taken)) seen;
     }
 
+none_past : {V : Type 0} (at : ℕ) (shown : Option V) (end : ClientEnd) → Sees at shown (Err end) → past_limit end ≡ 0
+none_past at shown end (inl (none, is)) = ap past_limit is
+none_past at shown end (inr is) = ap past_limit is
+
 -- the reading of a call's reply that came to an end
 record Ended (message : Message) (old new : LinkState) (end : ClientEnd) : Type 0 where
   pub taken : List ℕ
   pub left : old.read.left ≡ with_front taken new.read.left
+  pub counted : old.at + length taken ≡ new.at + past_limit end
+  pub shut : new.read.shut ≡ old.read.shut
   pub reads : IsRead end
   pub dry : IsDry end new.read.left
   pub faulty : end ≡ ends.ReadFault → 0 < new.read.faults
@@ -276,6 +301,8 @@ ended_unread message old new end h =
     record {
       taken = took.taken;
       left = took.left;
+      counted = took.counted;
+      shut = took.shut;
       reads = is_heard _ _ _ _ h;
       dry = took.dry;
       faulty = λ same. risen old.read.faults new.read.faults (h.blames.1 (ap Err same));
@@ -293,6 +320,8 @@ ended_unseen message old new answer end h sees =
     record {
       taken = w.taken;
       left = w.takes.left;
+      counted = omega (arith, w.takes.at, none_past new.at (view_of message answer) end sees);
+      shut = w.takes.shut;
       reads = reads_sees new.at _ end sees;
       dry = elim sees [ inl e ↦ subst (λ x. IsDry x new.read.left) (sym e.1) tt | inr e ↦ subst (λ x. IsDry x new.read.left) (sym e) tt ];
       faulty = λ same. elim sees [ inl e ↦ absurd (not_fault end e.1 same) | inr e ↦ absurd (not_memory end e same) ];
@@ -334,9 +363,9 @@ broken_call message view into call viewed old new end (bytes, is, sends, hears) 
     record {
       sent = bytes;
       taken = e.taken;
-      moves = record { left = e.left; held = sends.held };
-      stops = stops_by message old.at bytes e.taken end e.reads is
-          (record { old = old.read; new = new.read; later = new.at; left = e.left; hears = ends_by message _ _ end call seen });
+      moves = record { left = e.left; held = sends.held; read_shut = e.shut; write_shut = sends.shut };
+      stops = stops_by message old.at bytes e.taken new.read.left end e.reads is
+          (record { old = old.read; new = new.read; later = new.at; left = e.left; behind = refl; counted = e.counted; hears = ends_by message _ _ end call seen });
       shows = shown_by end (seen_of new) e.reads e.dry e.faulty;
       gives = λ settled coming left. heard_by message old.at coming call ∙ e.gives settled coming left;
     }
@@ -346,7 +375,12 @@ cut_call : (message : Message) (old new : LinkState) (n : ℕ) → sent_before m
 cut_call message old new n none (bytes, is, front, nothing) = record {
   sent = take n bytes;
   taken = [];
-  moves = record { left = ap (λ (h : ReadHalf). h.left) (sym nothing.0) ∙ sym (with_front-nothing new.read.left); held = front.sends.held };
+  moves = record {
+    left = ap (λ (h : ReadHalf). h.left) (sym nothing.0) ∙ sym (with_front-nothing new.read.left);
+    held = front.sends.held;
+    read_shut = ap (λ (h : ReadHalf). h.shut) nothing.0;
+    write_shut = front.sends.shut;
+  };
   stops = record { bytes = bytes; written = n; is_message = is; few = front.few; sent_are = refl; counted = omega (arith, none); none_taken = refl };
   shows = risen old.write.faults new.write.faults front.rose;
   gives = λ settled. absurd settled;
@@ -360,6 +394,8 @@ lacking message old new same = record {
   moves = record {
     left = ap (λ (l : LinkState). l.read.left) (sym same) ∙ sym (with_front-nothing new.read.left);
     held = ap (λ (l : LinkState). l.write.held) same ∙ sym (with_end-nothing old.write.held);
+    read_shut = ap (λ (l : LinkState). l.read.shut) same;
+    write_shut = ap (λ (l : LinkState). l.write.shut) same;
   };
   stops = inl (refl, refl);
   shows = tt;
@@ -386,13 +422,23 @@ pub acked_by : (uid : Uid) (old new : LinkState) (result : Result (Unit {0}) Cli
     → session.Tells (session.IsDgcAck uid) old new result → Tells rmi (seen_of old) (seen_of new) (Acknowledge (bytes_of_uid uid)) (in_command result)
 acked_by uid old new (Ok done) (bytes, is, sends, nothing) = record {
   sent = bytes;
-  moves = record { left = ap (λ (h : ReadHalf). h.left) (sym nothing.0) ∙ sym (with_front-nothing new.read.left); held = sends.held };
+  moves = record {
+    left = ap (λ (h : ReadHalf). h.left) (sym nothing.0) ∙ sym (with_front-nothing new.read.left);
+    held = sends.held;
+    read_shut = ap (λ (h : ReadHalf). h.shut) nothing.0;
+    write_shut = sends.shut;
+  };
   position = nothing.1;
   is_message = is;
 }
 acked_by uid old new (Err (ends.WriteFault n)) (bytes, is, front, nothing) = record {
   sent = take n bytes;
-  moves = record { left = ap (λ (h : ReadHalf). h.left) (sym nothing.0) ∙ sym (with_front-nothing new.read.left); held = front.sends.held };
+  moves = record {
+    left = ap (λ (h : ReadHalf). h.left) (sym nothing.0) ∙ sym (with_front-nothing new.read.left);
+    held = front.sends.held;
+    read_shut = ap (λ (h : ReadHalf). h.shut) nothing.0;
+    write_shut = front.sends.shut;
+  };
   outside = tt;
   stops = record { bytes = bytes; written = n; is_message = is; few = front.few; sent_are = refl; counted = omega arith; none_taken = refl };
   shows = risen old.write.faults new.write.faults front.rose;
@@ -410,10 +456,10 @@ stop_is : reply_stop 0 ≡ 16777216
 stop_is = refl
 
 -- the header was acknowledged
-welcomed : (read read2 : ReadHalf) (write write2 : WriteHalf) (at2 : ℕ) → write2.held ≡ with_end write.held (header Stream)
+welcomed : (read read2 : ReadHalf) (write write2 : WriteHalf) (at2 : ℕ) → write2.held ≡ with_end write.held (header Stream) → write2.shut ≡ write.shut
     → HearsAck {A = Unit {0}} (reading read 0 0) (reading read2 0 at2) (Ok tt)
     → Answers rmi (seen_of (link_at read write 0)) (seen_of (link_at read2 write2 at2)) Header Welcome
-welcomed read read2 write write2 at2 held h =
+welcomed read read2 write write2 at2 held still h =
     let (mid, t, (bytes, is, r)) = h.takes in
     let takes : Takes (reading read 0 0) (reading read2 0 at2) (0x4E ∷ bytes) = record {
       left = t.left ∙ ap (with_front (0x4E ∷ [])) r.left ∙ with_front-with_front (0x4E ∷ []) bytes read2.left;
@@ -426,7 +472,7 @@ welcomed read read2 write write2 at2 held h =
     record {
       sent = header Stream;
       taken = 0x4E ∷ bytes;
-      moves = record { left = takes.left; held = held };
+      moves = record { left = takes.left; held = held; read_shut = takes.shut; write_shut = still };
       position = takes.at;
       is_message = refl;
       is_reply = (bytes, refl, is, refl);
@@ -454,21 +500,22 @@ ack_took old new end h = go h.takes
 
     go : TakesAck {A = Unit {0}} old new (Err end) → Took old new end
     go (inl none) = no_code_took old new end none
-    go (inr (inl (byte, one, two, not))) = record { taken = byte ∷ []; left = not.0.left; dry = subst (λ e. IsDry e new.left) (sym not.1) tt }
-    go (inr (inr (inl (t, is)))) = record { taken = 0x4F ∷ []; left = t.left; dry = subst (λ e. IsDry e new.left) (sym is) tt }
+    go (inr (inl (byte, one, two, not))) = subst (Took old new) (sym not.1) (took_by old new (ends.BadReply replies.NotReturn old.at) (byte ∷ []) not.0 refl tt)
+    go (inr (inr (inl (t, is)))) = subst (Took old new) (sym is) (took_by old new ends.Nack (0x4F ∷ []) t refl tt)
     go (inr (inr (inr (mid, t, (fault, stops, is))))) = took_more old mid new (0x4E ∷ []) end t (subst (Took mid new) (sym is) (stopped_in mid fault stops))
 
 -- the header was not acknowledged
-unwelcome : (read read2 : ReadHalf) (write write2 : WriteHalf) (at2 : ℕ) (end : ClientEnd) → IsRead end → write2.held ≡ with_end write.held (header Stream)
+unwelcome : (read read2 : ReadHalf) (write write2 : WriteHalf) (at2 : ℕ) (end : ClientEnd) → IsRead end → write2.held ≡ with_end write.held (header Stream) → write2.shut ≡ write.shut
     → HearsAck {A = Unit {0}} (reading read 0 0) (reading read2 0 at2) (Err end)
     → Breaks rmi (seen_of (link_at read write 0)) (seen_of (link_at read2 write2 at2)) Header (Session end)
-unwelcome read read2 write write2 at2 end reads held h =
+unwelcome read read2 write write2 at2 end reads held still h =
     let took = ack_took _ _ end h in
     record {
       sent = header Stream;
       taken = took.taken;
-      moves = record { left = took.left; held = held };
-      stops = stops_by Header 0 (header Stream) took.taken end reads refl (record { old = read; new = read2; later = at2; left = took.left; hears = h });
+      moves = record { left = took.left; held = held; read_shut = took.shut; write_shut = still };
+      stops = stops_by Header 0 (header Stream) took.taken read2.left end reads refl
+          (record { old = read; new = read2; later = at2; left = took.left; behind = refl; counted = took.counted; hears = h });
       shows = shown_by end (seen_of (link_at read2 write2 at2)) reads took.dry (λ same. risen read.faults read2.faults (h.blames.1 (ap Err same)));
       gives = λ settled bytes left. elim (h.gives (subst (λ o. (env_at o 0 (reply_stop 0)).told ≡ true) (sym left) refl)) [
         | inl outside ↦ absurd (settled_inside end settled outside)
@@ -489,7 +536,7 @@ greeted_on : {V : Type 0} (s : Script rmi V) (k : ℕ) (links : List Linked) (gi
     → Stands s (with_seen k (seen_of (link_at read2 (with_header write) at2)) links) given given2 (tells k (OwnHost host) next)
 greeted_on s k links given given2 host next read read2 write at2 here stands h =
     asked_on s k links given given2 (seen_of (link_at read write 0)) (seen_of (link_at read2 (with_header write) at2)) Header (λ w. tells k (OwnHost host) next) (Ok Welcome) stands here
-    (welcomed read read2 write (with_header write) at2 refl h)
+    (welcomed read read2 write (with_header write) at2 refl refl h)
 
 -- A session opened.
 pub begun_on : {V : Type 0} (s : Script rmi V) (k : ℕ) (links : List Linked) (given given2 : Option (List ℕ)) (host : List ℕ) (next : Script rmi V) (read : ReadHalf) (write : WriteHalf) (new : LinkState)
@@ -501,7 +548,12 @@ begun_on s k links given given2 host next read write new here stands (sends, hea
     (greeted_on s k links given given2 host next read new.read write new.at here stands hears) (now_at k _ (greeted new write) links here)
     (record {
       sent = endpoint host (pos 0);
-      moves = record { left = sym (with_front-nothing new.read.left); held = sends.held ∙ sym (with_end-with_end write.held (header Stream) (endpoint host (pos 0))) };
+      moves = record {
+        left = sym (with_front-nothing new.read.left);
+        held = sends.held ∙ sym (with_end-with_end write.held (header Stream) (endpoint host (pos 0)));
+        read_shut = refl;
+        write_shut = sends.shut;
+      };
       position = refl;
       is_message = refl;
     }))
@@ -515,6 +567,8 @@ host_cut host write new m front = record {
     left = sym (with_front-nothing new.read.left);
     held = front.sends.held ∙ ap (with_end write.held) (take-append-add (header Stream) (endpoint host (pos 0)) m)
         ∙ sym (with_end-with_end write.held (header Stream) (take m (endpoint host (pos 0))));
+    read_shut = refl;
+    write_shut = front.sends.shut;
   };
   outside = tt;
   stops = record {
@@ -541,6 +595,8 @@ header_cut host read write new n few front nothing = record {
   moves = record {
     left = ap (λ (h : ReadHalf). h.left) (sym nothing.0) ∙ sym (with_front-nothing new.read.left);
     held = front.sends.held ∙ ap (with_end write.held) (take-append-le n (header Stream) (endpoint host (pos 0)) (omega (arith, few, header_length)));
+    read_shut = ap (λ (h : ReadHalf). h.shut) nothing.0;
+    write_shut = front.sends.shut;
   };
   stops = record { bytes = header Stream; written = n; is_message = refl; few = few; sent_are = refl; counted = omega arith; none_taken = refl };
   shows = risen write.faults new.write.faults front.rose;
@@ -561,7 +617,7 @@ unbegun_on s k links given given2 host next read write new end here stands h = g
 
     unread : (end : ClientEnd) → IsRead end → Exchanges {A = Unit {0}} session.IsHeader HearsAck (link_at read write 0) new (Err end) → Talks s (with_seen k (seen_of new) links) given given2 (Err (Session end))
     unread end reads (bytes, is, sends, hears) =
-        broken end (unwelcome read new.read write new.write new.at end reads (sends.held ∙ ap (with_end write.held) is) hears)
+        broken end (unwelcome read new.read write new.write new.at end reads (sends.held ∙ ap (with_end write.held) is) sends.shut hears)
 
     cut_behind : (n m : ℕ) → n ≡ 7 + m → session.SendsFront write new.write n (header Stream ++ endpoint host (pos 0)) → session.HearsAcked (link_at read write 0) new
         → Talks s (with_seen k (seen_of new) links) given given2 (Err (Session (ends.WriteFault n)))

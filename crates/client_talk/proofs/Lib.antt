@@ -5,3 +5,6 @@ pub mod Joining
 pub mod Leaving
 pub mod Registry
 mod Rows
+mod Leasing
+mod Holding
+mod Flagged

@@ -1,10 +1,11 @@
 -- What the calls of a registry make of a command.
-use Rattle.std.proofs.Common.{◌≡◌, ℕ, List, Option, Some, None, Ok, Err, refl}
+use Rattle.std.proofs.Common.{◌≡◌, ℕ, List, [], Option, Some, None, Ok, Err, refl, ap, ◌∙◌}
 use Rattle.std.specs.Prelude.{option_map}
 use Rattle.object_ids.specs.declared.ids.Uid.{Uid}
 use Rattle.object_ids.specs.Bytes.{bytes_of_uid}
 use Rattle.class_desc.specs.declared.field.TypeCode.TheVariants as types
 use Rattle.java_shapes.specs.declared.ref_views.LiveRef.{LiveRef}
+use Rattle.java_shapes.specs.Ids.{texts_at}
 use Rattle.java_shapes.specs.LiveRefs.{live_ref_at}
 use Rattle.method_hash.specs.declared.system.RegistryMethod.TheVariants as registry
 use Rattle.rmi_client.specs.Replies.{reference_of, viewed}
@@ -13,15 +14,16 @@ use Rattle.rmi_client.specs.Sessions.{LinkState}
 use Rattle.rmi_client.specs.Sessions as session
 use Rattle.rmi_client.specs.declared.end.ClientEnd.{ClientEnd}
 use Rattle.rmi_client.specs.declared.end.ClientEnd.TheVariants as ends
+use Rattle.rmi_client.specs.declared.reply.Answer.{Answer}
 use Rattle.client_talk.specs.Scripts.{Script, asks, done}
 use Rattle.client_talk.specs.Talk.{Seen, Linked, Talks}
 use Rattle.client_talk.specs.Steps.{Stands, IsAt, with_seen}
-use Rattle.client_talk.specs.Rmi.{List_names, Look_up, Bind, Unbind, Reply, Names, Found, Finished, rmi}
+use Rattle.client_talk.specs.Rmi.{List_names, Look_up, Bind, Unbind, Reply, Names, Found, Finished, rmi, view_of}
 use Rattle.client_talk.specs.Sessions.{seen_of}
 use Rattle.client_talk.specs.Commands.{finds, if_found, if_named, lists, unbinds}
 use Rattle.client_talk.specs.declared.end.CommandEnd.TheVariants.{Session}
 use Rattle.client_talk.proofs.Stepping.{asked_on, done_on, memory_here, talks_same}
-use Rattle.client_talk.proofs.Joining.{asked_by}
+use Rattle.client_talk.proofs.Joining.{asked_by, held_same}
 
 pub listed_on : (s : Script rmi (List (List ℕ))) (k : ℕ) (links : List Linked) (given given2 : Option (List ℕ)) (old new : LinkState) (names : List (List ℕ))
     → IsAt k links (seen_of old) → Stands s links given given2 (lists k) → session.Asks IsListCall (HearsSeen names_in (Some types.Array)) old new (Ok names)
@@ -29,14 +31,14 @@ pub listed_on : (s : Script rmi (List (List ℕ))) (k : ℕ) (links : List Linke
 listed_on s k links given given2 old new names here stands h =
     done_on s _ given given2 names
     (asked_on s k links given given2 (seen_of old) (seen_of new) List_names if_named (Ok (Names names)) stands here
-    (asked_by List_names names_in Names tt refl (record { same = λ answer. refl }) old new (Ok names) h))
+    (asked_by List_names names_in Names tt refl (record { same = λ answer. ap (λ r. option_map Names (viewed texts_at r)) (held_same answer.body) }) old new (Ok names) h))
 
 pub unlisted_on : (s : Script rmi (List (List ℕ))) (k : ℕ) (links : List Linked) (given given2 : Option (List ℕ)) (old new : LinkState) (end : ClientEnd)
     → IsAt k links (seen_of old) → Stands s links given given2 (lists k) → session.Asks IsListCall (HearsSeen names_in (Some types.Array)) old new (Err end)
     → Talks s (with_seen k (seen_of new) links) given given2 (Err (Session end))
 unlisted_on s k links given given2 old new end here stands h =
     asked_on s k links given given2 (seen_of old) (seen_of new) List_names if_named (Err (Session end)) stands here
-    (asked_by List_names names_in Names tt refl (record { same = λ answer. refl }) old new (Err end) h)
+    (asked_by List_names names_in Names tt refl (record { same = λ answer. ap (λ r. option_map Names (viewed texts_at r)) (held_same answer.body) }) old new (Err end) h)
 
 abbrev finished : Unit {0} → Reply
 finished u = Finished
@@ -65,19 +67,24 @@ found_same : (uid : Uid) (reference : Option LiveRef) → option_map (Found (byt
 found_same uid None = refl
 found_same uid (Some r) = refl
 
+found_held : (answer : Answer) → view_of (Look_up []) answer ≡ option_map found_as (found_in answer)
+found_held answer =
+    ap (λ r. option_map (Found (bytes_of_uid answer.uid)) (viewed live_ref_at r)) (held_same answer.body)
+    ∙ found_same answer.uid (viewed live_ref_at (reference_of answer.body))
+
 pub found_on : {V : Type 0} (s : Script rmi V) (k : ℕ) (links : List Linked) (given given2 : Option (List ℕ)) (old new : LinkState) (name : List ℕ) (next : List ℕ → LiveRef → Script rmi V) (found : Uid × LiveRef)
     → IsAt k links (seen_of old) → Stands s links given given2 (finds k name next) → session.Asks (IsNameCall registry.Lookup name) (HearsSeen found_in (Some types.Object)) old new (Ok found)
     → Stands s (with_seen k (seen_of new) links) given given2 (next (bytes_of_uid found.0) found.1)
 found_on s k links given given2 old new name next found here stands h =
     asked_on s k links given given2 (seen_of old) (seen_of new) (Look_up name) (if_found next) (Ok (found_as found)) stands here
-    (asked_by (Look_up name) found_in found_as tt refl (record { same = λ answer. found_same answer.uid (viewed live_ref_at (reference_of answer.body)) }) old new (Ok found) h)
+    (asked_by (Look_up name) found_in found_as tt refl (record { same = λ answer. found_held answer }) old new (Ok found) h)
 
 pub unfound_on : {V : Type 0} (s : Script rmi V) (k : ℕ) (links : List Linked) (given given2 : Option (List ℕ)) (old new : LinkState) (name : List ℕ) (next : List ℕ → LiveRef → Script rmi V) (end : ClientEnd)
     → IsAt k links (seen_of old) → Stands s links given given2 (finds k name next) → session.Asks (IsNameCall registry.Lookup name) (HearsSeen found_in (Some types.Object)) old new (Err end)
     → Talks s (with_seen k (seen_of new) links) given given2 (Err (Session end))
 unfound_on s k links given given2 old new name next end here stands h =
     asked_on s k links given given2 (seen_of old) (seen_of new) (Look_up name) (if_found next) (Err (Session end)) stands here
-    (asked_by (Look_up name) found_in found_as tt refl (record { same = λ answer. found_same answer.uid (viewed live_ref_at (reference_of answer.body)) }) old new (Err end) h)
+    (asked_by (Look_up name) found_in found_as tt refl (record { same = λ answer. found_held answer }) old new (Err end) h)
 
 -- ---- binding
 

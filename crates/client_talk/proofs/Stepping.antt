@@ -1,5 +1,5 @@
 -- What a step makes of a command, wherever it began.
-use Rattle.std.proofs.Common.{arith, ◌≡◌, ℕ, ◌+◌, ◌<◌, List, [], ◌∷◌, ◌++◌, length, Option, Some, Result, Ok, Err, IsTrue, nat_eq, true≢false, refl, ap, sym, subst, ◌∙◌, Bool, true, false, if◌then◌else◌, append-nil, inl, inr}
+use Rattle.std.proofs.Common.{arith, ◌≡◌, ℕ, ◌+◌, ◌<◌, List, [], ◌∷◌, ◌++◌, length, Option, Some, None, Result, Ok, Err, IsTrue, nat_eq, true≢false, refl, ap, sym, subst, ◌∙◌, Bool, true, false, if◌then◌else◌, append-nil, inl, inr}
 use Rattle.std.specs.List.{flat_map}
 use Rattle.std.proofs.lemmas.Grind.{flat_map-append}
 use Rattle.wire_io.specs.Wire.{with_front, with_end, Gave, Gave-nothing}
@@ -8,7 +8,7 @@ use Rattle.client_talk.specs.declared.place.Place.{Place}
 use Rattle.client_talk.specs.Scripts.{Cause, by_memory, by_dial, by_write, by_table, Protocol, Script, dials, asks, tells, reads_clock, done, halts, plays}
 use Rattle.client_talk.specs.Talk.{Row, IsNothing, Deed, asked, told, read_clock, cut, Ends, IsBySending, places_of, hosts_of, moments_of, said_last, sent_on, taken_on, WentOn, Seen, Linked, linked, place_of, EachFrom, Went, AreTold, ShowsBy, Shows, IsOnLinkBy, IsOnLink, IsSettledBy, IsSettled, Talks}
 use Rattle.client_talk.specs.Steps.{coming_after, Stands, with_seen_from, with_seen, IsAt, Moves, Asks, Tells, Steps}
-use Rattle.client_talk.proofs.Talking.{leads_more, sent_row, taken_row, each_more, each_first, each_end, length_seen, hosts_seen, starts_before, seen_same, seen_again, went_row, went_clock, went_dial, dial_deed, still_idle, placed_row, placed_none}
+use Rattle.client_talk.proofs.Talking.{leads_more, sent_row, taken_row, each_more, each_first, each_end, length_seen, hosts_seen, starts_before, seen_same, seen_again, went_row, went_clock, went_dial, dial_deed, still_idle, now_at, placed_row, placed_none}
 use Rattle.client_talk.proofs.Playing.{coming_row, coming_sent, coming_none, found_at, placed_at, plays_more, plays_asked, plays_told, plays_clock, plays_dialed, plays_stopped, plays_done, plays_halted, exact_at}
 
 abbrev row_on : ℕ → List ℕ → List ℕ → Row
@@ -31,7 +31,7 @@ shows_one p result k after n (l ∷ ls) shows = (shown (nat_eq n k) l, shows_one
 
 -- The command ended in a row that was cut.
 pub ends_in : {p : Protocol} {V : Type 0} (s s2 : Script p V) (k : ℕ) (links : List Linked) (given given2 : Option (List ℕ)) (before after : Seen) (sent taken : List ℕ) (result : Result V p.End)
-    (stands : Stands s links given given2 s2) → IsAt k links before → Moves before after sent taken → Ends s2 stands.deeds (row_on k sent taken) result → Shows p result after
+    (stands : Stands s links given given2 s2) → IsAt k links before → Moves before after sent taken → Ends s2 stands.deeds (row_on k sent taken) after.read.left result → Shows p result after
     → (IsSettled p result → (wholes : ℕ → List ℕ) → AreTold wholes links
     → plays s2 (coming_after stands.deeds wholes) [] [] ≡ record { said = said_last s2; end = Some result })
     → Talks s (with_seen k after links) given given2 result
@@ -39,9 +39,12 @@ ends_in {p = p} s s2 k links given given2 before after sent taken result stands 
   deeds = stands.deeds;
   last = s2;
   row = row_on k sent taken;
+  rest = after.read.left;
   leads = stands.leads;
   ended = ended;
-  went = went_row stands.deeds (cut (row_on k sent taken)) (row_on k sent taken) k links given given2 before after stands.went here refl refl refl refl refl moved.left moved.held;
+  rest_is = each_more (λ j l. IsTrue (nat_eq j k) → l.seen ≡ after) (λ j l. IsTrue (nat_eq j k) → l.seen.read.left ≡ after.read.left) 0 (with_seen k after links)
+      (λ j l same e. ap (λ (x : Seen). x.read.left) (same e)) (now_at k before after links here).same;
+  went = went_row stands.deeds (cut (row_on k sent taken)) (row_on k sent taken) k links given given2 before after stands.went here refl refl refl refl refl moved;
   shows = shows_one p result k after 0 links shows;
   known = λ e. subst (λ n. k < n) (sym (length_seen 0 k after links)) here.known;
   exact = exact_at s links (with_seen k after links) given given2 s2 result stands (hosts_seen 0 k after links) (λ wholes telling. told_before wholes k after links telling) ending;
@@ -68,7 +71,7 @@ went_nothing ds links given given2 went = record {
   places = flat_map-append places_of ds (cut no_row ∷ []) ∙ append-nil (flat_map places_of ds) ∙ went.places;
   hosts = flat_map-append hosts_of ds (cut no_row ∷ []) ∙ append-nil (flat_map hosts_of ds) ∙ went.hosts;
   each = each_more (WentOn ds) (WentOn (ds ++ cut no_row ∷ [])) 0 links
-      (λ j l on. record { left = on.left ∙ ap (λ xs. with_front xs l.seen.read.left) (sym (nothing_taken j ds)); held = on.held ∙ ap (with_end l.start.link.held) (sym (nothing_sent j ds)) }) went.each;
+      (λ j l on. record { left = on.left ∙ ap (λ xs. with_front xs l.seen.read.left) (sym (nothing_taken j ds)); held = on.held ∙ ap (with_end l.start.link.held) (sym (nothing_sent j ds)); read_open = on.read_open; write_open = on.write_open }) went.each;
   others = λ j few. let (no_sent, no_taken) = went.others j few in (nothing_sent j ds ∙ no_sent, nothing_taken j ds ∙ no_taken);
   moments = subst (Gave given given2) (sym (flat_map-append moments_of ds (cut no_row ∷ []) ∙ append-nil (flat_map moments_of ds))) went.moments;
 }
@@ -77,9 +80,22 @@ every : (P : ℕ → Linked → Type 0) (n : ℕ) (ls : List Linked) → ((k : �
 every P n [] all = tt
 every P n (l ∷ ls) all = (all n l, every P (n + 1) ls all)
 
+-- what is left on the first link, if there is one
+abbrev rest_first : List Linked → Option (List ℕ)
+rest_first [] = None
+rest_first (l ∷ ls) = l.seen.read.left
+
+none_first : (n : ℕ) (rest : Option (List ℕ)) (ls : List Linked) → 0 < n → EachFrom (λ k l. IsTrue (nat_eq k 0) → l.seen.read.left ≡ rest) n ls
+none_first n rest [] later = tt
+none_first n rest (l ∷ ls) later = let other : nat_eq n 0 ≡ false = grind arith in ((λ e. absurd (true≢false (sym e ∙ other))), none_first (n + 1) rest ls (omega (arith, later)))
+
+rest_is_first : (links : List Linked) → EachFrom (λ k l. IsTrue (nat_eq k 0) → l.seen.read.left ≡ rest_first links) 0 links
+rest_is_first [] = tt
+rest_is_first (l ∷ ls) = ((λ e. refl), none_first (0 + 1) l.seen.read.left ls (omega arith))
+
 -- The command ended, and nothing was sent or taken for it.
 pub ends_here : {p : Protocol} {V : Type 0} (s s2 : Script p V) (links : List Linked) (given given2 : Option (List ℕ)) (result : Result V p.End)
-    (stands : Stands s links given given2 s2) → Ends s2 stands.deeds no_row result → ((seen : Seen) → Shows p result seen) → (IsOnLink p result → ⊥)
+    (stands : Stands s links given given2 s2) → ((rest : Option (List ℕ)) → Ends s2 stands.deeds no_row rest result) → ((seen : Seen) → Shows p result seen) → (IsOnLink p result → ⊥)
     → (IsSettled p result → (wholes : ℕ → List ℕ) → AreTold wholes links
     → plays s2 (coming_after stands.deeds wholes) [] [] ≡ record { said = said_last s2; end = Some result })
     → Talks s links given given2 result
@@ -87,40 +103,42 @@ ends_here {p = p} s s2 links given given2 result stands ended shows apart ending
   deeds = stands.deeds;
   last = s2;
   row = no_row;
+  rest = rest_first links;
   leads = stands.leads;
-  ended = ended;
+  ended = ended (rest_first links);
+  rest_is = rest_is_first links;
   went = went_nothing stands.deeds links given given2 stands.went;
   shows = every (λ k l. IsTrue (nat_eq k 0) → Shows p result l.seen) 0 links (λ k l holds. shows l.seen);
   known = λ e. absurd (apart e);
   exact = exact_at s links links given given2 s2 result stands refl (λ wholes telling. telling) ending;
 }
 
-ends_by_memory : {p : Protocol} {V : Type 0} (s : Script p V) (ds : List (Deed p)) (row : Row) (end : p.End) → p.cause end ≡ by_memory → IsNothing row → Ends s ds row (Err end)
-ends_by_memory (dials place next) ds row end lacks none = inl (lacks, none)
-ends_by_memory (asks k message next) ds row end lacks none = inl (lacks, none)
-ends_by_memory (tells k message next) ds row end lacks none = inl (lacks, none)
-ends_by_memory (reads_clock next) ds row end lacks none = inl (lacks, none)
-ends_by_memory (done value) ds row end lacks none = inl (lacks, none)
-ends_by_memory (halts end2) ds row end lacks none = inl (lacks, none)
+ends_by_memory : {p : Protocol} {V : Type 0} (s : Script p V) (ds : List (Deed p)) (row : Row) (rest : Option (List ℕ)) (end : p.End) → p.cause end ≡ by_memory → IsNothing row → Ends s ds row rest (Err end)
+ends_by_memory (dials place next) ds row rest end lacks none = inl (lacks, none)
+ends_by_memory (asks k message next) ds row rest end lacks none = inl (lacks, none)
+ends_by_memory (tells k message next) ds row rest end lacks none = inl (lacks, none)
+ends_by_memory (reads_clock next) ds row rest end lacks none = inl (lacks, none)
+ends_by_memory (done value) ds row rest end lacks none = inl (lacks, none)
+ends_by_memory (halts end2) ds row rest end lacks none = inl (lacks, none)
 
 -- There was no memory.
 pub memory_here : {p : Protocol} {V : Type 0} (s s2 : Script p V) (links : List Linked) (given given2 : Option (List ℕ)) (end : p.End)
     → Stands s links given given2 s2 → p.cause end ≡ by_memory → Talks s links given given2 (Err end)
 memory_here {p = p} s s2 links given given2 end stands lacks =
-    ends_here s s2 links given given2 (Err end) stands (ends_by_memory s2 stands.deeds no_row end lacks (refl, refl))
+    ends_here s s2 links given given2 (Err end) stands (λ rest. ends_by_memory s2 stands.deeds no_row rest end lacks (refl, refl))
     (λ seen. subst (λ c. ShowsBy c seen) (sym lacks) tt) (λ e. subst IsOnLinkBy lacks e) (λ settled. absurd (subst IsSettledBy lacks settled))
 
 -- The command is done.
 pub done_on : {p : Protocol} {V : Type 0} (s : Script p V) (links : List Linked) (given given2 : Option (List ℕ)) (value : V)
     → Stands s links given given2 (done value) → Talks s links given given2 (Ok value)
 done_on s links given given2 value stands =
-    ends_here s (done value) links given given2 (Ok value) stands (refl, (refl, refl)) (λ seen. tt) (λ e. e) (λ settled wholes telling. plays_done value value _ [] [] refl)
+    ends_here s (done value) links given given2 (Ok value) stands (λ rest. (refl, (refl, refl))) (λ seen. tt) (λ e. e) (λ settled wholes telling. plays_done value value _ [] [] refl)
 
 -- The script halts.
 pub halted_on : {p : Protocol} {V : Type 0} (s : Script p V) (links : List Linked) (given given2 : Option (List ℕ)) (end : p.End)
     → Stands s links given given2 (halts end) → (p.cause end ≡ by_table) → Talks s links given given2 (Err end)
 halted_on {p = p} s links given given2 end stands refused =
-    ends_here s (halts end) links given given2 (Err end) stands (inr (refl, (refl, refl)))
+    ends_here s (halts end) links given given2 (Err end) stands (λ rest. inr (refl, (refl, refl)))
     (λ seen. subst (λ c. ShowsBy c seen) (sym refused) tt) (λ e. subst IsOnLinkBy refused e) (λ settled wholes telling. plays_halted end end _ [] [] refl)
 
 -- ---- steps
@@ -132,7 +150,7 @@ asked_on {p = p} s k links given given2 before after message next (Ok answer) st
   leads = leads_more s [] stands.deeds (asked message answer (row_on k answers.sent answers.taken)) (asks k message next) (next answer) stands.leads
       (refl, refl, answers.is_message, subst (λ n. p.IsReply message n answers.taken answer) (placed_at stands.deeds k before links stands.positions here) answers.is_reply, refl);
   went = went_row stands.deeds (asked message answer (row_on k answers.sent answers.taken)) (row_on k answers.sent answers.taken) k links given given2 before after stands.went here
-      refl refl refl refl refl answers.moves.left answers.moves.held;
+      refl refl refl refl refl answers.moves;
   positions = placed_row stands.deeds (asked message answer (row_on k answers.sent answers.taken)) (row_on k answers.sent answers.taken) k links before after stands.positions here refl refl answers.position;
   plays_to = plays_more s stands.deeds (asked message answer (row_on k answers.sent answers.taken)) links (with_seen k after links) (asks k message next) (next answer) stands.plays_to
       (λ wholes telling. told_before wholes k after links telling)
@@ -143,7 +161,7 @@ asked_on {p = p} s k links given given2 before after message next (Ok answer) st
 }
 asked_on {p = p} s k links given given2 before after message next (Err end) stands here breaks =
     ends_in s (asks k message next) k links given given2 before after breaks.sent breaks.taken (Err end) stands here breaks.moves
-    (inr (refl, subst (λ n. p.Stops message n breaks.sent breaks.taken end) (placed_at stands.deeds k before links stands.positions here) breaks.stops)) breaks.shows
+    (inr (refl, subst (λ n. p.Stops message n breaks.sent breaks.taken after.read.left end) (placed_at stands.deeds k before links stands.positions here) breaks.stops)) breaks.shows
     (λ settled wholes telling. plays_stopped k message next end (coming_after stands.deeds wholes) [] []
     (ap (λ n. p.heard message n (coming_after stands.deeds wholes k).bytes) (sym (placed_at stands.deeds k before links stands.positions here))
     ∙ breaks.gives settled _ (found_at stands.deeds wholes k before links stands.went.each telling here)))
@@ -159,7 +177,7 @@ told_on {p = p} s k links given given2 before after message next (Ok u) stands h
   deeds = stands.deeds ++ told message (row_on k sends.sent []) ∷ [];
   leads = leads_more s [] stands.deeds (told message (row_on k sends.sent [])) (tells k message next) next stands.leads (refl, refl, sends.is_message, refl, refl);
   went = went_row stands.deeds (told message (row_on k sends.sent [])) (row_on k sends.sent []) k links given given2 before after stands.went here
-      refl refl refl refl refl sends.moves.left sends.moves.held;
+      refl refl refl refl refl sends.moves;
   positions = placed_row stands.deeds (told message (row_on k sends.sent [])) (row_on k sends.sent []) k links before after stands.positions here refl refl (sends.position ∙ omega arith);
   plays_to = plays_more s stands.deeds (told message (row_on k sends.sent [])) links (with_seen k after links) (tells k message next) next stands.plays_to
       (λ wholes telling. told_before wholes k after links telling)
@@ -168,7 +186,7 @@ told_on {p = p} s k links given given2 before after message next (Ok u) stands h
 }
 told_on {p = p} s k links given given2 before after message next (Err end) stands here fails =
     ends_in s (tells k message next) k links given given2 before after fails.sent [] (Err end) stands here fails.moves
-    (inr (refl, refl, fails.outside, subst (λ n. p.Stops message n fails.sent [] end) (placed_at stands.deeds k before links stands.positions here) fails.stops)) fails.shows
+    (inr (refl, refl, fails.outside, subst (λ n. p.Stops message n fails.sent [] after.read.left end) (placed_at stands.deeds k before links stands.positions here) fails.stops)) fails.shows
     (λ settled wholes telling. absurd (not_settled (p.cause end) fails.outside settled))
 
 pub clock_on : {p : Protocol} {V : Type 0} (s : Script p V) (links : List Linked) (given mid given2 : Option (List ℕ)) (t : ℕ) (next : ℕ → Script p V)
@@ -183,12 +201,12 @@ clock_on s links given mid given2 t next stands gave = record {
 }
 
 pub dialed_on : {p : Protocol} {V : Type 0} (s : Script p V) (links : List Linked) (given given2 : Option (List ℕ)) (start : Dialed) (seen : Seen) (next : List ℕ → Script p V)
-    → Stands s links given given2 (dials (place_of (linked start seen)) next) → seen.read.left ≡ start.link.left → seen.write.held ≡ start.link.held → seen.position ≡ 0
+    → Stands s links given given2 (dials (place_of (linked start seen)) next) → seen.read.left ≡ start.link.left → seen.write.held ≡ start.link.held → seen.position ≡ 0 → seen.read.shut ≡ None → seen.write.shut ≡ None
     → Stands s (links ++ linked start seen ∷ []) given given2 (next start.link.host)
-dialed_on s links given given2 start seen next stands left held first = record {
+dialed_on s links given given2 start seen next stands left held first read_open write_open = record {
   deeds = stands.deeds ++ dial_deed start seen ∷ [];
   leads = leads_more s [] stands.deeds (dial_deed start seen) (dials (place_of (linked start seen)) next) (next start.link.host) stands.leads (refl, refl);
-  went = went_dial stands.deeds start seen links given given2 stands.went left held;
+  went = went_dial stands.deeds start seen links given given2 stands.went left held read_open write_open;
   positions = each_end (λ k l. l.seen.position ≡ length (taken_on k (stands.deeds ++ dial_deed start seen ∷ []))) 0 links (linked start seen)
       (placed_none stands.deeds (dial_deed start seen) links refl stands.positions)
       (first ∙ ap length (sym ((still_idle stands.deeds (dial_deed start seen) refl (0 + length links) (stands.went.others (0 + length links) (omega arith))).1)));
@@ -202,7 +220,7 @@ dialed_on s links given given2 start seen next stands left held first = record {
 pub undialed_on : {p : Protocol} {V : Type 0} (s : Script p V) (links : List Linked) (given given2 : Option (List ℕ)) (place : Place) (next : List ℕ → Script p V) (end : p.End)
     → Stands s links given given2 (dials place next) → p.cause end ≡ by_dial → Talks s links given given2 (Err end)
 undialed_on {p = p} s links given given2 place next end stands fault =
-    ends_here s (dials place next) links given given2 (Err end) stands (inr (fault, (refl, refl)))
+    ends_here s (dials place next) links given given2 (Err end) stands (λ rest. inr (fault, (refl, refl)))
     (λ seen. subst (λ c. ShowsBy c seen) (sym fault) tt) (λ e. subst IsOnLinkBy fault e) (λ settled. absurd (subst IsSettledBy fault settled))
 
 -- A command begins.

@@ -1,5 +1,5 @@
 -- What a step leaves of a talk.
-use Rattle.std.proofs.Common.{arith, ◌≡◌, ℕ, suc, ◌+◌, ◌<◌, ◌≤◌, List, [], ◌∷◌, ◌++◌, length, map, Option, Bool, true, false, true≢false, nat_eq, IsTrue, if◌then◌else◌, refl, ap, sym, subst, ◌∙◌, append-nil, append_assoc, length-append, inl, inr}
+use Rattle.std.proofs.Common.{arith, ◌≡◌, ℕ, suc, ◌+◌, ◌<◌, ◌≤◌, List, [], ◌∷◌, ◌++◌, length, map, Option, None, Bool, true, false, true≢false, nat_eq, IsTrue, if◌then◌else◌, refl, ap, sym, subst, ◌∙◌, append-nil, append_assoc, length-append, inl, inr}
 use Rattle.std.specs.List.{flat_map}
 use Rattle.std.proofs.lemmas.Grind.{flat_map-append}
 use Rattle.std.proofs.lemmas.List.{map-append}
@@ -8,7 +8,7 @@ use Rattle.wire_io.specs.Wire.{with_front, with_end, with_front-with_front, with
 use Rattle.wire_io.specs.Links.{Dialed}
 use Rattle.client_talk.specs.Scripts.{Protocol, Script}
 use Rattle.client_talk.specs.Talk.{Row, Deed, dialed, read_clock, IsNext, LeadsFrom, Seen, Linked, linked, place_of, host_of, rows_of, moments_of, places_of, hosts_of, sent_by, taken_by, sent_on, taken_on, WentOn, EachFrom, Went}
-use Rattle.client_talk.specs.Steps.{with_seen_from, with_seen, IsAt}
+use Rattle.client_talk.specs.Steps.{Moves, with_seen_from, with_seen, IsAt}
 
 -- ---- deeds
 
@@ -142,14 +142,26 @@ held_if true was l before after sent went same held =
     held ∙ ap (λ (x : Seen). with_end x.write.held sent) (sym (same refl)) ∙ ap (λ told. with_end told sent) went ∙ with_end-with_end l.start.link.held was sent
 held_if false was l before after sent went same held = went ∙ ap (with_end l.start.link.held) (sym (append-nil was))
 
+read_open_if : (b : Bool) (l : Linked) (before after : Seen) → l.seen.read.shut ≡ None → (IsTrue b → l.seen ≡ before) → after.read.shut ≡ before.read.shut
+    → (if b then linked l.start after else l).seen.read.shut ≡ None
+read_open_if true l before after on same still = still ∙ ap (λ (x : Seen). x.read.shut) (sym (same refl)) ∙ on
+read_open_if false l before after on same still = on
+
+write_open_if : (b : Bool) (l : Linked) (before after : Seen) → l.seen.write.shut ≡ None → (IsTrue b → l.seen ≡ before) → after.write.shut ≡ before.write.shut
+    → (if b then linked l.start after else l).seen.write.shut ≡ None
+write_open_if true l before after on same still = still ∙ ap (λ (x : Seen). x.write.shut) (sym (same refl)) ∙ on
+write_open_if false l before after on same still = on
+
 -- A deed with this row on one link.
 went_on : {p : Protocol} (ds : List (Deed p)) (d : Deed p) (row : Row) (k : ℕ) (before after : Seen) → flat_map rows_of (d ∷ []) ≡ row ∷ [] → row.link ≡ k
-    → before.read.left ≡ with_front row.taken after.read.left → after.write.held ≡ with_end before.write.held row.sent
+    → Moves before after row.sent row.taken
     → (j : ℕ) (l : Linked) → WentOn ds j l → (IsTrue (nat_eq j k) → l.seen ≡ before) → WentOn (ds ++ d ∷ []) j (if nat_eq j k then linked l.start after else l)
-went_on ds d row k before after one at left held j l went same = record {
-  left = left_if (nat_eq j k) (taken_on j ds) l before after row.taken went.left same left
+went_on ds d row k before after one at moves j l went same = record {
+  read_open = read_open_if (nat_eq j k) l before after went.read_open same moves.read_shut;
+  write_open = write_open_if (nat_eq j k) l before after went.write_open same moves.write_shut;
+  left = left_if (nat_eq j k) (taken_on j ds) l before after row.taken went.left same moves.left
       ∙ ap (λ xs. with_front xs (if nat_eq j k then linked l.start after else l).seen.read.left) (sym (taken_row j k ds d row one at));
-  held = held_if (nat_eq j k) (sent_on j ds) l before after row.sent went.held same held
+  held = held_if (nat_eq j k) (sent_on j ds) l before after row.sent went.held same moves.held
       ∙ ap (with_end (if nat_eq j k then linked l.start after else l).start.link.held) (sym (sent_row j k ds d row one at));
 }
 
@@ -159,14 +171,14 @@ not_there j k xs ys less none = let e : nat_eq j k ≡ false = grind arith in rw
 pub went_row : {p : Protocol} (ds : List (Deed p)) (d : Deed p) (row : Row) (k : ℕ) (links : List Linked) (given given2 : Option (List ℕ)) (before after : Seen)
     → Went ds links given given2 → IsAt k links before
     → flat_map rows_of (d ∷ []) ≡ row ∷ [] → flat_map moments_of (d ∷ []) ≡ [] → flat_map places_of (d ∷ []) ≡ [] → flat_map hosts_of (d ∷ []) ≡ [] → row.link ≡ k
-    → before.read.left ≡ with_front row.taken after.read.left → after.write.held ≡ with_end before.write.held row.sent
+    → Moves before after row.sent row.taken
     → Went (ds ++ d ∷ []) (with_seen k after links) given given2
-went_row ds d row k links given given2 before after went here one no_moment no_place no_host at left held = record {
+went_row ds d row k links given given2 before after went here one no_moment no_place no_host at moves = record {
   places = flat_map-append places_of ds (d ∷ []) ∙ ap (λ xs. flat_map places_of ds ++ xs) no_place ∙ append-nil (flat_map places_of ds) ∙ went.places
       ∙ sym (places_seen 0 k after links);
   hosts = flat_map-append hosts_of ds (d ∷ []) ∙ ap (λ xs. flat_map hosts_of ds ++ xs) no_host ∙ append-nil (flat_map hosts_of ds) ∙ went.hosts
       ∙ sym (hosts_seen 0 k after links);
-  each = each_seen (WentOn ds) (WentOn (ds ++ d ∷ [])) k before after 0 links (went_on ds d row k before after one at left held) went.each here.same;
+  each = each_seen (WentOn ds) (WentOn (ds ++ d ∷ [])) k before after 0 links (went_on ds d row k before after one at moves) went.each here.same;
   others = λ j few.
       let less : length links ≤ j = subst (λ n. n ≤ j) (length_seen 0 k after links) few in
       let (no_sent, no_taken) = went.others j less in (
@@ -189,6 +201,8 @@ still_on : {p : Protocol} (ds : List (Deed p)) (d : Deed p) → flat_map rows_of
 still_on ds d none j l went = record {
   left = went.left ∙ ap (λ xs. with_front xs l.seen.read.left) (sym (taken_none j ds d none));
   held = went.held ∙ ap (with_end l.start.link.held) (sym (sent_none j ds d none));
+  read_open = went.read_open;
+  write_open = went.write_open;
 }
 
 pub still_idle : {p : Protocol} (ds : List (Deed p)) (d : Deed p) → flat_map rows_of (d ∷ []) ≡ [] → (j : ℕ) → (sent_on j ds ≡ []) × (taken_on j ds ≡ [])
@@ -211,9 +225,9 @@ dial_deed start seen = dialed (place_of (linked start seen)) start.link.host
 
 -- A link was dialled.
 pub went_dial : {p : Protocol} (ds : List (Deed p)) (start : Dialed) (seen : Seen) (links : List Linked) (given given2 : Option (List ℕ))
-    → Went ds links given given2 → seen.read.left ≡ start.link.left → seen.write.held ≡ start.link.held
+    → Went ds links given given2 → seen.read.left ≡ start.link.left → seen.write.held ≡ start.link.held → seen.read.shut ≡ None → seen.write.shut ≡ None
     → Went (ds ++ dial_deed start seen ∷ []) (links ++ linked start seen ∷ []) given given2
-went_dial ds start seen links given given2 went left held = record {
+went_dial ds start seen links given given2 went left held read_open write_open = record {
   places = flat_map-append places_of ds (dial_deed start seen ∷ []) ∙ ap (λ xs. xs ++ place_of (linked start seen) ∷ []) went.places
       ∙ sym (map-append place_of links (linked start seen ∷ []));
   hosts = flat_map-append hosts_of ds (dial_deed start seen ∷ []) ∙ ap (λ xs. xs ++ start.link.host ∷ []) went.hosts
@@ -231,6 +245,8 @@ went_dial ds start seen links given given2 went left held = record {
         record {
           left = sym left ∙ sym (with_front-nothing seen.read.left) ∙ ap (λ xs. with_front xs seen.read.left) (sym no_taken);
           held = held ∙ sym (with_end-nothing start.link.held) ∙ ap (with_end start.link.held) (sym no_sent);
+          read_open = read_open;
+          write_open = write_open;
         }
 
 -- ---- positions

@@ -1,5 +1,5 @@
 -- What each command of a client asks for, as a script.
-use Rattle.std.specs.Prelude.{ℕ, List, if◌then◌else◌}
+use Rattle.std.specs.Prelude.{ℕ, Bool, List, if◌then◌else◌}
 use Rattle.java_shapes.specs.declared.ref_views.LiveRef.{LiveRef}
 use Rattle.client_talk.specs.declared.place.Place.{Place}
 use Rattle.client_talk.specs.Scripts.{Script, dials, asks, tells, done, halts}
@@ -24,9 +24,13 @@ if_found next _ = halts out_of_turn
 abbrev pub finds : {V : Type 0} → ℕ → List ℕ → (List ℕ → LiveRef → Script rmi V) → Script rmi V
 finds k name next = asks k (Look_up name) (if_found next)
 
+-- A Return is acknowledged where a reference in it has its flag set.
+abbrev pub acks_if : {V : Type 0} → ℕ → List ℕ → Bool → Script rmi V → Script rmi V
+acks_if k uid flagged next = if flagged then tells k (Acknowledge uid) next else next
+
 -- A reference that was found is acknowledged where its flag is set.
 abbrev pub acks : {V : Type 0} → ℕ → List ℕ → LiveRef → Script rmi V → Script rmi V
-acks k uid reference next = if reference.result then tells k (Acknowledge uid) next else next
+acks k uid reference next = acks_if k uid reference.result next
 
 -- ---- commands
 

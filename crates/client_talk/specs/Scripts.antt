@@ -36,8 +36,8 @@ pub record Protocol : Type 1 where
   pub IsMessage : Message → List ℕ → Type 0
   -- These bytes, from this position on, are a reply to the message, with this answer.
   pub IsReply : Message → ℕ → List ℕ → Answer → Type 0
-  -- This was sent of the message, this was taken for it, from this position on, and it came to this end.
-  pub Stops : Message → ℕ → List ℕ → List ℕ → End → Type 0
+  -- This was sent of the message, this was taken for it, from this position on, this is left behind that, where it is told, and it came to this end.
+  pub Stops : Message → ℕ → List ℕ → List ℕ → Option (List ℕ) → End → Type 0
   -- what the bytes to come, from this position on, answer to the message
   pub heard : Message → ℕ → List ℕ → Heard Answer End
 

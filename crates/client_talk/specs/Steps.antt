@@ -1,5 +1,5 @@
 -- How far a command has come, what one step makes of it, and what a whole command leaves.
-use Rattle.std.specs.Prelude.{◌≡◌, ◌⊎◌, ℕ, ◌+◌, ◌<◌, List, [], ◌∷◌, ◌++◌, length, drop, map, true, Option, Some, Result, Ok, Err, nat_eq, if◌then◌else◌, IsTrue, is_some}
+use Rattle.std.specs.Prelude.{◌≡◌, ◌⊎◌, ℕ, ◌+◌, ◌<◌, List, [], ◌∷◌, ◌++◌, length, drop, map, Option, Some, Result, Ok, Err, nat_eq, if◌then◌else◌, IsTrue}
 use Rattle.std.specs.List.{flat_map}
 use Rattle.wire_io.specs.Wire.{ReadHalf, WriteHalf, with_front, with_end}
 use Rattle.wire_io.specs.Links.{Dialed, with_next}
@@ -50,6 +50,8 @@ pub record IsAt (k : ℕ) (links : List Linked) (seen : Seen) : Type 0 where
 pub record Moves (before after : Seen) (sent taken : List ℕ) : Type 0 where
   pub left : before.read.left ≡ with_front taken after.read.left
   pub held : after.write.held ≡ with_end before.write.held sent
+  pub read_shut : after.read.shut ≡ before.read.shut
+  pub write_shut : after.write.shut ≡ before.write.shut
 
 -- A message was sent and its reply read, which is what the bytes to come answer, where they are told.
 pub record Answers (p : Protocol) (before after : Seen) (message : p.Message) (answer : p.Answer) : Type 0 where
@@ -66,7 +68,7 @@ pub record Breaks (p : Protocol) (before after : Seen) (message : p.Message) (en
   pub sent : List ℕ
   pub taken : List ℕ
   pub moves : Moves before after sent taken
-  pub stops : p.Stops message before.position sent taken end
+  pub stops : p.Stops message before.position sent taken after.read.left end
   pub shows : ShowsBy (p.cause end) after
   pub gives : IsSettledBy (p.cause end) → (bytes : List ℕ) → before.read.left ≡ Some bytes → p.heard message before.position bytes ≡ stopped end
 
@@ -87,7 +89,7 @@ pub record Fails (p : Protocol) (before after : Seen) (message : p.Message) (end
   pub sent : List ℕ
   pub moves : Moves before after sent []
   pub outside : IsBySending (p.cause end)
-  pub stops : p.Stops message before.position sent [] end
+  pub stops : p.Stops message before.position sent [] after.read.left end
   pub shows : ShowsBy (p.cause end) after
 
 -- A message was sent that has no reply, or that came to an end.
@@ -112,14 +114,14 @@ pub record Ended : Type 0 where
   pub read : ReadHalf
   pub write : WriteHalf
 
--- These halves of a link are left as they were, and shut.
+-- These halves of a link are left as they were. Each was shut for the first time then: nothing was taken or sent afterwards.
 pub record IsLeft (read : ReadHalf) (write : WriteHalf) (e : Ended) : Type 0 where
   pub left : e.read.left ≡ read.left
   pub misread : e.read.faults ≡ read.faults
   pub held : e.write.held ≡ write.held
   pub miswritten : e.write.faults ≡ write.faults
-  pub read_shut : is_some e.read.shut ≡ true
-  pub write_shut : is_some e.write.shut ≡ true
+  pub read_shut : e.read.shut ≡ Some read.left
+  pub write_shut : e.write.shut ≡ Some write.held
 
 -- The halves of these links are left so, in order of dialling.
 abbrev pub AreLeft : List Linked → List Ended → Type 0
@@ -132,7 +134,7 @@ abbrev pub AnyOf : (Ended → Type 0) → List Ended → Type 0
 AnyOf P [] = ⊥
 AnyOf P (x ∷ xs) = P x ⊎ AnyOf P xs
 
--- A fault of reading or writing comes only where the source or the sink of one of the links failed, whose counts were 0 when it was dialled.
+-- A fault of reading or writing comes only where the source or the sink of one of the links has failed. (A dialer gives links whose counts are 0.)
 abbrev pub BlamesBy : Cause → List Ended → Type 0
 BlamesBy by_read left = AnyOf (λ e. 0 < e.read.faults) left
 BlamesBy by_write left = AnyOf (λ e. 0 < e.write.faults) left

@@ -1,5 +1,5 @@
 -- A talk: what a script led to, as deeds, and how it ended.
-use Rattle.std.specs.Prelude.{◌≡◌, ◌⊎◌, ℕ, ◌+◌, ◌<◌, ◌≤◌, List, [], ◌∷◌, ◌++◌, length, map, Option, Some, Result, Ok, Err, nat_eq, if◌then◌else◌, IsTrue}
+use Rattle.std.specs.Prelude.{◌≡◌, ◌⊎◌, ℕ, ◌+◌, ◌<◌, ◌≤◌, List, [], ◌∷◌, ◌++◌, length, map, Option, Some, None, Result, Ok, Err, nat_eq, if◌then◌else◌, IsTrue}
 use Rattle.std.specs.List.{flat_map}
 use Rattle.wire_io.specs.Wire.{ReadHalf, WriteHalf, with_front, with_end, NothingLeft, Gave}
 use Rattle.wire_io.specs.Links.{Dialed}
@@ -100,20 +100,20 @@ IsBySending by_memory = Unit {0}
 IsBySending by_write = Unit {0}
 IsBySending _ = ⊥
 
--- Where each end stands, by what the script asks for there and the row that was cut.
-abbrev pub EndsAt : {p : Protocol} {V : Type 0} → Script p V → List (Deed p) → Row → p.End → Type 0
-EndsAt {p = p} (dials place next) ds row end = (p.cause end ≡ by_dial) × IsNothing row
-EndsAt {p = p} (asks k message next) ds row end = (row.link ≡ k) × p.Stops message (length (taken_on k ds)) row.sent row.taken end
-EndsAt {p = p} (tells k message next) ds row end =
-    (row.link ≡ k) × (row.taken ≡ []) × IsBySending (p.cause end) × p.Stops message (length (taken_on k ds)) row.sent [] end
-EndsAt (halts end2) ds row end = (end ≡ end2) × IsNothing row
-EndsAt _ ds row end = ⊥
+-- Where each end stands, by what the script asks for there, the row that was cut, and what is left on its link, where that is told.
+abbrev pub EndsAt : {p : Protocol} {V : Type 0} → Script p V → List (Deed p) → Row → Option (List ℕ) → p.End → Type 0
+EndsAt {p = p} (dials place next) ds row rest end = (p.cause end ≡ by_dial) × IsNothing row
+EndsAt {p = p} (asks k message next) ds row rest end = (row.link ≡ k) × p.Stops message (length (taken_on k ds)) row.sent row.taken rest end
+EndsAt {p = p} (tells k message next) ds row rest end =
+    (row.link ≡ k) × (row.taken ≡ []) × IsBySending (p.cause end) × p.Stops message (length (taken_on k ds)) row.sent [] rest end
+EndsAt (halts end2) ds row rest end = (end ≡ end2) × IsNothing row
+EndsAt _ ds row rest end = ⊥
 
 -- The script ended here, after these deeds. Want of memory may come anywhere.
-abbrev pub Ends : {p : Protocol} {V : Type 0} → Script p V → List (Deed p) → Row → Result V p.End → Type 0
-Ends (done value) ds row (Ok value2) = (value2 ≡ value) × IsNothing row
-Ends _ ds row (Ok _) = ⊥
-Ends {p = p} s ds row (Err end) = ((p.cause end ≡ by_memory) × IsNothing row) ⊎ EndsAt s ds row end
+abbrev pub Ends : {p : Protocol} {V : Type 0} → Script p V → List (Deed p) → Row → Option (List ℕ) → Result V p.End → Type 0
+Ends (done value) ds row rest (Ok value2) = (value2 ≡ value) × IsNothing row
+Ends _ ds row rest (Ok _) = ⊥
+Ends {p = p} s ds row rest (Err end) = ((p.cause end ≡ by_memory) × IsNothing row) ⊎ EndsAt s ds row rest end
 
 -- ---- what is seen of the links
 
@@ -138,10 +138,12 @@ place_of l = record { host = l.start.asked_host; port = l.start.asked_port }
 abbrev pub host_of : Linked → List ℕ
 host_of l = l.start.link.host
 
--- These deeds led a link from what it was when it was dialled to what it is.
+-- These deeds led a link from what it was when it was dialled to what it is. Neither half was shut.
 pub record WentOn {p : Protocol} (ds : List (Deed p)) (k : ℕ) (l : Linked) : Type 0 where
   pub left : l.start.link.left ≡ with_front (taken_on k ds) l.seen.read.left
   pub held : l.seen.write.held ≡ with_end l.start.link.held (sent_on k ds)
+  pub read_open : l.seen.read.shut ≡ None
+  pub write_open : l.seen.write.shut ≡ None
 
 -- of each link, by its number, the first being n
 abbrev pub EachFrom : (ℕ → Linked → Type 0) → ℕ → List Linked → Type 0
@@ -210,8 +212,10 @@ pub record Talks {p : Protocol} {V : Type 0} (s : Script p V) (links : List Link
   pub deeds : List (Deed p)
   pub last : Script p V
   pub row : Row
+  pub rest : Option (List ℕ)
   pub leads : Leads s deeds last
-  pub ended : Ends last deeds row result
+  pub ended : Ends last deeds row rest result
+  pub rest_is : EachFrom (λ k l. IsTrue (nat_eq k row.link) → l.seen.read.left ≡ rest) 0 links
   pub went : Went (deeds ++ cut row ∷ []) links given given2
   pub shows : EachFrom (λ k l. IsTrue (nat_eq k row.link) → Shows p result l.seen) 0 links
   pub known : IsOnLink p result → row.link < length links

@@ -98,7 +98,7 @@ fn bind_acknowledged<I: Source, O: Sink>(
         given given2 result }
     ensures apart { result ≢ Err CommandEnds.DialFault }
 {
-    match acknowledge(session, uid, reference) {
+    match acknowledge(session, uid, reference.result) {
         Ok(()) => bind_to(session, name, reference),
         Err(end) => Err(CommandEnd::Session(end)),
     }
@@ -188,7 +188,7 @@ pub fn bind<D: Dialer>(
     if !has_room(talked, 1) {
         return Err(CommandEnd::Session(ClientEnd::OutOfMemory));
     }
-    match dial(dialer, place) {
+    match dial(dialer, &place.host, &place.port) {
         Ok(link) => bind_over(alloc, talked, link, binding),
         Err(end) => Err(end),
     }

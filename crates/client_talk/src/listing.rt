@@ -93,7 +93,7 @@ pub fn list<D: Dialer>(
     if !has_room(talked, 1) {
         return Err(CommandEnd::Session(ClientEnd::OutOfMemory));
     }
-    match dial(dialer, place) {
+    match dial(dialer, &place.host, &place.port) {
         Ok(link) => list_over(alloc, talked, link),
         Err(end) => Err(end),
     }

@@ -58,7 +58,7 @@ fn keep<I: Source, O: Sink>(
     ensures apart { result ≢ Err CommandEnds.DialFault }
 {
     let (uid, reference) = found;
-    match acknowledge(session, uid, &reference) {
+    match acknowledge(session, uid, reference.result) {
         Ok(()) => Ok(reference),
         Err(end) => Err(CommandEnd::Session(end)),
     }
@@ -125,7 +125,7 @@ pub fn look_up<D: Dialer>(
     if !has_room(talked, 1) {
         return Err(CommandEnd::Session(ClientEnd::OutOfMemory));
     }
-    match dial(dialer, place) {
+    match dial(dialer, &place.host, &place.port) {
         Ok(link) => look_up_over(alloc, talked, link, name),
         Err(end) => Err(end),
     }

@@ -1,14 +1,15 @@
 //! Links that a command dials and leaves behind.
 ghost use Rattle.std.specs.Prelude.{◌≡◌, ◌≤◌, ◌<◌, ◌+◌, ℕ, [], ◌∷◌, ◌++◌, map, IfOk, IfErr, Ok, Err, true, false, vec_len, vec_capacity, MatchBool};
 ghost use Rattle.wire_io.specs.Links.{Dials, accepted_as};
+ghost use Rattle.wire_io.specs.Wire.{AreNewHalves};
 ghost use Rattle.rmi_client.specs.Sessions.{Begins, link_at, link_of};
 ghost use Rattle.client_talk.specs.Steps.{IsLeft};
 ghost use Rattle.client_talk.specs.Sessions.{ended_as, Leaves};
 ghost use Rattle.client_talk.specs.declared.end.CommandEnd.TheVariants as CommandEnds;
 
 use crate::end::CommandEnd;
-use crate::place::Place;
 use rmi_client::{Refusal, Session};
+use sequence::Units;
 use std::alloc::Global;
 use wire_io::{Dialer, Halves, Link, Sink, Source};
 
@@ -24,16 +25,19 @@ pub(crate) fn has_room<X>(items: &mut Vec<X>, more: usize) -> bool
     }
 }
 
-/// Dials a place.
+/// Dials a port of a host.
 pub(crate) fn dial<D: Dialer>(
     dialer: &mut D,
-    place: &Place,
+    host: &Units,
+    port: &i32,
 ) -> Result<Link<D::In, D::Out, D::Ticks>, CommandEnd>
     ensures dials { Dials (accepted_as D.In.half D.Out.half D.Ticks.given)
-        (D.dialing dialer.old) (D.dialing dialer.new) place.now.host place.now.port result }
+        (D.dialing dialer.old) (D.dialing dialer.new) host.now port.now result }
+    ensures halves { IfOk result
+        (λ link. AreNewHalves (D.In.half link.source) (D.Out.half link.sink)) }
     ensures end { IfErr result (λ end. end ≡ CommandEnds.DialFault) }
 {
-    match dialer.dial(&place.host, place.port) {
+    match dialer.dial(host, *port) {
         Ok(link) => Ok(link),
         Err(_) => Err(CommandEnd::DialFault),
     }

@@ -96,7 +96,7 @@ pub fn unbind<D: Dialer>(
     if !has_room(talked, 1) {
         return Err(CommandEnd::Session(ClientEnd::OutOfMemory));
     }
-    match dial(dialer, place) {
+    match dial(dialer, &place.host, &place.port) {
         Ok(link) => unbind_over(alloc, talked, link, name),
         Err(end) => Err(end),
     }

@@ -20,7 +20,7 @@ use Rattle.conn_server.specs.Rows.{EachAt}
 use Rattle.conn_server.specs.Serves.{IsLinkTask}
 use Rattle.conn_server.specs.Starts.{IsUnder, task_of, open_in}
 use Rattle.conn_server.specs.Views.{Grows, IsTicking}
-use Rattle.conn_server.specs.declared.admission.Accepting.{Accepting}
+use Rattle.conn_server.specs.declared.admission.Acceptor.{Acceptor}
 use Rattle.conn_server.specs.declared.link_task.AdmittedLink.{AdmittedLink}
 use Rattle.conn_server.specs.declared.link_task.LinkTask.{LinkTask}
 use Rattle.conn_server.specs.declared.link_task.LinkReport.{LinkReport}
@@ -60,7 +60,7 @@ ticking_grown lock a b ticks was is g t =
 
 module _ {I O T H : Type 0} (Talked : AdmittedLink I O T H → LinkReport I O T H → Type 0) (Made : ℕ → AdmittedLink I O T H → Type 0) (shown : H → WorkerState) (lock : TurnLock) (kinds : List Kind) where
   -- At first there is no link.
-  pub first_accepting : (a : Accepting I O T H) → IsFresh lock a.root → a.started.items ≡ [] → a.reports.items ≡ [] → a.ticks.items ≡ [] → IsAccepting Talked Made shown lock kinds a
+  pub first_accepting : (a : Acceptor I O T H) → IsFresh lock a.root → a.started.items ≡ [] → a.reports.items ≡ [] → a.ticks.items ≡ [] → IsAccepting Talked Made shown lock kinds a
   first_accepting a fresh no_link no_report no_tick =
       let zero : vec_len a.started ≡ 0 = a.started.ok.0 ∙ ap length no_link in
       record {
@@ -73,7 +73,7 @@ module _ {I O T H : Type 0} (Talked : AdmittedLink I O T H → LinkReport I O T 
         links = subst (λ (l : List (StartedLink I O T H)). EachAt (IsBegun Talked Made shown lock kinds (view_of a.root.pass)) 1 l) (sym no_link) tt;
       }
 
-  pub same_accepting : (a b : Accepting I O T H) → IsSame a b → IsAccepting Talked Made shown lock kinds a → IsAccepting Talked Made shown lock kinds b
+  pub same_accepting : (a b : Acceptor I O T H) → IsSame a b → IsAccepting Talked Made shown lock kinds a → IsAccepting Talked Made shown lock kinds b
   same_accepting a b same is =
       let n = same.count in let room = is.room in let more = same.room in
       record {
@@ -86,7 +86,7 @@ module _ {I O T H : Type 0} (Talked : AdmittedLink I O T H → LinkReport I O T 
         links = subst (λ (x : Root × List (StartedLink I O T H)). EachAt (IsBegun Talked Made shown lock kinds (view_of x.0.pass)) 1 x.1) (λ i. (sym same.root i, sym same.started i)) is.links;
       }
 
-  pub tick_accepting : (a b : Accepting I O T H) (more : List Asked) → IsAccepting Talked Made shown lock kinds a → IsRootOf lock b.root → b.root.made ≡ a.root.made → b.root.out ≡ a.root.out
+  pub tick_accepting : (a b : Acceptor I O T H) (more : List Asked) → IsAccepting Talked Made shown lock kinds a → IsRootOf lock b.root → b.root.made ≡ a.root.made → b.root.out ≡ a.root.out
       → Gained (view_of a.root.pass) (view_of b.root.pass) more → b.ticks.items ≡ a.ticks.items ++ more → b.started ≡ a.started → b.reports ≡ a.reports → IsAccepting Talked Made shown lock kinds b
   tick_accepting a b more is own made out went ticks started reports =
       let n = is.room in let n2 = ap vec_len started in let cap = ap vec_capacity reports in
@@ -101,7 +101,7 @@ module _ {I O T H : Type 0} (Talked : AdmittedLink I O T H → LinkReport I O T 
             (each_later Talked Made shown lock kinds (view_of a.root.pass) (view_of b.root.pass) (learns_gained (view_of a.root.pass) (view_of b.root.pass) more went) 1 a.started.items is.links);
       }
 
-  pub link_accepting : (a b : Accepting I O T H) (task : LinkTask I O T H) (x : StartedLink I O T H) → IsAccepting Talked Made shown lock kinds a → IsRootOf lock b.root
+  pub link_accepting : (a b : Acceptor I O T H) (task : LinkTask I O T H) (x : StartedLink I O T H) → IsAccepting Talked Made shown lock kinds a → IsRootOf lock b.root
       → view_of task.pass ≡ right_of (view_of a.root.pass) → view_of b.root.pass ≡ left_of (view_of a.root.pass) → b.root.out ≡ a.root.out + 1 → b.root.made ≡ a.root.made + 1
       → task.by ≡ vec_len a.started + 1 → IsLinkTask shown lock task → Made (vec_len a.started + 1) task.admitted
       → IsTakenBelow (length (view_of a.root.pass).seen) task.admitted.tick.value.end → task_of x ≡ task → ((v : View) → IsUnder Talked lock kinds v (task_of x) x.link_state) → open_in x.link_state ≡ 1
@@ -139,7 +139,7 @@ module _ {I O T H : Type 0} (Talked : AdmittedLink I O T H → LinkReport I O T 
       }
 
   -- The root took passes of links back that stay in their places.
-  pub joined_accepting : (a b : Accepting I O T H) → IsAccepting Talked Made shown lock kinds a → IsRootOf lock b.root → b.root.out + open_all a.started.items ≡ a.root.out + open_all b.started.items → b.root.made ≡ a.root.made
+  pub joined_accepting : (a b : Acceptor I O T H) → IsAccepting Talked Made shown lock kinds a → IsRootOf lock b.root → b.root.out + open_all a.started.items ≡ a.root.out + open_all b.started.items → b.root.made ≡ a.root.made
       → Grows (view_of a.root.pass) (view_of b.root.pass) → EachAt (IsBegun Talked Made shown lock kinds (view_of b.root.pass)) 1 b.started.items → vec_len b.started ≡ vec_len a.started → b.ticks ≡ a.ticks → b.reports ≡ a.reports
       → IsAccepting Talked Made shown lock kinds b
   joined_accepting a b is own out made grows links count ticks reports =

@@ -13,7 +13,7 @@ use Rattle.conn_server.specs.Rows.{EachAt}
 use Rattle.conn_server.specs.Serves.{IsAdmittedLink, IsLinkTask}
 use Rattle.conn_server.specs.Starts.{IsUnder, task_of, open_in}
 use Rattle.conn_server.specs.Views.{IsTicking}
-use Rattle.conn_server.specs.declared.admission.Accepting.{Accepting}
+use Rattle.conn_server.specs.declared.admission.Acceptor.{Acceptor}
 use Rattle.conn_server.specs.declared.link_task.AdmittedLink.{AdmittedLink}
 use Rattle.conn_server.specs.declared.link_task.LinkTask.{LinkTask}
 use Rattle.conn_server.specs.declared.link_task.LinkReport.{LinkReport}
@@ -57,7 +57,7 @@ abbrev pub open_all : {I O T H : Type 0} → List (StartedLink I O T H) → ℕ
 open_all all = sum_by (λ s. open_in s.link_state) all
 
 -- Every link was begun with its pass and has its place in the report, and the root made these turns of its own.
-pub record IsAccepting {I O T H : Type 0} (Talked : AdmittedLink I O T H → LinkReport I O T H → Type 0) (Made : ℕ → AdmittedLink I O T H → Type 0) (shown : H → WorkerState) (lock : TurnLock) (kinds : List Kind) (a : Accepting I O T H) : Type 0 where
+pub record IsAccepting {I O T H : Type 0} (Talked : AdmittedLink I O T H → LinkReport I O T H → Type 0) (Made : ℕ → AdmittedLink I O T H → Type 0) (shown : H → WorkerState) (lock : TurnLock) (kinds : List Kind) (a : Acceptor I O T H) : Type 0 where
   pub own : IsRootOf lock a.root
   pub out : a.root.out ≡ open_all a.started.items
   pub made : a.root.made ≡ vec_len a.started
@@ -67,7 +67,7 @@ pub record IsAccepting {I O T H : Type 0} (Talked : AdmittedLink I O T H → Lin
   pub links : EachAt (IsBegun Talked Made shown lock kinds (view_of a.root.pass)) 1 a.started.items
 
 -- There is more room, and all else is the same.
-pub record IsSame {I O T H : Type 0} (a b : Accepting I O T H) : Type 0 where
+pub record IsSame {I O T H : Type 0} (a b : Acceptor I O T H) : Type 0 where
   pub root : b.root ≡ a.root
   pub started : b.started.items ≡ a.started.items
   pub count : vec_len b.started ≡ vec_len a.started
@@ -76,13 +76,13 @@ pub record IsSame {I O T H : Type 0} (a b : Accepting I O T H) : Type 0 where
   pub room : vec_capacity a.reports ≤ vec_capacity b.reports
 
 -- There is room for one more of each.
-pub record HasRoom {I O T H : Type 0} (a : Accepting I O T H) : Type 0 where
+pub record HasRoom {I O T H : Type 0} (a : Acceptor I O T H) : Type 0 where
   pub ticks : vec_len a.ticks < vec_capacity a.ticks
   pub started : vec_len a.started < vec_capacity a.started
   pub reports : vec_len a.started < vec_capacity a.reports
 
 -- The admitted link is the next one, there is room for the link, and the root has seen the turn before it.
-pub record IsNext {I O T H : Type 0} (Talked : AdmittedLink I O T H → LinkReport I O T H → Type 0) (Made : ℕ → AdmittedLink I O T H → Type 0) (shown : H → WorkerState) (lock : TurnLock) (kinds : List Kind) (a : Accepting I O T H) (admitted : AdmittedLink I O T H) : Type 0 where
+pub record IsNext {I O T H : Type 0} (Talked : AdmittedLink I O T H → LinkReport I O T H → Type 0) (Made : ℕ → AdmittedLink I O T H → Type 0) (shown : H → WorkerState) (lock : TurnLock) (kinds : List Kind) (a : Acceptor I O T H) (admitted : AdmittedLink I O T H) : Type 0 where
   pub accepting : IsAccepting Talked Made shown lock kinds a
   pub few : vec_len a.started < MAX_LINKS
   pub can : IsAdmittedLink shown admitted

@@ -14,18 +14,15 @@ ghost use Rattle.conn_server.specs.Talks.{TalksOver};
 ghost use Rattle.conn_server.specs.Views.{IsTicked};
 ghost use Rattle.conn_server.specs.declared.plan.TheConstants.{MAX_LINKS};
 
-use crate::admission::{Accepting, LostLink, admit};
-use crate::ended_links::EndedLinks;
-use crate::join::join_ended;
+use crate::admission::{Acceptor, LostLink};
 use crate::link_task::LinkReport;
 use crate::link_thread::{StartedLink, finish};
-use crate::plan::ServePlan;
-use call_dispatch::{Book, Crew, Worker};
+use crate::shared::Shared;
+use call_dispatch::{Crew, Worker};
 use space::Asked;
-use std::alloc::Global;
 use std::sync::Wait;
 use std::thread::{Scope, Threads};
-use turn_lock::{Root, TurnLock};
+use turn_lock::Root;
 use wire_io::{Clock, Failed, Link, Listener, Sink, Source};
 
 /// How often a listener that fails is asked for the same link at most: for days.
@@ -47,10 +44,9 @@ pub enum Stop {
 
 /// The listener's next link. Where it fails it is asked again, once a link has ended or after a pause: as long as one of those that were begun is served,
 /// whose end gives back a descriptor and memory, and then a few times more.
-fn next_link<R: Wait, L: Listener>(
-    rt: &R,
+fn next_link<'s, R: Wait, L: Listener>(
+    shared: &Shared<'s, R>,
     listener: &mut L,
-    ended: &EndedLinks,
     begun: usize,
 ) -> Result<Link<L::In, L::Out, L::Ticks>, Failed>
     ensures accepts { Accepts (accepted_as L.In.half L.Out.half L.Ticks.given) (L.listening listener.old) (L.listening listener.new) result }
@@ -59,14 +55,14 @@ fn next_link<R: Wait, L: Listener>(
 {
     let mut idle_tries = 0u32;
     for _ in 1..MAX_ACCEPT_TRIES {
-        let seen = ended.count();
+        let seen = shared.ended.count();
         if let Ok(link) = listener.accept() {
             return Ok(link);
         }
         if seen >= begun as u64 {
             idle_tries = idle_tries.saturating_add(1);
         }
-        ended.pause(rt, seen);
+        shared.ended.pause(shared.rt, seen);
         if idle_tries >= MAX_IDLE_TRIES {
             break;
         }
@@ -78,80 +74,65 @@ fn next_link<R: Wait, L: Listener>(
 /// there was no memory, if any, is given back.
 pub fn accept_links<'s, E, R: Threads + Wait + Sync, L: Listener, G: Crew>(
     scope: &Scope<'s, E>,
-    rt: &'s R,
-    alloc: Global,
-    lock: &'s TurnLock,
-    book: &'s Book,
-    ended: &'s EndedLinks,
+    shared: &Shared<'s, R>,
     listener: &mut L,
     crew: &G,
-    plan: &ServePlan,
-    accepting: Accepting<L::In, L::Out, L::Ticks, G::Hand>,
-) -> (
-    Accepting<L::In, L::Out, L::Ticks, G::Hand>,
-    Stop,
-    Option<LostLink<L::In, L::Out, L::Ticks>>,
-)
+    acceptor: &mut Acceptor<L::In, L::Out, L::Ticks, G::Hand>,
+) -> (Stop, Option<LostLink<L::In, L::Out, L::Ticks>>)
 where
     L::In: 's,
     L::Out: 's,
     L::Ticks: 's,
     G::Hand: 's,
-    requires host { length (utf plan.now.host) ≤ MAX_HOST_BYTES }
-    requires accepting { IsAccepting (TalksOver L.In.half L.Out.half L.Ticks.given G.Hand.shown G.Hand.may G.Hand.moves book.now) (IsMadeFor L.In.half L.Out.half L.Ticks.given G.Hand.shown G.Hand.moves plan.now) G.Hand.shown lock.now book.now accepting }
-    requires fresh { (accepting.started.items ≡ []) × (accepting.ticks.items ≡ []) }
-    requires few { plan.now.count ≤ MAX_LINKS }
-    ensures accepting { IsAccepting (TalksOver L.In.half L.Out.half L.Ticks.given G.Hand.shown G.Hand.may G.Hand.moves book.now) (IsMadeFor L.In.half L.Out.half L.Ticks.given G.Hand.shown G.Hand.moves plan.now) G.Hand.shown lock.now book.now result.0 }
-    ensures tied { result.0.ticks.items ≡ ticks_of (shown_all L.In.half L.Out.half L.Ticks.given result.0.started.items) }
-    ensures links { (lost : List Accepted) × ((L.listening listener.new).accepted ≡ with_all (L.listening listener.old).accepted (links_of (shown_all L.In.half L.Out.half L.Ticks.given result.0.started.items) ++ lost)) × Stopped result.1 plan.now.count (vec_len result.0.started) lost
-        × AreGivenBack (IsLostLink L.In.half L.Out.half L.Ticks.given) lost result.2 }
-    ensures fault { result.1 ≡ Stop.AcceptFault → Rose (L.listening listener.old).faults (L.listening listener.new).faults }
+    requires host { length (utf shared.now.plan.now.host) ≤ MAX_HOST_BYTES }
+    requires accepting { IsAccepting (TalksOver L.In.half L.Out.half L.Ticks.given G.Hand.shown G.Hand.may G.Hand.moves shared.now.book.now) (IsMadeFor L.In.half L.Out.half L.Ticks.given G.Hand.shown G.Hand.moves shared.now.plan.now) G.Hand.shown shared.now.lock.now shared.now.book.now acceptor.old }
+    requires fresh { (acceptor.old.started.items ≡ []) × (acceptor.old.ticks.items ≡ []) }
+    requires few { shared.now.plan.now.count ≤ MAX_LINKS }
+    ensures accepting { IsAccepting (TalksOver L.In.half L.Out.half L.Ticks.given G.Hand.shown G.Hand.may G.Hand.moves shared.now.book.now) (IsMadeFor L.In.half L.Out.half L.Ticks.given G.Hand.shown G.Hand.moves shared.now.plan.now) G.Hand.shown shared.now.lock.now shared.now.book.now acceptor.new }
+    ensures tied { acceptor.new.ticks.items ≡ ticks_of (shown_all L.In.half L.Out.half L.Ticks.given acceptor.new.started.items) }
+    ensures links { (lost : List Accepted) × ((L.listening listener.new).accepted ≡ with_all (L.listening listener.old).accepted (links_of (shown_all L.In.half L.Out.half L.Ticks.given acceptor.new.started.items) ++ lost)) × Stopped result.0 shared.now.plan.now.count (vec_len acceptor.new.started) lost
+        × AreGivenBack (IsLostLink L.In.half L.Out.half L.Ticks.given) lost result.1 }
+    ensures fault { result.0 ≡ Stop.AcceptFault → Rose (L.listening listener.old).faults (L.listening listener.new).faults }
     ensures faults { (L.listening listener.old).faults ≤ (L.listening listener.new).faults }
     ensures ports { (L.listening listener.new).ports ≡ (L.listening listener.old).ports }
 {
-    let mut accepting = accepting;
-    for _ in 0..plan.count {
-        let Ok(link) = next_link(rt, listener, ended, accepting.started.len()) else {
-            return (accepting, Stop::AcceptFault, None);
+    for _ in 0..shared.plan.count {
+        let begun = acceptor.started.len();
+        let Ok(link) = next_link(shared, listener, begun) else {
+            return (Stop::AcceptFault, None);
         };
-        let accepted = join_ended(rt, lock, book, ended, plan, accepting);
-        let (next, lost) = admit(
-            scope, rt, alloc, lock, book, ended, crew, plan, link, accepted,
-        );
-        accepting = next;
-        match lost {
-            Some(lost) => return (accepting, Stop::OutOfMemory, Some(lost)),
+        acceptor.join_ended(shared);
+        match acceptor.admit(scope, shared, crew, link) {
+            Some(lost) => return (Stop::OutOfMemory, Some(lost)),
             None => {}
         }
     }
-    (accepting, Stop::All, None)
+    (Stop::All, None)
 }
 
-/// Waits for each link that wasn't joined, in order of accepting. Gives back the root, the reports and the entries of the root's own turns.
-pub fn join_links<R: Threads, I: Source + Drop, O: Sink + Drop, T: Clock + Drop, H: Worker + Drop>(
-    rt: &R,
-    lock: &TurnLock,
-    book: &Book,
-    plan: &ServePlan,
-    accepting: Accepting<I, O, T, H>,
-) -> (Root, Vec<LinkReport<I, O, T, H>>, Vec<Asked>)
-    requires { IsAccepting (TalksOver I.half O.half T.given H.shown H.may H.moves book.now) (IsMadeFor I.half O.half T.given H.shown H.moves plan.now) H.shown lock.now book.now accepting }
-    ensures root { IsRootOf lock.now result.0 × (result.0.out ≡ 0) }
-    ensures made { result.0.made ≡ vec_len accepting.started }
-    ensures ticks { IsTicked (view_of result.0.pass) result.2.items × (result.2 ≡ accepting.ticks) }
-    ensures links { Paired (IsJoined (TalksOver I.half O.half T.given H.shown H.may H.moves book.now) (IsMadeFor I.half O.half T.given H.shown H.moves plan.now) H.shown lock.now (view_of result.0.pass)) 1 accepting.started.items result.1.items }
-{
-    let _ = plan;
-    let Accepting {
-        mut root,
-        started,
-        mut reports,
-        ticks,
-    } = accepting;
-    for link in started {
-        let StartedLink { task, link_state } = link;
-        let report = finish(rt, lock, book, &mut root, &task, link_state);
-        reports.push_reserved(report);
+impl<I: Source + Drop, O: Sink + Drop, T: Clock + Drop, H: Worker + Drop> Acceptor<I, O, T, H> {
+    /// Waits for each link that wasn't joined, in order of accepting. Gives back the root, the reports and the entries of the root's own turns.
+    pub fn join_all<'s, R: Threads>(
+        self,
+        shared: &Shared<'s, R>,
+    ) -> (Root, Vec<LinkReport<I, O, T, H>>, Vec<Asked>)
+        requires { IsAccepting (TalksOver I.half O.half T.given H.shown H.may H.moves shared.now.book.now) (IsMadeFor I.half O.half T.given H.shown H.moves shared.now.plan.now) H.shown shared.now.lock.now shared.now.book.now self }
+        ensures root { IsRootOf shared.now.lock.now result.0 × (result.0.out ≡ 0) }
+        ensures made { result.0.made ≡ vec_len self.started }
+        ensures ticks { IsTicked (view_of result.0.pass) result.2.items × (result.2 ≡ self.ticks) }
+        ensures links { Paired (IsJoined (TalksOver I.half O.half T.given H.shown H.may H.moves shared.now.book.now) (IsMadeFor I.half O.half T.given H.shown H.moves shared.now.plan.now) H.shown shared.now.lock.now (view_of result.0.pass)) 1 self.started.items result.1.items }
+    {
+        let Acceptor {
+            mut root,
+            started,
+            mut reports,
+            ticks,
+        } = self;
+        for link in started {
+            let StartedLink { task, link_state } = link;
+            let report = finish(shared, &mut root, &task, link_state);
+            reports.push_reserved(report);
+        }
+        (root, reports, ticks)
     }
-    (root, reports, ticks)
 }

@@ -21,10 +21,10 @@ ghost use Rattle.conn_server.specs.Stops.{IsLostLink};
 ghost use Rattle.conn_server.specs.Talks.{TalksOver};
 ghost use Rattle.conn_server.specs.declared.plan.TheConstants.{MAX_LINKS};
 
-use crate::ended_links::EndedLinks;
 use crate::link_task::{AdmittedLink, LinkReport, LinkTask};
 use crate::link_thread::{StartedLink, start};
 use crate::plan::{ServePlan, setup_for};
+use crate::shared::Shared;
 use call_dispatch::{Book, Crew, Setup, Worker, notify_unreferenced};
 use history::{Ask, Refused, Turn};
 use space::{Asked, AskedEnd};
@@ -32,12 +32,12 @@ use std::alloc::{AllocError, Global};
 use std::snapshot::Snapshot;
 use std::sync::Wait;
 use std::thread::{Scope, Threads};
-use turn_lock::{Root, TurnLock};
+use turn_lock::Root;
 use wire_io::{Clock, Link, Sink, Source};
 
-/// The links that were admitted, room for their reports, and the entries of the root's own turns.
+/// Accepts links: it has those that were admitted, room for their reports, and the entries of the root's own turns.
 #[derive(Drop)]
-pub struct Accepting<I: Source, O: Sink, T: Clock, H: Worker> {
+pub struct Acceptor<I: Source, O: Sink, T: Clock, H: Worker> {
     pub root: Root,
     pub started: Vec<StartedLink<I, O, T, H>>,
     pub reports: Vec<LinkReport<I, O, T, H>>,
@@ -66,26 +66,6 @@ fn has_room<X>(items: &mut Vec<X>, more: usize) -> bool
         Ok(()) => true,
         Err(_full) => false,
     }
-}
-
-/// Takes room for one more link, and says whether there was memory.
-fn with_room<I: Source, O: Sink, T: Clock, H: Worker>(
-    mut accepting: Accepting<I, O, T, H>,
-) -> (Accepting<I, O, T, H>, bool)
-    ensures same { IsSame accepting result.0 }
-    ensures room { MatchBool result.1 (HasRoom result.0) (Unit {0}) }
-{
-    if !has_room(&mut accepting.ticks, 1) {
-        return (accepting, false);
-    }
-    if !has_room(&mut accepting.started, 1) {
-        return (accepting, false);
-    }
-    let count = accepting.started.len();
-    if !has_room(&mut accepting.reports, count + 1) {
-        return (accepting, false);
-    }
-    (accepting, true)
 }
 
 /// Tells a hand what an answer tells as withdrawn.
@@ -122,16 +102,14 @@ fn tick_entry(moment: u64, answer: Result<Turn, Refused>) -> Option<Asked>
 
 /// Makes a Tick at the clock's moment, as connection 0, and tells the hand what is gone. Its entry is answered: none where there was no
 /// memory for it.
-fn tick<R: Wait, T: Clock, H: Worker>(
-    rt: &R,
-    alloc: Global,
-    lock: &TurnLock,
+fn tick<'s, R: Wait, T: Clock, H: Worker>(
+    shared: &Shared<'s, R>,
     root: &mut Root,
     clock: &mut T,
     hand: &mut H,
 ) -> Option<Asked>
-    requires own { IsRootOf lock.now root.old }
-    ensures root { IsRootOf lock.now root.new }
+    requires own { IsRootOf shared.now.lock.now root.old }
+    ensures root { IsRootOf shared.now.lock.now root.new }
     ensures counts { (root.new.made ≡ root.old.made) × (root.new.out ≡ root.old.out) }
     ensures went { PassWent root.old.pass root.new.pass (option_to_list result) }
     ensures asked { IfSome result (λ entry. entry.ask ≡ Tick) }
@@ -145,7 +123,7 @@ fn tick<R: Wait, T: Clock, H: Worker>(
     ensures number { (H.shown hand.new).number ≡ (H.shown hand.old).number }
 {
     let moment = clock.now();
-    let (answer, _entries) = root.turn(rt, alloc, lock, moment, Ask::Tick);
+    let (answer, _entries) = root.turn(shared.rt, shared.alloc, shared.lock, moment, Ask::Tick);
     tell_answer(hand, &answer);
     tick_entry(moment, answer)
 }
@@ -179,124 +157,6 @@ fn hand_and_setup<G: Crew, I, O, T>(
     let setup = setup_for(alloc, plan, by, link)?;
     let hand = crew.hand(by)?;
     Ok(HandAndSetup { hand, setup })
-}
-
-/// Takes room for one more link, and makes what its connection begins with. None where there was no memory.
-fn reserve_link<G: Crew, I: Source, O: Sink, T: Clock>(
-    alloc: Global,
-    crew: &G,
-    plan: &ServePlan,
-    link: &Link<I, O, T>,
-    accepting: Accepting<I, O, T, G::Hand>,
-) -> (Accepting<I, O, T, G::Hand>, Option<HandAndSetup<G::Hand>>)
-    requires host { length (utf plan.now.host) ≤ MAX_HOST_BYTES }
-    requires few { vec_len accepting.started < MAX_LINKS }
-    ensures same { IsSame accepting result.0 }
-    ensures room { IfSome result.1 (λ r. HasRoom result.0) }
-    ensures ready { IfSome result.1 (λ r. IsHandFor G.Hand.shown plan.now (vec_len accepting.started + 1) link.now.host link.now.port r) }
-{
-    let (accepting, room) = with_room(accepting);
-    if !room {
-        return (accepting, None);
-    }
-    let by = accepting.started.len() as u32 + 1;
-    match hand_and_setup(alloc, crew, plan, by, link) {
-        Ok(ready) => (accepting, Some(ready)),
-        Err(_full) => (accepting, None),
-    }
-}
-
-/// Begins to serve the link as the next connection.
-fn start_link<
-    's,
-    E,
-    R: Threads + Wait + Sync,
-    I: Source + Send + Drop + 's,
-    O: Sink + Send + Drop + 's,
-    T: Clock + Send + Drop + 's,
-    H: Worker + Send + Drop + 's,
->(
-    scope: &Scope<'s, E>,
-    rt: &'s R,
-    alloc: Global,
-    lock: &'s TurnLock,
-    book: &'s Book,
-    ended: &'s EndedLinks,
-    plan: &ServePlan,
-    admitted: AdmittedLink<I, O, T, H>,
-    accepting: Accepting<I, O, T, H>,
-) -> Accepting<I, O, T, H>
-    requires { IsNext (TalksOver I.half O.half T.given H.shown H.may H.moves book.now) (IsMadeFor I.half O.half T.given H.shown H.moves plan.now) H.shown lock.now book.now accepting admitted }
-    ensures accepting { IsAccepting (TalksOver I.half O.half T.given H.shown H.may H.moves book.now) (IsMadeFor I.half O.half T.given H.shown H.moves plan.now) H.shown lock.now book.now result }
-    ensures ticks { result.ticks ≡ accepting.ticks }
-    ensures links { shown_all I.half O.half T.given result.started.items ≡ shown_all I.half O.half T.given accepting.started.items ++ shown_admitted I.half O.half T.given admitted ∷ [] }
-    ensures count { vec_len result.started ≡ vec_len accepting.started + 1 }
-{
-    let _ = plan;
-    let Accepting {
-        mut root,
-        mut started,
-        reports,
-        ticks,
-    } = accepting;
-    let by = started.len() as u32 + 1;
-    let Ok(pass) = root.split(lock) else {
-        unreachable!()
-    };
-    let task = LinkTask { by, pass, admitted };
-    let begun = start(scope, rt, alloc, lock, book, ended, task);
-    started.push_reserved(begun);
-    Accepting {
-        root,
-        started,
-        reports,
-        ticks,
-    }
-}
-
-/// Makes a Tick, for whose entry there is room, and keeps the entry. None where there was no memory for the Tick.
-fn with_tick<R: Wait, I: Source, O: Sink, T: Clock, H: Worker>(
-    rt: &R,
-    alloc: Global,
-    lock: &TurnLock,
-    book: &Book,
-    plan: &ServePlan,
-    clock: &mut T,
-    hand: &mut H,
-    accepting: Accepting<I, O, T, H>,
-) -> (Accepting<I, O, T, H>, Option<Snapshot<Asked>>)
-    requires accepting { IsAccepting (TalksOver I.half O.half T.given H.shown H.may H.moves book.now) (IsMadeFor I.half O.half T.given H.shown H.moves plan.now) H.shown lock.now book.now accepting }
-    requires room { vec_len accepting.ticks < vec_capacity accepting.ticks }
-    ensures accepting { IsAccepting (TalksOver I.half O.half T.given H.shown H.may H.moves book.now) (IsMadeFor I.half O.half T.given H.shown H.moves plan.now) H.shown lock.now book.now result.0 }
-    ensures links { (result.0.started ≡ accepting.started) × (result.0.reports ≡ accepting.reports) }
-    ensures ticks { MatchOption result.1 (result.0.ticks.items ≡ accepting.ticks.items) (λ entry. result.0.ticks.items ≡ accepting.ticks.items ++ entry.value ∷ []) }
-    ensures asked { IfSome result.1 (λ entry. entry.value.ask ≡ Tick) }
-    ensures end { IfSome result.1 (λ entry. IsTickEnd entry.value.end) }
-    ensures place { IfSome result.1 (λ entry. IsTakenBelow (length (view_of result.0.root.pass).seen) entry.value.end) }
-    ensures given { IfSome result.1 (λ entry. Gave (T.given clock.old) (T.given clock.new) (entry.value.moment ∷ [])) }
-    ensures moment { (moment : ℕ) × Gave (T.given clock.old) (T.given clock.new) (moment ∷ []) }
-    ensures seen { IfSome result.1 (λ entry. TellsMore (H.shown hand.old).seen (told_of entry.value) (H.shown hand.new).seen) }
-    ensures state { IfSome result.1 (λ entry. LeadsStates H.moves (H.shown hand.old).state (told_of entry.value) (H.shown hand.new).state) }
-    ensures calls { (H.shown hand.new).calls ≡ (H.shown hand.old).calls }
-    ensures number { (H.shown hand.new).number ≡ (H.shown hand.old).number }
-{
-    let _ = book;
-    let _ = plan;
-    let Accepting {
-        mut root,
-        started,
-        reports,
-        mut ticks,
-    } = accepting;
-    let entry = tick(rt, alloc, lock, &mut root, clock, hand);
-    let known = keep_entry(&mut ticks, entry);
-    let accepting = Accepting {
-        root,
-        started,
-        reports,
-        ticks,
-    };
-    (accepting, known)
 }
 
 /// Keeps an entry, if there is one.
@@ -349,108 +209,199 @@ fn refuse<I: Source, O: Sink, T: Clock>(link: Link<I, O, T>) -> LostLink<I, O, T
     shut_link(source, sink, clock)
 }
 
-/// Makes a Tick before the link is served, and the admitted link; or the link itself, shut, where there was no memory for the Tick.
-fn prepare_link<R: Wait, I: Source + Drop, O: Sink + Drop, T: Clock + Drop, H: Worker + Drop>(
-    rt: &R,
-    alloc: Global,
-    lock: &TurnLock,
-    book: &Book,
-    plan: &ServePlan,
-    link: Link<I, O, T>,
-    ready: HandAndSetup<H>,
-    accepting: Accepting<I, O, T, H>,
-) -> (
-    Accepting<I, O, T, H>,
-    Result<AdmittedLink<I, O, T, H>, LostLink<I, O, T>>,
-)
-    requires accepting { IsAccepting (TalksOver I.half O.half T.given H.shown H.may H.moves book.now) (IsMadeFor I.half O.half T.given H.shown H.moves plan.now) H.shown lock.now book.now accepting }
-    requires few { vec_len accepting.started < MAX_LINKS }
-    requires room { HasRoom accepting }
-    requires halves { AreNewHalves (I.half link.source) (O.half link.sink) }
-    requires ready { IsHandFor H.shown plan.now (vec_len accepting.started + 1) link.host link.port ready }
-    ensures accepting { IsAccepting (TalksOver I.half O.half T.given H.shown H.may H.moves book.now) (IsMadeFor I.half O.half T.given H.shown H.moves plan.now) H.shown lock.now book.now result.0 }
-    ensures links { (result.0.started ≡ accepting.started) × (result.0.reports ≡ accepting.reports) }
-    ensures ticks { IfOk result.1 (λ admitted. result.0.ticks.items ≡ accepting.ticks.items ++ admitted.tick.value ∷ []) }
-    ensures no_tick { OnErr result.1 (result.0.ticks.items ≡ accepting.ticks.items) }
-    ensures lost { IfErr result.1 (λ lost. IsLostLink I.half O.half T.given (accepted_as I.half O.half T.given link) lost) }
-    ensures first { IfOk result.1 (λ admitted. admitted.first.value ≡ link) }
-    ensures next { IfOk result.1 (λ admitted. IsNext (TalksOver I.half O.half T.given H.shown H.may H.moves book.now) (IsMadeFor I.half O.half T.given H.shown H.moves plan.now) H.shown lock.now book.now result.0 admitted) }
-{
-    let first = Snapshot::of(&link);
-    let Link {
-        source,
-        sink,
-        mut clock,
-        host: _host,
-        port: _port,
-    } = link;
-    let HandAndSetup { mut hand, setup } = ready;
-    let (accepting, entry) = with_tick(
-        rt, alloc, lock, book, plan, &mut clock, &mut hand, accepting,
-    );
-    let Some(tick) = entry else {
-        return (accepting, Err(shut_link(source, sink, clock)));
-    };
-    let admitted = AdmittedLink {
-        source,
-        sink,
-        clock,
-        setup,
-        hand,
-        first,
-        tick,
-    };
-    (accepting, Ok(admitted))
+impl<I: Source, O: Sink, T: Clock, H: Worker> Acceptor<I, O, T, H> {
+    /// It has admitted no link yet.
+    pub fn new(alloc: Global, root: Root) -> Acceptor<I, O, T, H>
+        ensures root { result.root ≡ root }
+        ensures started { result.started.items ≡ [] }
+        ensures reports { result.reports.items ≡ [] }
+        ensures ticks { result.ticks.items ≡ [] }
+    {
+        Acceptor {
+            root,
+            started: Vec::new(alloc),
+            reports: Vec::new(alloc),
+            ticks: Vec::new(alloc),
+        }
+    }
+
+    /// Takes room for one more link, and says whether there was memory.
+    fn with_room(&mut self) -> bool
+        ensures same { IsSame self.old self.new }
+        ensures room { MatchBool result (HasRoom self.new) (Unit {0}) }
+    {
+        if !has_room(&mut self.ticks, 1) {
+            return false;
+        }
+        if !has_room(&mut self.started, 1) {
+            return false;
+        }
+        let count = self.started.len();
+        if !has_room(&mut self.reports, count + 1) {
+            return false;
+        }
+        true
+    }
+
+    /// Makes a Tick, for whose entry there is room, and keeps the entry. None where there was no memory for the Tick.
+    fn with_tick<'s, R: Wait>(
+        &mut self,
+        shared: &Shared<'s, R>,
+        clock: &mut T,
+        hand: &mut H,
+    ) -> Option<Snapshot<Asked>>
+        requires accepting { IsAccepting (TalksOver I.half O.half T.given H.shown H.may H.moves shared.now.book.now) (IsMadeFor I.half O.half T.given H.shown H.moves shared.now.plan.now) H.shown shared.now.lock.now shared.now.book.now self.old }
+        requires room { vec_len self.old.ticks < vec_capacity self.old.ticks }
+        ensures accepting { IsAccepting (TalksOver I.half O.half T.given H.shown H.may H.moves shared.now.book.now) (IsMadeFor I.half O.half T.given H.shown H.moves shared.now.plan.now) H.shown shared.now.lock.now shared.now.book.now self.new }
+        ensures links { (self.new.started ≡ self.old.started) × (self.new.reports ≡ self.old.reports) }
+        ensures ticks { MatchOption result (self.new.ticks.items ≡ self.old.ticks.items) (λ entry. self.new.ticks.items ≡ self.old.ticks.items ++ entry.value ∷ []) }
+        ensures asked { IfSome result (λ entry. entry.value.ask ≡ Tick) }
+        ensures end { IfSome result (λ entry. IsTickEnd entry.value.end) }
+        ensures place { IfSome result (λ entry. IsTakenBelow (length (view_of self.new.root.pass).seen) entry.value.end) }
+        ensures given { IfSome result (λ entry. Gave (T.given clock.old) (T.given clock.new) (entry.value.moment ∷ [])) }
+        ensures moment { (moment : ℕ) × Gave (T.given clock.old) (T.given clock.new) (moment ∷ []) }
+        ensures seen { IfSome result (λ entry. TellsMore (H.shown hand.old).seen (told_of entry.value) (H.shown hand.new).seen) }
+        ensures state { IfSome result (λ entry. LeadsStates H.moves (H.shown hand.old).state (told_of entry.value) (H.shown hand.new).state) }
+        ensures calls { (H.shown hand.new).calls ≡ (H.shown hand.old).calls }
+        ensures number { (H.shown hand.new).number ≡ (H.shown hand.old).number }
+    {
+        let entry = tick(shared, &mut self.root, clock, hand);
+        let known = keep_entry(&mut self.ticks, entry);
+        known
+    }
 }
 
-/// Makes a Tick, and begins to serve the link. Gives the link back, shut, where there was no memory for it.
-pub fn admit<
-    's,
-    E,
-    R: Threads + Wait + Sync,
-    I: Source + Send + Drop + 's,
-    O: Sink + Send + Drop + 's,
-    T: Clock + Send + Drop + 's,
-    G: Crew,
->(
-    scope: &Scope<'s, E>,
-    rt: &'s R,
-    alloc: Global,
-    lock: &'s TurnLock,
-    book: &'s Book,
-    ended: &'s EndedLinks,
-    crew: &G,
-    plan: &ServePlan,
-    link: Link<I, O, T>,
-    accepting: Accepting<I, O, T, G::Hand>,
-) -> (Accepting<I, O, T, G::Hand>, Option<LostLink<I, O, T>>)
-where
-    G::Hand: 's,
-    requires host { length (utf plan.now.host) ≤ MAX_HOST_BYTES }
-    requires accepting { IsAccepting (TalksOver I.half O.half T.given G.Hand.shown G.Hand.may G.Hand.moves book.now) (IsMadeFor I.half O.half T.given G.Hand.shown G.Hand.moves plan.now) G.Hand.shown lock.now book.now accepting }
-    requires few { vec_len accepting.started < MAX_LINKS }
-    requires tied { accepting.ticks.items ≡ ticks_of (shown_all I.half O.half T.given accepting.started.items) }
-    requires halves { AreNewHalves (I.half link.source) (O.half link.sink) }
-    ensures accepting { IsAccepting (TalksOver I.half O.half T.given G.Hand.shown G.Hand.may G.Hand.moves book.now) (IsMadeFor I.half O.half T.given G.Hand.shown G.Hand.moves plan.now) G.Hand.shown lock.now book.now result.0 }
-    ensures tied { result.0.ticks.items ≡ ticks_of (shown_all I.half O.half T.given result.0.started.items) }
-    ensures links { MatchOption result.1
-        (links_of (shown_all I.half O.half T.given result.0.started.items) ≡ links_of (shown_all I.half O.half T.given accepting.started.items) ++ accepted_as I.half O.half T.given link ∷ [])
-        (λ lost. links_of (shown_all I.half O.half T.given result.0.started.items) ≡ links_of (shown_all I.half O.half T.given accepting.started.items)) }
-    ensures count { MatchOption result.1 (vec_len result.0.started ≡ vec_len accepting.started + 1) (λ lost. vec_len result.0.started ≡ vec_len accepting.started) }
-    ensures lost { IfSome result.1 (λ lost. IsLostLink I.half O.half T.given (accepted_as I.half O.half T.given link) lost) }
-{
-    let (accepting, ready) = reserve_link(alloc, crew, plan, &link, accepting);
-    let Some(ready) = ready else {
-        return (accepting, Some(refuse(link)));
-    };
-    let (accepting, admitted) = prepare_link(rt, alloc, lock, book, plan, link, ready, accepting);
-    match admitted {
-        Ok(admitted) => {
-            let accepting = start_link(
-                scope, rt, alloc, lock, book, ended, plan, admitted, accepting,
-            );
-            (accepting, None)
+impl<I: Source + Drop, O: Sink + Drop, T: Clock + Drop, H: Worker + Drop> Acceptor<I, O, T, H> {
+    /// Takes room for one more link, and makes what its connection begins with. None where there was no memory.
+    fn reserve_link<'s, R, G: Crew<Hand = H>>(
+        &mut self,
+        shared: &Shared<'s, R>,
+        crew: &G,
+        link: &Link<I, O, T>,
+    ) -> Option<HandAndSetup<H>>
+        requires host { length (utf shared.now.plan.now.host) ≤ MAX_HOST_BYTES }
+        requires few { vec_len self.old.started < MAX_LINKS }
+        ensures same { IsSame self.old self.new }
+        ensures room { IfSome result (λ r. HasRoom self.new) }
+        ensures ready { IfSome result (λ r. IsHandFor H.shown shared.now.plan.now (vec_len self.old.started + 1) link.now.host link.now.port r) }
+    {
+        if !self.with_room() {
+            return None;
         }
-        Err(lost) => (accepting, Some(lost)),
+        let by = self.started.len() as u32 + 1;
+        match hand_and_setup(shared.alloc, crew, shared.plan, by, link) {
+            Ok(ready) => Some(ready),
+            Err(_full) => None,
+        }
+    }
+
+    /// Makes a Tick before the link is served, and the admitted link; or the link itself, shut, where there was no memory for the Tick.
+    fn prepare_link<'s, R: Wait>(
+        &mut self,
+        shared: &Shared<'s, R>,
+        link: Link<I, O, T>,
+        ready: HandAndSetup<H>,
+    ) -> Result<AdmittedLink<I, O, T, H>, LostLink<I, O, T>>
+        requires accepting { IsAccepting (TalksOver I.half O.half T.given H.shown H.may H.moves shared.now.book.now) (IsMadeFor I.half O.half T.given H.shown H.moves shared.now.plan.now) H.shown shared.now.lock.now shared.now.book.now self.old }
+        requires few { vec_len self.old.started < MAX_LINKS }
+        requires room { HasRoom self.old }
+        requires halves { AreNewHalves (I.half link.source) (O.half link.sink) }
+        requires ready { IsHandFor H.shown shared.now.plan.now (vec_len self.old.started + 1) link.host link.port ready }
+        ensures accepting { IsAccepting (TalksOver I.half O.half T.given H.shown H.may H.moves shared.now.book.now) (IsMadeFor I.half O.half T.given H.shown H.moves shared.now.plan.now) H.shown shared.now.lock.now shared.now.book.now self.new }
+        ensures links { (self.new.started ≡ self.old.started) × (self.new.reports ≡ self.old.reports) }
+        ensures ticks { IfOk result (λ admitted. self.new.ticks.items ≡ self.old.ticks.items ++ admitted.tick.value ∷ []) }
+        ensures no_tick { OnErr result (self.new.ticks.items ≡ self.old.ticks.items) }
+        ensures lost { IfErr result (λ lost. IsLostLink I.half O.half T.given (accepted_as I.half O.half T.given link) lost) }
+        ensures first { IfOk result (λ admitted. admitted.first.value ≡ link) }
+        ensures next { IfOk result (λ admitted. IsNext (TalksOver I.half O.half T.given H.shown H.may H.moves shared.now.book.now) (IsMadeFor I.half O.half T.given H.shown H.moves shared.now.plan.now) H.shown shared.now.lock.now shared.now.book.now self.new admitted) }
+    {
+        let first = Snapshot::of(&link);
+        let Link {
+            source,
+            sink,
+            mut clock,
+            host: _host,
+            port: _port,
+        } = link;
+        let HandAndSetup { mut hand, setup } = ready;
+        let entry = self.with_tick(shared, &mut clock, &mut hand);
+        let Some(tick) = entry else {
+            return Err(shut_link(source, sink, clock));
+        };
+        Ok(AdmittedLink {
+            source,
+            sink,
+            clock,
+            setup,
+            hand,
+            first,
+            tick,
+        })
+    }
+
+    /// Begins to serve the link as the next connection.
+    fn start_link<'s, E, R: Threads + Wait + Sync>(
+        &mut self,
+        scope: &Scope<'s, E>,
+        shared: &Shared<'s, R>,
+        admitted: AdmittedLink<I, O, T, H>,
+    )
+    where
+        I: Send + 's,
+        O: Send + 's,
+        T: Send + 's,
+        H: Send + 's,
+        requires { IsNext (TalksOver I.half O.half T.given H.shown H.may H.moves shared.now.book.now) (IsMadeFor I.half O.half T.given H.shown H.moves shared.now.plan.now) H.shown shared.now.lock.now shared.now.book.now self.old admitted }
+        ensures accepting { IsAccepting (TalksOver I.half O.half T.given H.shown H.may H.moves shared.now.book.now) (IsMadeFor I.half O.half T.given H.shown H.moves shared.now.plan.now) H.shown shared.now.lock.now shared.now.book.now self.new }
+        ensures ticks { self.new.ticks ≡ self.old.ticks }
+        ensures links { shown_all I.half O.half T.given self.new.started.items ≡ shown_all I.half O.half T.given self.old.started.items ++ shown_admitted I.half O.half T.given admitted ∷ [] }
+        ensures count { vec_len self.new.started ≡ vec_len self.old.started + 1 }
+    {
+        let by = self.started.len() as u32 + 1;
+        let Ok(pass) = self.root.split(shared.lock) else {
+            unreachable!()
+        };
+        let task = LinkTask { by, pass, admitted };
+        let begun = start(scope, shared, task);
+        self.started.push_reserved(begun);
+    }
+
+    /// Makes a Tick, and begins to serve the link. Gives the link back, shut, where there was no memory for it.
+    pub fn admit<'s, E, R: Threads + Wait + Sync, G: Crew<Hand = H>>(
+        &mut self,
+        scope: &Scope<'s, E>,
+        shared: &Shared<'s, R>,
+        crew: &G,
+        link: Link<I, O, T>,
+    ) -> Option<LostLink<I, O, T>>
+    where
+        I: Send + 's,
+        O: Send + 's,
+        T: Send + 's,
+        H: Send + 's,
+        requires host { length (utf shared.now.plan.now.host) ≤ MAX_HOST_BYTES }
+        requires accepting { IsAccepting (TalksOver I.half O.half T.given H.shown H.may H.moves shared.now.book.now) (IsMadeFor I.half O.half T.given H.shown H.moves shared.now.plan.now) H.shown shared.now.lock.now shared.now.book.now self.old }
+        requires few { vec_len self.old.started < MAX_LINKS }
+        requires tied { self.old.ticks.items ≡ ticks_of (shown_all I.half O.half T.given self.old.started.items) }
+        requires halves { AreNewHalves (I.half link.source) (O.half link.sink) }
+        ensures accepting { IsAccepting (TalksOver I.half O.half T.given H.shown H.may H.moves shared.now.book.now) (IsMadeFor I.half O.half T.given H.shown H.moves shared.now.plan.now) H.shown shared.now.lock.now shared.now.book.now self.new }
+        ensures tied { self.new.ticks.items ≡ ticks_of (shown_all I.half O.half T.given self.new.started.items) }
+        ensures links { MatchOption result
+            (links_of (shown_all I.half O.half T.given self.new.started.items) ≡ links_of (shown_all I.half O.half T.given self.old.started.items) ++ accepted_as I.half O.half T.given link ∷ [])
+            (λ lost. links_of (shown_all I.half O.half T.given self.new.started.items) ≡ links_of (shown_all I.half O.half T.given self.old.started.items)) }
+        ensures count { MatchOption result (vec_len self.new.started ≡ vec_len self.old.started + 1) (λ lost. vec_len self.new.started ≡ vec_len self.old.started) }
+        ensures lost { IfSome result (λ lost. IsLostLink I.half O.half T.given (accepted_as I.half O.half T.given link) lost) }
+    {
+        let ready = self.reserve_link(shared, crew, &link);
+        let Some(ready) = ready else {
+            return Some(refuse(link));
+        };
+        match self.prepare_link(shared, link, ready) {
+            Ok(admitted) => {
+                self.start_link(scope, shared, admitted);
+                None
+            }
+            Err(lost) => Some(lost),
+        }
     }
 }

@@ -10,9 +10,10 @@ pub mod link_task;
 mod link_thread;
 pub mod plan;
 pub mod server;
+mod shared;
 
 pub use accept_loop::Stop;
 pub use admission::LostLink;
 pub use link_task::{AdmittedLink, LinkDone, LinkReport, LinkTask, TaskPromise};
 pub use plan::ServePlan;
-pub use server::{AllJoined, LinkReports, Report, serve};
+pub use server::{AllJoined, LinkReports, Report, Server};

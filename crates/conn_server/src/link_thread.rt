@@ -7,10 +7,9 @@ ghost use Rattle.conn_server.specs.Starts.{IsUnder, IsEndOf, open_in};
 ghost use Rattle.conn_server.specs.Talks.{TalksOver};
 ghost use Rattle.conn_server.specs.Views.{Grows};
 
-use crate::ended_links::EndedLinks;
 use crate::link_task::{LinkDone, LinkReport, LinkTask, TaskPromise, serve_task};
+use crate::shared::Shared;
 use call_dispatch::{Book, Worker};
-use std::alloc::Global;
 use std::mem;
 use std::snapshot::Snapshot;
 use std::sync::Wait;
@@ -38,24 +37,6 @@ pub enum LinkState<I: Source, O: Sink, T: Clock, H: Worker> {
     Joining,
 }
 
-/// Serves a link to its end, and notes that it has ended.
-fn serve_noted<R: Wait, I: Source, O: Sink, T: Clock, H: Worker>(
-    rt: &R,
-    alloc: Global,
-    lock: &TurnLock,
-    book: &Book,
-    ended: &EndedLinks,
-    task: LinkTask<I, O, T, H>,
-) -> LinkDone<I, O, T, H>
-    requires { IsLinkTask H.shown lock.now task }
-    ensures { Serves (TalksOver I.half O.half T.given H.shown H.may H.moves book.now) lock.now task result }
-{
-    let by = task.by;
-    let done = serve_task(rt, alloc, lock, book, task);
-    ended.note(rt, by);
-    done
-}
-
 /// Serves the link in a thread of the scope. Where none can be made, the task comes back and is done here.
 pub fn start<
     's,
@@ -67,18 +48,16 @@ pub fn start<
     H: Worker + Send + Drop + 's,
 >(
     scope: &Scope<'s, E>,
-    rt: &'s R,
-    alloc: Global,
-    lock: &'s TurnLock,
-    book: &'s Book,
-    ended: &'s EndedLinks,
+    shared: &Shared<'s, R>,
     task: LinkTask<I, O, T, H>,
 ) -> StartedLink<I, O, T, H>
-    requires { IsLinkTask H.shown lock.now task }
-    ensures begun { (v : View) → IsUnder (TalksOver I.half O.half T.given H.shown H.may H.moves book.now) lock.now book.now v result.task.value result.link_state }
+    requires { IsLinkTask H.shown shared.now.lock.now task }
+    ensures begun { (v : View) → IsUnder (TalksOver I.half O.half T.given H.shown H.may H.moves shared.now.book.now) shared.now.lock.now shared.now.book.now v result.task.value result.link_state }
     ensures out { open_in result.link_state ≡ 1 }
     ensures task { result.task.value ≡ task }
 {
+    let (rt, alloc) = (shared.rt, shared.alloc);
+    let (lock, book, ended) = (shared.lock, shared.book, shared.ended);
     let known = Snapshot::of(&task);
     let kept = TaskPromise {
         lock: Snapshot::of(lock),
@@ -90,7 +69,12 @@ pub fn start<
         move || -> LinkDone<I, O, T, H>
             requires { IsLinkTask H.shown lock.now task }
             ensures { Serves (TalksOver I.half O.half T.given H.shown H.may H.moves book.entry.now) lock.entry.now task result }
-        { serve_noted(rt, alloc, lock, book, ended, task) },
+        {
+            let by = task.by;
+            let done = serve_task(rt, alloc, lock, book, task);
+            ended.note(rt, by);
+            done
+        },
     );
     match spawned {
         Ok(child) => StartedLink {
@@ -126,45 +110,47 @@ fn give_back<I: Source, O: Sink, T: Clock, H: Worker>(
 }
 
 /// Waits until the link is served, and gives the root its pass back, unless that was done.
-pub fn finish<R: Threads, I: Source, O: Sink, T: Clock, H: Worker>(
-    rt: &R,
-    lock: &TurnLock,
-    book: &Book,
+pub fn finish<'s, R: Threads, I: Source, O: Sink, T: Clock, H: Worker>(
+    shared: &Shared<'s, R>,
     root: &mut Root,
     task: &Snapshot<LinkTask<I, O, T, H>>,
     link_state: LinkState<I, O, T, H>,
 ) -> LinkReport<I, O, T, H>
-    requires root { IsRootOf lock.now root.old }
-    requires begun { IsUnder (TalksOver I.half O.half T.given H.shown H.may H.moves book.now) lock.now book.now (view_of root.old.pass) task.now.value link_state }
-    ensures root { IsRootOf lock.now root.new × (root.new.out + open_in link_state ≡ root.old.out) × (root.new.made ≡ root.old.made) }
+    requires root { IsRootOf shared.now.lock.now root.old }
+    requires begun { IsUnder (TalksOver I.half O.half T.given H.shown H.may H.moves shared.now.book.now) shared.now.lock.now shared.now.book.now (view_of root.old.pass) task.now.value link_state }
+    ensures root { IsRootOf shared.now.lock.now root.new × (root.new.out + open_in link_state ≡ root.old.out) × (root.new.made ≡ root.old.made) }
     ensures grown { Grows (view_of root.old.pass) (view_of root.new.pass) }
-    ensures ended { IsEndOf (TalksOver I.half O.half T.given H.shown H.may H.moves book.now) (view_of root.new.pass) task.now.value result }
+    ensures ended { IsEndOf (TalksOver I.half O.half T.given H.shown H.may H.moves shared.now.book.now) (view_of root.new.pass) task.now.value result }
 {
     match link_state {
-        LinkState::Running(child) => give_back(lock, book, root, task, child.join(rt)),
-        LinkState::ServedHere(done) => give_back(lock, book, root, task, done),
+        LinkState::Running(child) => give_back(
+            shared.lock,
+            shared.book,
+            root,
+            task,
+            child.join(shared.rt),
+        ),
+        LinkState::ServedHere(done) => give_back(shared.lock, shared.book, root, task, done),
         LinkState::Ended(report) => report,
         LinkState::Joining => unreachable!(),
     }
 }
 
 /// Finishes the link, and keeps its report in its place.
-pub fn settle<R: Threads, I: Source + Drop, O: Sink + Drop, T: Clock + Drop, H: Worker + Drop>(
-    rt: &R,
-    lock: &TurnLock,
-    book: &Book,
+pub fn settle<'s, R: Threads, I: Source + Drop, O: Sink + Drop, T: Clock + Drop, H: Worker + Drop>(
+    shared: &Shared<'s, R>,
     root: &mut Root,
     started: &mut StartedLink<I, O, T, H>,
 )
-    requires root { IsRootOf lock.now root.old }
-    requires begun { IsUnder (TalksOver I.half O.half T.given H.shown H.may H.moves book.now) lock.now book.now (view_of root.old.pass) started.old.task.value started.old.link_state }
-    ensures root { IsRootOf lock.now root.new × (root.new.out + open_in started.old.link_state ≡ root.old.out) × (root.new.made ≡ root.old.made) }
+    requires root { IsRootOf shared.now.lock.now root.old }
+    requires begun { IsUnder (TalksOver I.half O.half T.given H.shown H.may H.moves shared.now.book.now) shared.now.lock.now shared.now.book.now (view_of root.old.pass) started.old.task.value started.old.link_state }
+    ensures root { IsRootOf shared.now.lock.now root.new × (root.new.out + open_in started.old.link_state ≡ root.old.out) × (root.new.made ≡ root.old.made) }
     ensures grown { Grows (view_of root.old.pass) (view_of root.new.pass) }
-    ensures begun { IsUnder (TalksOver I.half O.half T.given H.shown H.may H.moves book.now) lock.now book.now (view_of root.new.pass) started.new.task.value started.new.link_state }
+    ensures begun { IsUnder (TalksOver I.half O.half T.given H.shown H.may H.moves shared.now.book.now) shared.now.lock.now shared.now.book.now (view_of root.new.pass) started.new.task.value started.new.link_state }
     ensures task { started.new.task.value ≡ started.old.task.value }
     ensures out { open_in started.new.link_state ≡ 0 }
 {
     let link_state = mem::replace(&mut started.link_state, LinkState::Joining);
-    let report = finish(rt, lock, book, root, &started.task, link_state);
+    let report = finish(shared, root, &started.task, link_state);
     started.link_state = LinkState::Ended(report);
 }

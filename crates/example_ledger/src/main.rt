@@ -15,7 +15,7 @@ ghost use Rattle.space.specs.EventLists.{CollectsEach};
 use crate::clients::{ADDING, ASKING, add_client, this_host};
 use crate::ledger::{LedgerCrew, LedgerHand, ledger_book};
 use call_dispatch::Book;
-use conn_server::{LinkReport, Report, ServePlan, serve};
+use conn_server::{LinkReport, Report, ServePlan, Server};
 use history::{Ask, Name, SpaceConfig};
 use mod_utf::utf::units_of_ascii;
 use object_ids::{ObjId, Uid};
@@ -111,7 +111,15 @@ fn serve_space<'t, R: Threads + Wait + Sync>(
     ensures collects { IfSome result (λ report. CollectsEach report.space.configuration [] [] report.space.events report.space.events report.space.rows) }
 {
     match TurnLock::around(alloc, space) {
-        Ok((lock, root)) => Some(serve(rt, alloc, listener, crew, book, lock, root, plan)),
+        Ok((lock, root)) => {
+            let server = Server {
+                rt,
+                alloc,
+                crew,
+                book,
+            };
+            Some(server.serve(listener, lock, root, plan))
+        }
         Err(_space) => None,
     }
 }

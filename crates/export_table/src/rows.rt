@@ -8,7 +8,8 @@ use crate::row_table::RowTable;
 use crate::wait_list::WaitList;
 use dgc_server::Leases;
 use object_ids::ObjId;
-use sequence::{Same, Sequence};
+use sequence::{Same, Sequence, TryCopy};
+use std::alloc::{AllocError, Global};
 
 /// An exported object, with what keeps it.
 #[derive(Clone, Copy)]
@@ -40,6 +41,12 @@ pub struct ExportRow {
     pub awaiting: u32,
     /// The number of its pins, besides the one that it was added with.
     pub pins: u32,
+}
+
+impl TryCopy for ExportRow {
+    fn try_copy(&self, _alloc: Global) -> Result<ExportRow, AllocError> {
+        Ok(*self)
+    }
 }
 
 /// A list of exported objects.

@@ -96,6 +96,15 @@ pub struct LeaseRow {
     pub until: u64,
 }
 
+impl TryCopy for LeaseRow {
+    fn try_copy(&self, alloc: Global) -> Result<LeaseRow, AllocError> {
+        Ok(LeaseRow {
+            client: self.client.copy(alloc)?,
+            until: self.until,
+        })
+    }
+}
+
 /// A list of clients with the ends of their leases.
 pub type LeaseList = Sequence<LeaseRow>;
 

@@ -58,7 +58,7 @@ fn is_negative(word: &[u8]) -> bool
 }
 
 /// The number of 64 bits, with a sign, that a word spells.
-pub(crate) fn read_signed(word: &[u8]) -> Option<i64>
+pub fn read_signed(word: &[u8]) -> Option<i64>
     ensures { Finds (SpellsSigned w64) result word.now }
 {
     if is_negative(word) {
@@ -118,7 +118,7 @@ fn read_signed_16(word: &[u8]) -> Option<i16>
 }
 
 /// The number below a limit, which is at most 10^19, that a word spells.
-fn read_below(limit: u64, word: &[u8]) -> Option<u64>
+pub fn read_below(limit: u64, word: &[u8]) -> Option<u64>
     requires { limit ≤ 10 ^ 19 }
     ensures { Finds (SpellsBelow limit) result word.now }
 {
@@ -127,7 +127,7 @@ fn read_below(limit: u64, word: &[u8]) -> Option<u64>
 }
 
 /// The duration of a configuration that a word spells, from 1 to 2^40 milliseconds.
-pub(crate) fn read_duration(word: &[u8]) -> Option<u64>
+pub fn read_duration(word: &[u8]) -> Option<u64>
     ensures { Finds SpellsDuration result word.now }
 {
     let n = read_below(MAX_DURATION_MS + 1, word)?;

@@ -12,10 +12,10 @@ use crate::fault::FrameFault;
 use crate::head::HEAD_BYTES;
 use class_desc::{Slot, TypeCode};
 use method_hash::Method;
-use sequence::Sequence;
+use sequence::{Sequence, TryCopy};
 use ser_read::{Reader, StreamFault, Want};
 use ser_values::{Graph, Value};
-use std::alloc::Global;
+use std::alloc::{AllocError, Global};
 use wire_io::pull::Pull;
 use wire_io::source::Source;
 
@@ -29,6 +29,12 @@ pub enum Arg {
     Prim(Value),
     /// A reference.
     Ref(Slot),
+}
+
+impl TryCopy for Arg {
+    fn try_copy(&self, _alloc: Global) -> Result<Arg, AllocError> {
+        Ok(*self)
+    }
 }
 
 /// A list of arguments.

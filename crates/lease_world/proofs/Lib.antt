@@ -6,6 +6,7 @@ pub mod ClientStep
 pub mod Turns
 pub mod Arrivals
 pub mod Theorem
+pub mod Examples
 pub mod Positions
 pub mod Standing
 pub mod Stepping

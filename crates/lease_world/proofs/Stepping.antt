@@ -21,7 +21,7 @@ use Rattle.lease_world.specs.Faults.{of_client as fault_of_client}
 use Rattle.lease_world.specs.Letters.{Letter}
 use Rattle.lease_world.specs.Tables.{IsNoted, IsNotNoted, call_cause}
 use Rattle.lease_world.specs.Stands.{WorldParts, StandsAt, IsClientOf, StandsForCourse, ForEachCourse, granted_by, IsCause, IsTaken, IsStep, first_cause, refusal_at, IsTurned, IsAbandoned, IsReturned, with_letter, IsCalled, IsMemberCall, no_deeds, AreFresh}
-use Rattle.lease_world.specs.World.{config_of, uid, World, Course, Delivery, client, of_client, nth, history, last_delivery, granted_in, turned, turn_fault, fault_of, no_client, begin, begun, finish, world, world_after, after_step, called, answer_to, call_number, ask_of, event_now, bad_if, fresh, first_events, maker, KeepsPromise}
+use Rattle.lease_world.specs.World.{config_of, uid, World, Course, Delivery, client, of_client, nth, history, rows_of, last_delivery, granted_in, turned, turn_fault, fault_of, no_client, begin, begun, finish, world, world_after, after_step, called, answer_to, call_number, ask_of, event_now, bad_if, fresh, first_events, maker, KeepsPromise}
 use Rattle.lease_world.specs.declared.fault.WorldFault.{WorldFault}
 use Rattle.lease_world.specs.declared.fault.WorldFault.TheVariants.{BadStep, OutOfMemory}
 use Rattle.lease_world.specs.declared.member.Member.{Member}
@@ -384,11 +384,17 @@ fresh-stands lease ack clients s members c e f = record {
   granted_are = λ k. refl;
 }
 
-pub promise-is : (v : WorldParts) → v.space.rows ≡ table v.space.configuration (places v.space.configuration v.space.events) → ForEachCourse v (λ course. KeepsPromise (world course) v.space.rows)
-promise-is v r course a c o p = ap (λ (rows : List Exported). has rows o) r
-    ∙ ap (λ (g : SpaceConfig). has (table g (places g v.space.events)) o) a.config_is
-    ∙ ap (λ (es : List Event). has (table (world course).config (places (world course).config es)) o) a.events_are
-    ∙ theorem course c o p
+-- The rows of a space that has its history's table.
+abbrev pub HasTable : SpaceHistory → Type 0
+HasTable s = s.rows ≡ table s.configuration (places s.configuration s.events)
+
+pub rows-are : (v : WorldParts) → HasTable v.space → ForEachCourse v (λ course. v.space.rows ≡ rows_of (world course))
+rows-are v r course a = r
+    ∙ ap (λ (g : SpaceConfig). table g (places g v.space.events)) a.config_is
+    ∙ ap (λ (es : List Event). table (world course).config (places (world course).config es)) a.events_are
+
+pub promise-is : (v : WorldParts) → HasTable v.space → ForEachCourse v (λ course. KeepsPromise (world course) v.space.rows)
+promise-is v r course a c o p = ap (λ (rows : List Exported). has rows o) (rows-are v r course a) ∙ theorem course c o p
 
 -- ---- for the functions
 

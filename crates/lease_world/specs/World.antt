@@ -107,6 +107,10 @@ called c x w = record w {
 abbrev pub history : World → History
 history w = places w.config w.events
 
+-- The rows of the server's table: what its history exports.
+abbrev pub rows_of : World → List Exported
+rows_of w = table w.config (history w)
+
 -- The event of a turn that is made now.
 abbrev pub event_now : World → ℕ → Ask → Event
 event_now w by ask = record { by = by; moment = w.moment; ask = ask }
@@ -327,4 +331,4 @@ KeepsPromise w rows = (c : ℕ) (o : ObjId) → IsPromised w c o → has rows o 
 
 -- The same of the table of the world's history.
 abbrev pub WorldKeepsPromise : Course → Type 0
-WorldKeepsPromise course = KeepsPromise (world course) (table (world course).config (history (world course)))
+WorldKeepsPromise course = KeepsPromise (world course) (rows_of (world course))

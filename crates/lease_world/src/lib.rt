@@ -22,7 +22,7 @@ mod world;
 pub use fault::WorldFault;
 pub use letter::Letter;
 pub use member::Member;
-pub use script::{MAX_CLIENTS, MAX_SCRIPT_BYTES, run_world};
+pub use script::{MAX_CLIENTS, run_world};
 pub use sent_call::SentCall;
 pub use step::Step;
 pub use world::World;

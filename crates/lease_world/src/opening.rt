@@ -1,6 +1,7 @@
 //! The beginning of a world.
 ghost use Rattle.std.specs.Prelude.{◌≡◌, ◌≤◌, ◌∷◌, [], ℕ, pos, length, Some, IfOk, IfErr, OnOk};
 ghost use Rattle.dgc_client.specs.StandsForLog.{StandsFor};
+ghost use Rattle.history.specs.Table.{places, table};
 ghost use Rattle.history.specs.declared.limits.TheConstants.{MAX_DURATION_MS};
 ghost use Rattle.lease_world.specs.World.{config_of, client, nth, first_events};
 ghost use Rattle.lease_world.specs.declared.fault.WorldFault.TheVariants.{OutOfMemory};
@@ -40,6 +41,7 @@ pub(crate) fn opened(alloc: Global, lease_ms: u64, ack_ms: u64) -> Result<Space,
     requires short_ack { ack_ms ≤ MAX_DURATION_MS }
     ensures config { IfOk result (λ space. space.configuration ≡ config_of lease_ms ack_ms) }
     ensures events { IfOk result (λ space. space.events ≡ first_events) }
+    ensures rows { IfOk result (λ space. space.rows ≡ table space.configuration (places space.configuration space.events)) }
     ensures err { IfErr result (λ fault. fault ≡ OutOfMemory) }
 {
     let mut space = Space::fresh(alloc, &config_of(lease_ms, ack_ms));
@@ -48,6 +50,7 @@ pub(crate) fn opened(alloc: Global, lease_ms: u64, ack_ms: u64) -> Result<Space,
         pinned: true,
     };
     let _turn = space.turn(0, 0, ask)?;
+    let _count = space.len();
     Ok(space)
 }
 

@@ -6,9 +6,10 @@ ghost use Rattle.journal.specs.Reading.{Finds};
 ghost use Rattle.lease_world.specs.Script.{SpellsStep, StepWords, SpellsWorld, WorldWords};
 ghost use Rattle.lease_world.specs.Words.{IsWorldLine, AreWorldWords};
 
-use crate::number::{read_client, read_clients, read_count, read_duration, read_signed};
+use crate::number::{read_client, read_clients, read_count};
 use crate::step::Step;
 use crate::words::{Words, words_of};
+use journal::{read_duration, read_signed};
 
 /// The first line of a script, as values.
 #[derive(Clone, Copy, Debug)]

@@ -11,8 +11,6 @@ use std::alloc::Global;
 
 /// The most clients of a script's world.
 pub const MAX_CLIENTS: u64 = 200;
-/// The most bytes of a script.
-pub const MAX_SCRIPT_BYTES: usize = 268_435_456;
 
 /// Plays a script, and returns the outline of the server's space, and for each client the end of its time and its references, all after the last
 /// step. Each line ends with LF. The first is `world LEASE ACK CLIENTS`, and each further one is a step.

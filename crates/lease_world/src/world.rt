@@ -1,7 +1,7 @@
 //! A world, step by step.
 ghost use Rattle.std.specs.Prelude.{◌≡◌, ◌≤◌, ◌<◌, ◌⊎◌, ◌++◌, ◌∷◌, [], length, true, IfOk, IfErr, OnOk, OnErr, IsOk};
 ghost use Rattle.history.specs.declared.limits.TheConstants.{MAX_DURATION_MS};
-ghost use Rattle.lease_world.specs.World.{world, fault_of, KeepsPromise};
+ghost use Rattle.lease_world.specs.World.{world, rows_of, fault_of, KeepsPromise};
 ghost use Rattle.lease_world.specs.Stands.{StandsForCourse, ForEachCourse, IsCause, IsTaken, IsLeft, IsStep, no_deeds};
 ghost use Rattle.lease_world.specs.declared.fault.WorldFault.TheVariants as faults;
 
@@ -84,6 +84,10 @@ impl World {
         requires short_ack { ack_ms ≤ MAX_DURATION_MS }
         ensures ok { IfOk result (λ fresh. StandsForCourse fresh (no_deeds lease_ms ack_ms clients)) }
         ensures err { IfErr result (λ fault. fault ≡ faults.OutOfMemory) }
+
+        // The server exports what its history exports, and nothing else.
+        ensures table { IfOk result (λ fresh. ForEachCourse fresh
+            (λ course. fresh.space.rows ≡ rows_of (world course))) }
     {
         let space = opened(alloc, lease_ms, ack_ms)?;
         let members = members_of(alloc, lease_ms, clients)?;
@@ -107,8 +111,12 @@ impl World {
             (λ course. IsCause fault (fault_of (world course) step))) }
         ensures left { IfErr result (λ fault. IsLeft self.old step fault self.new) }
 
-        // Whatever is lost, late or repeated: an object that a client may use, and that was exported when the dirty call which made the client's
-        // reference sure arrived, before it was answered, is exported.
+        // The server exports what its history exports, and nothing else.
+        ensures table { ForEachCourse self.new
+            (λ course. self.new.space.rows ≡ rows_of (world course)) }
+
+        // Whatever is lost, late or repeated: an object that a client may use, and that was exported at some delivery of the dirty call which made
+        // the client's reference sure, be it the first one or a later one, before the answer or after it, is exported.
         ensures promise { ForEachCourse self.new (λ course. KeepsPromise (world course) self.new.space.rows) }
     {
         let result = self.take(step);

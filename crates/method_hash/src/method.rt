@@ -10,7 +10,7 @@ ghost use Rattle.method_hash.specs.declared.method.TheConstants.{METHOD_BYTES};
 
 use crate::place::TextPlace;
 use class_desc::TypeCode;
-use sequence::{ByteList, Sequence};
+use sequence::{ByteList, Sequence, TryCopy};
 use std::alloc::{AllocError, Global};
 use thiserror::Error;
 
@@ -69,6 +69,17 @@ impl Drop for Method {
         drop(name);
         drop(params);
         drop(text);
+    }
+}
+
+impl TryCopy for Method {
+    fn try_copy(&self, alloc: Global) -> Result<Method, AllocError> {
+        Ok(Method {
+            name: self.name.copy(alloc)?,
+            params: self.params.copy(alloc)?,
+            result: self.result,
+            text: self.text.copy(alloc)?,
+        })
     }
 }
 

@@ -12,7 +12,7 @@ use std::time::Clock;
 use std::{env, io};
 use wire_io::put::put_all;
 use wire_io::std_io::{StdClock, StdSink, StdSource};
-use wire_io::tcp::TcpListen;
+use wire_io::tcp::{TcpDial, TcpListen};
 
 /// The program's words. One that is no UTF-8 is `InvalidData`.
 fn words_of(rt: &HostRuntime) -> io::Result<Words> {
@@ -41,8 +41,10 @@ where
         errors: StdSink::new(errors),
         ticks: StdClock::new(rt),
         listener: TcpListen::new(alloc, rt),
+        dialer: TcpDial::new(alloc, rt),
         seed,
         served: None,
+        talked: Vec::new(alloc),
     };
     Ok(run(rt, alloc, words, &mut host))
 }

@@ -1,12 +1,13 @@
 -- A connection that was served, and how its end is told.
 use Rattle.std.proofs.Common.{◌≡◌, ◌⊎◌, ℕ, List, Option, refl, sym, subst, ◌∙◌, inl, inr}
-use Rattle.wire_io.specs.Wire.{Wires}
+use Rattle.wire_io.specs.Wire.{Wires, Rose}
+use Rattle.call_dispatch.specs.End.{IsWriteFault}
 use Rattle.call_dispatch.specs.Complete.{IsUnfailed}
 use Rattle.call_dispatch.specs.declared.end.ConnEnd.{ConnEnd}
 use Rattle.call_dispatch.specs.declared.end.ConnEnd.TheVariants.{Ended, BadHeader, UnknownProtocol, BadMessage, BadStream, TooLarge, Truncated, NoSuchObject, NoSuchMethod, SpaceFull, MessageLimit, ReadFault, WriteFault, OutOfMemory}
 use Rattle.rmi_cli.specs.Answer.{IsOutsideStatus, ServesOne, AnswersWhole, Answers}
 use Rattle.rmi_cli.specs.Statuses.{status_of}
-use Rattle.rmi_cli.specs.Told.{Reported, TellsExactly, TellsEnd}
+use Rattle.rmi_cli.specs.Told.{Failures, Reported, TellsExactly, TellsEnd}
 use Rattle.rmi_cli.specs.declared.end.RunEnd.TheVariants.{Answered}
 use Rattle.rmi_words.specs.declared.command.Command.{Command}
 use Rattle.rmi_words.specs.declared.command.Command.TheVariants.{Answer}
@@ -43,14 +44,16 @@ told_whole seed options old new given given_after told end one (inl tells) openi
       | inr not ↦ inr (subst IsOutsideStatus (sym tells.0) not)
     ]
 
-pub answered : (seed : List ℕ) (options : LeaseOptions) (old new : Wires) (given given_after : Option (List ℕ)) (told : Reported) (end : ConnEnd) → ServesOne seed options old new given given_after end → TellsEnd told (Answered end)
-    → Answers seed options old new given given_after told
-answered seed options old new given given_after told end one tells = record { end = end; serves = one; tells = tells; whole = told_whole seed options old new given given_after told end one tells }
+pub answered : (seed : List ℕ) (options : LeaseOptions) (old new : Wires) (failed failed_after : Failures) (given given_after : Option (List ℕ)) (told : Reported) (end : ConnEnd) → ServesOne seed options old new given given_after end
+    → (end ≡ ReadFault → Rose failed.input failed_after.input) → (IsWriteFault end → Rose failed.output failed_after.output) → TellsEnd told (Answered end)
+    → Answers seed options old new failed failed_after given given_after told
+answered seed options old new failed failed_after given given_after told end one read written tells =
+    record { end = end; serves = one; read_fault = read; write_fault = written; tells = tells; whole = told_whole seed options old new given given_after told end one tells }
 
 same_options : (t t2 : LeaseOptions) → Answer t ≡ Answer t2 → t ≡ t2
 same_options t t2 same = cc
 
-pub answers_asked : (seed : List ℕ) (command : Command) (t t2 : LeaseOptions) (old new : Wires) (given given_after : Option (List ℕ)) (told : Reported) → command ≡ Answer t → command ≡ Answer t2
-    → Answers seed t old new given given_after told → Answers seed t2 old new given given_after told
-answers_asked seed command t t2 old new given given_after told is is2 answers =
-    let P : LeaseOptions → Type 0 = λ x. Answers seed x old new given given_after told in subst P (same_options t t2 (sym is ∙ is2)) answers
+pub answers_asked : (seed : List ℕ) (command : Command) (t t2 : LeaseOptions) (old new : Wires) (failed failed_after : Failures) (given given_after : Option (List ℕ)) (told : Reported) → command ≡ Answer t → command ≡ Answer t2
+    → Answers seed t old new failed failed_after given given_after told → Answers seed t2 old new failed failed_after given given_after told
+answers_asked seed command t t2 old new failed failed_after given given_after told is is2 answers =
+    let P : LeaseOptions → Type 0 = λ x. Answers seed x old new failed failed_after given given_after told in subst P (same_options t t2 (sym is ∙ is2)) answers

@@ -11,9 +11,10 @@ use Rattle.history.specs.Table.{places}
 use Rattle.wire_io.specs.Wire.{Wires}
 use Rattle.drill.specs.Rounds.{drill_config, drill_events}
 use Rattle.drill.specs.Runs.{StopsIn, EndsIn}
-use Rattle.rmi_cli.specs.Drilled.{TakesAll, IsStopped, DrillStops, Drills, DrillsExactly}
+use Rattle.rmi_cli.specs.Drilled.{TakesAll, IsStopped, DrillStops, DrillEnds, DrillsExactly, drill_text}
 use Rattle.rmi_cli.specs.Replay.{EventIsTaken, AllTaken}
-use Rattle.rmi_cli.specs.Told.{Reported}
+use Rattle.rmi_cli.specs.Told.{Reported, TellsEnd}
+use Rattle.rmi_cli.specs.declared.end.RunEnd.{RunEnd}
 use Rattle.rmi_words.specs.declared.command.DrillText.{DrillText}
 use Rattle.rmi_cli.specs.declared.end.RunEnd.TheVariants as ends
 
@@ -90,32 +91,34 @@ not_both seed rounds all s =
     let none : None ≡ Some s.cause = sym (taken_there drill_config [] s.front s.event s.rest (subst P s.events_are all)) ∙ s.refused in cc
 
 -- A drill that ended so, and was told, is exact.
-pub drills_exactly : (text : DrillText) (seed rounds : ℕ) (old new : Wires) (told : Reported) → Drills text seed rounds old new told → DrillsExactly text seed rounds old new told
-drills_exactly text seed rounds old new told (end, e, inr memory, left) = record {
+pub drills_exactly : (text : DrillText) (seed rounds : ℕ) (old new : Wires) (told : Reported) (end : RunEnd) → DrillEnds seed rounds (drill_text text seed rounds) old.held new.held end → TellsEnd told end
+    → DrillsExactly text seed rounds old new told
+drills_exactly text seed rounds old new told end e (inr memory) = record {
   all = λ all. inr (inr memory.1.0);
   stopped = λ stopped. inr (inr memory.1.0);
 }
-drills_exactly text seed rounds old new told (ends.Done, e, inl tells, left) = record {
+drills_exactly text seed rounds old new told ends.Done e (inl tells) = record {
   all = λ all. inl (tells, e.1);
   stopped = λ stopped. absurd (not_both seed rounds e.0 stopped);
 }
-drills_exactly text seed rounds old new told (ends.Usage, e, inl tells, left) = absurd e
-drills_exactly text seed rounds old new told (ends.Answered end, e, inl tells, left) = absurd e
-drills_exactly text seed rounds old new told (ends.BadLine line, e, inl tells, left) = absurd e
-drills_exactly text seed rounds old new told (ends.Refused, e, inl tells, left) = record {
+drills_exactly text seed rounds old new told ends.Usage e (inl tells) = absurd e
+drills_exactly text seed rounds old new told (ends.Answered end) e (inl tells) = absurd e
+drills_exactly text seed rounds old new told (ends.Talked end) e (inl tells) = absurd e
+drills_exactly text seed rounds old new told (ends.BadLine line) e (inl tells) = absurd e
+drills_exactly text seed rounds old new told ends.Refused e (inl tells) = record {
   all = λ all. absurd (not_both seed rounds all e.0);
   stopped = λ stopped. inl (tells, e.1);
 }
-drills_exactly text seed rounds old new told (ends.TooLarge limit, e, inl tells, left) = absurd e
-drills_exactly text seed rounds old new told (ends.NotShown fault, e, inl tells, left) = absurd e
-drills_exactly text seed rounds old new told (ends.ListenFault, e, inl tells, left) = absurd e
-drills_exactly text seed rounds old new told (ends.AcceptFault, e, inl tells, left) = absurd e
-drills_exactly text seed rounds old new told (ends.ReadFault, e, inl tells, left) = absurd e
-drills_exactly text seed rounds old new told (ends.WriteFault, e, inl tells, left) = record {
+drills_exactly text seed rounds old new told (ends.TooLarge limit) e (inl tells) = absurd e
+drills_exactly text seed rounds old new told (ends.NotShown fault) e (inl tells) = absurd e
+drills_exactly text seed rounds old new told ends.ListenFault e (inl tells) = absurd e
+drills_exactly text seed rounds old new told ends.AcceptFault e (inl tells) = absurd e
+drills_exactly text seed rounds old new told ends.ReadFault e (inl tells) = absurd e
+drills_exactly text seed rounds old new told ends.WriteFault e (inl tells) = record {
   all = λ all. inr (inl tells.0);
   stopped = λ stopped. inr (inl tells.0);
 }
-drills_exactly text seed rounds old new told (ends.OutOfMemory, e, inl tells, left) = record {
+drills_exactly text seed rounds old new told ends.OutOfMemory e (inl tells) = record {
   all = λ all. inr (inr tells.0);
   stopped = λ stopped. inr (inr tells.0);
 }

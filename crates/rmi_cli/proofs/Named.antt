@@ -8,7 +8,7 @@ use Rattle.sample_app.specs.declared.crew.SampleHand.{SampleHand}
 use Rattle.rmi_words.proofs.Asked.{answer_in_range, serve_in_range}
 use Rattle.rmi_cli.specs.Answer.{AnswersExactly}
 use Rattle.rmi_words.specs.Command.{AskFor}
-use Rattle.rmi_cli.specs.Drilled.{Drills}
+use Rattle.rmi_cli.specs.Drilled.{DrillEnds, drill_text}
 use Rattle.rmi_cli.specs.Limits.{IsInLimits}
 use Rattle.rmi_cli.specs.Opening.{served_opening}
 use Rattle.conn_server.specs.Reports.{ServesLinks}
@@ -21,13 +21,14 @@ use Rattle.rmi_words.specs.declared.options.LeaseOptions.{LeaseOptions}
 use Rattle.rmi_cli.specs.Printing.{PrintEnds}
 use Rattle.rmi_words.specs.declared.command.ClassOutput.{ClassOutput}
 use Rattle.rmi_words.specs.declared.command.Command.{Command}
-use Rattle.rmi_words.specs.declared.command.Command.TheVariants.{Answer, Serve, Replay, Show, Drill, World, Class, Help}
+use Rattle.rmi_words.specs.declared.command.Command.TheVariants.{Answer, Serve, Client, Replay, Show, Drill, World, Class, Help}
 use Rattle.rmi_words.specs.declared.command.DrillText.{DrillText}
 
 -- What words ask for is in the limits of its command.
 pub asked_fits : (words : List (List ℕ)) (c : Command) → AskFor words c → IsInLimits c
 asked_fits words (Answer options) is = answer_in_range words options is
 asked_fits words (Serve serve) is = serve_in_range words serve is
+asked_fits words (Client command) is = tt
 asked_fits words Replay is = tt
 asked_fits words Show is = tt
 asked_fits words (Drill text seed rounds) is = is.in_range.most
@@ -58,14 +59,14 @@ pub prints_named : (command : Command) (a b : ClassOutput) (old new : Wires) (fa
     → PrintEnds a old new faults faults2 end → PrintEnds b old new faults faults2 end
 prints_named command a b old new faults faults2 end is is2 = subst (λ (x : ClassOutput). PrintEnds x old new faults faults2 end) (same_class a b (sym is ∙ is2))
 
-pub drills_named : (command : Command) (text text2 : DrillText) (m n m2 n2 : ℕ) (old new : Wires) (told : Reported) → command ≡ Drill text m n → command ≡ Drill text2 m2 n2
-    → Drills text m n old new told → Drills text2 m2 n2 old new told
-drills_named command text text2 m n m2 n2 old new told is is2 drills =
+pub drills_named : (command : Command) (text text2 : DrillText) (m n m2 n2 : ℕ) (held held2 : Option (List ℕ)) (end : RunEnd) → command ≡ Drill text m n → command ≡ Drill text2 m2 n2
+    → DrillEnds m n (drill_text text m n) held held2 end → DrillEnds m2 n2 (drill_text text2 m2 n2) held held2 end
+drills_named command text text2 m n m2 n2 held held2 end is is2 ends =
     let same = same_drill text text2 m n m2 n2 (sym is ∙ is2) in
-    let P : DrillText → Type 0 = λ t. Drills t m n old new told in
-    let Q : ℕ → Type 0 = λ s. Drills text2 s n old new told in
-    let R : ℕ → Type 0 = λ r. Drills text2 m2 r old new told in
-    subst R same.2 (subst Q same.1 (subst P same.0 drills))
+    let P : DrillText → Type 0 = λ t. DrillEnds m n (drill_text t m n) held held2 end in
+    let Q : ℕ → Type 0 = λ s. DrillEnds s n (drill_text text2 s n) held held2 end in
+    let R : ℕ → Type 0 = λ r. DrillEnds m2 r (drill_text text2 m2 r) held held2 end in
+    subst R same.2 (subst Q same.1 (subst P same.0 ends))
 
 pub serving_asked : {I O T R : Type 0} (read_half : I → ReadHalf) (write_half : O → WriteHalf) (given : T → Option (List ℕ)) (seed : List ℕ) (command : Command) (s s2 : ServeWords)
     (log_before log_after : Listening) (old new : Wires) (faults faults2 : ℕ) (told : Reported) (served : Option (Report I O T (SampleHand R))) (end : RunEnd) → command ≡ Serve s → command ≡ Serve s2

@@ -214,6 +214,7 @@ within old new told ends.Done (taken, output, whole, outlines, held) tells input
     inl (at_whole old new told input taken answer (Ok output) left whole known tt replays outlines tells held)
 within old new told ends.Usage e tells input answer left short replays known = absurd e
 within old new told (ends.Answered end) e tells input answer left short replays known = absurd e
+within old new told (ends.Talked end) e tells input answer left short replays known = absurd e
 within old new told (ends.BadLine n) (taken, whole, bad, held) tells input answer left short replays known =
     inl (at_whole old new told input taken answer (Err (BadLine n)) left whole known tt replays bad tells (held ∙ sym (with_end-nothing old.held)))
 within old new told ends.Refused (taken, whole, refused, held) tells input answer left short replays known =
@@ -235,6 +236,7 @@ past : (old new : Wires) (told : Reported) (end : RunEnd) → ReplayEnds old new
 past old new told ends.Done (taken, output, whole, outlines, held) tells input left long = absurd (no_room old new input taken left long whole)
 past old new told ends.Usage e tells input left long = absurd e
 past old new told (ends.Answered end) e tells input left long = absurd e
+past old new told (ends.Talked end) e tells input left long = absurd e
 past old new told (ends.BadLine n) (taken, whole, bad, held) tells input left long = absurd (no_room old new input taken left long whole)
 past old new told ends.Refused (taken, whole, refused, held) tells input left long = absurd (no_room old new input taken left long whole)
 past old new told (ends.TooLarge limit) (is, front, held) tells input left long =

@@ -94,6 +94,7 @@ printed output old new faults faults2 told ends.Done (taken, bytes2, whole, prin
     inl (tells, (all_taken old new input taken left whole).1, held ∙ ap (λ b. with_end old.held b) same)
 printed output old new faults faults2 told ends.Usage e tells input bytes left short prints = absurd e
 printed output old new faults faults2 told (ends.Answered end) e tells input bytes left short prints = absurd e
+printed output old new faults faults2 told (ends.Talked end) e tells input bytes left short prints = absurd e
 printed output old new faults faults2 told (ends.BadLine line) (taken, whole, bad, held) tells input bytes left short prints =
     absurd (not_bad input line prints.outline (same_input (λ i. IsBadLine i line) old new input taken left whole bad) prints.spells)
 printed output old new faults faults2 told ends.Refused (taken, whole, many, held) tells input bytes left short prints =
@@ -114,6 +115,7 @@ bad output old new faults faults2 told ends.Done (taken, bytes, whole, prints, h
     absurd (not_bad input line mine.outline wrong mine.spells)
 bad output old new faults faults2 told ends.Usage e tells input line left short wrong = absurd e
 bad output old new faults faults2 told (ends.Answered end) e tells input line left short wrong = absurd e
+bad output old new faults faults2 told (ends.Talked end) e tells input line left short wrong = absurd e
 bad output old new faults faults2 told (ends.BadLine line2) (taken, whole, wrong2, held) tells input line left short wrong =
     let same = bad_once input line2 line (same_input (λ i. IsBadLine i line2) old new input taken left whole wrong2) wrong in
     inl (subst (λ n. TellsExactly told (ends.BadLine n)) same tells, held)
@@ -135,6 +137,7 @@ many output old new faults faults2 told ends.Done (taken, bytes, whole, prints, 
     absurd (not_both output input bytes (same_input (λ i. Prints output i bytes) old new input taken left whole prints) has)
 many output old new faults faults2 told ends.Usage e tells input left short has = absurd e
 many output old new faults faults2 told (ends.Answered end) e tells input left short has = absurd e
+many output old new faults faults2 told (ends.Talked end) e tells input left short has = absurd e
 many output old new faults faults2 told (ends.BadLine line) (taken, whole, wrong, held) tells input left short has =
     absurd (not_bad input line has.outline (same_input (λ i. IsBadLine i line) old new input taken left whole wrong) has.spells)
 many output old new faults faults2 told ends.Refused (taken, whole, has2, held) tells input left short has = inl (tells, held)
@@ -152,6 +155,7 @@ past : (output : ClassOutput) (old new : Wires) (faults faults2 : ℕ) (told : R
 past output old new faults faults2 told ends.Done (taken, bytes, whole, prints, held) tells input left long = absurd (no_room old new input taken left long whole)
 past output old new faults faults2 told ends.Usage e tells input left long = absurd e
 past output old new faults faults2 told (ends.Answered end) e tells input left long = absurd e
+past output old new faults faults2 told (ends.Talked end) e tells input left long = absurd e
 past output old new faults faults2 told (ends.BadLine line) (taken, whole, wrong, held) tells input left long = absurd (no_room old new input taken left long whole)
 past output old new faults faults2 told ends.Refused (taken, whole, has, held) tells input left long = absurd (no_room old new input taken left long whole)
 past output old new faults faults2 told (ends.TooLarge limit) (is, front, held) tells input left long = inl (subst (λ n. TellsExactly told (ends.TooLarge n)) is tells, held)

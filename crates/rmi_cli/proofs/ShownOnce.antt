@@ -137,6 +137,7 @@ ends_exactly old new ends.Done (nodes, items, takes, held) = record {
 }
 ends_exactly old new ends.Usage e = absurd e
 ends_exactly old new (ends.Answered end) e = absurd e
+ends_exactly old new (ends.Talked end) e = absurd e
 ends_exactly old new (ends.BadLine line) e = absurd e
 ends_exactly old new ends.Refused e = absurd e
 ends_exactly old new (ends.TooLarge limit) e = absurd e

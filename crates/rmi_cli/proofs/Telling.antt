@@ -6,7 +6,7 @@ use Rattle.wire_io.specs.declared.put.PutFault.{PutFault}
 use Rattle.rmi_cli.specs.Line.{line_of, status_of_run}
 use Rattle.rmi_cli.specs.Told.{Reported, Took, told_line, TellsEnd}
 use Rattle.rmi_cli.specs.declared.end.RunEnd.{RunEnd}
-use Rattle.rmi_cli.specs.declared.end.RunEnd.TheVariants.{Usage, Answered, Done, BadLine, Refused, TooLarge, NotShown, ListenFault, AcceptFault, ReadFault, WriteFault, OutOfMemory}
+use Rattle.rmi_cli.specs.declared.end.RunEnd.TheVariants.{Usage, Answered, Talked, Done, BadLine, Refused, TooLarge, NotShown, ListenFault, AcceptFault, ReadFault, WriteFault, OutOfMemory}
 
 pub took : (result : Result (Unit {0}) PutFault) (told : Reported) (bytes : List ℕ) → OnOk result (told.after ≡ with_end told.before bytes)
     → IfErr result (λ e. (e.sent < length bytes) × (told.after ≡ with_end told.before (take e.sent bytes)))
@@ -19,6 +19,7 @@ line_told : (end : RunEnd) → end ≢ Done → told_line end ≡ line_of end ++
 line_told Done not = absurd (not refl)
 line_told Usage not = refl
 line_told (Answered end) not = refl
+line_told (Talked end) not = refl
 line_told (BadLine line) not = refl
 line_told Refused not = refl
 line_told (TooLarge limit) not = refl

@@ -25,7 +25,9 @@ use Rattle.rmi_cli.specs.Printing.{PrintsClass, PrintsExactly}
 use Rattle.rmi_cli.specs.Replayed.{ReplaysInput, ReplaysExactly}
 use Rattle.rmi_cli.specs.ServedLinks.{Serving}
 use Rattle.rmi_cli.specs.Shown.{StopsAt, ShowsInput, ShowsExactly}
-use Rattle.rmi_cli.specs.Told.{Reported, TellsExactly, TellsNoCommand, end_of_words}
+use Rattle.rmi_cli.specs.Line.{status_of_run}
+use Rattle.rmi_cli.specs.Told.{Failures, Ran, Reported, TellsExactly, TellsEnd, TellsNoCommand, end_of_words}
+use Rattle.rmi_cli.specs.declared.end.RunEnd.{RunEnd}
 use Rattle.rmi_cli.specs.Worlds.{MakesWorld, MakesWorldExactly}
 use Rattle.rmi_cli.specs.declared.end.RunEnd.TheVariants.{NotShown, OutOfMemory}
 use Rattle.rmi_cli.proofs.Drilling.{drills_exactly}
@@ -46,9 +48,19 @@ pub wanted : (asked : List (List ℕ)) (fault : WordsFault) (told : Reported) �
 wanted asked words.Usage told refused c asks tells = absurd (refused refl c asks)
 wanted asked words.OutOfMemory told refused c asks tells = tells
 
-pub answers_none : (seed : List ℕ) (options : LeaseOptions) (old : Wires) (given : Option (List ℕ)) (told : Reported) → TellsExactly told OutOfMemory
-    → Answers seed options old old given given told
-answers_none seed options old given told tells = answered seed options old old given given told connections.OutOfMemory (memory_at_once seed options old given) (inl tells)
+pub answers_none : (seed : List ℕ) (options : LeaseOptions) (old : Wires) (failed : Failures) (given : Option (List ℕ)) (told : Reported) → TellsExactly told OutOfMemory
+    → Answers seed options old old failed failed given given told
+answers_none seed options old failed given told tells = answered seed options old old failed failed given given told connections.OutOfMemory (memory_at_once seed options old given) (λ same. cc) absurd (inl tells)
+
+-- Want of memory alone is told, and nothing failed.
+none_ran : (Holds : RunEnd → Type 0) (end : RunEnd) (failed : Failures) (told : Reported) → status_of_run end ≡ 5 → Holds end → TellsEnd told end → Ran Holds failed failed told
+none_ran Holds end failed told lacks holds tells = record {
+  end = end;
+  holds = holds;
+  read_fault = λ same. absurd (omega (arith, lacks, same));
+  write_fault = λ same. absurd (omega (arith, lacks, same));
+  tells = tells;
+}
 
 pub answers_none_exactly : (seed : List ℕ) (options : LeaseOptions) (old : Wires) (told : Reported) → TellsExactly told OutOfMemory → AnswersExactly seed options old old told
 unfolding AnswersExactly
@@ -58,8 +70,8 @@ pub serves_none : {I O T H : Type 0} (IsLink : ℕ → Accepted × Asked → Lin
     → TellsExactly told OutOfMemory → Serving {I = I} {O = O} {T = T} {H = H} IsLink IsLost seed serve None log log old old faults faults told
 serves_none IsLink IsLost seed serve log old faults told tells = record { alone = (inl refl, refl); links = tt; end = OutOfMemory; ends = (inr refl, refl); tells = inl tells; unread = refl }
 
-pub replays_none : (old : Wires) (told : Reported) → TellsExactly told OutOfMemory → ReplaysInput old old told
-replays_none old told tells = (OutOfMemory, ([], omega arith, sym (with_front-nothing old.left), refl), inl tells)
+pub replays_none : (old : Wires) (failed : Failures) (told : Reported) → TellsExactly told OutOfMemory → ReplaysInput old old failed failed told
+replays_none old failed told tells = none_ran _ OutOfMemory failed told refl ([], omega arith, sym (with_front-nothing old.left), refl) (inl tells)
 
 pub replays_none_exactly : (old : Wires) (told : Reported) → TellsExactly told OutOfMemory → ReplaysExactly old old told
 replays_none_exactly old told tells = record {
@@ -88,8 +100,9 @@ stops_at_once left = record {
   is = record { is = record { is = record { taken = []; takes = nothing_taken left; least = λ front next others e. absurd (no_front front next others e) } } };
 }
 
-pub shows_none : (old : Wires) (told : Reported) → TellsExactly told OutOfMemory → ShowsInput old old told
-shows_none old told tells = (NotShown faults.OutOfMemory, (record { within = λ input left short. tt; past = λ input left long. tt }, stops_at_once old.left, refl), inl tells)
+pub shows_none : (old : Wires) (failed : Failures) (told : Reported) → TellsExactly told OutOfMemory → ShowsInput old old failed failed told
+shows_none old failed told tells =
+    none_ran _ (NotShown faults.OutOfMemory) failed told refl (record { within = λ input left short. tt; past = λ input left long. tt }, stops_at_once old.left, refl) (inl tells)
 
 pub shows_none_exactly : (old : Wires) (told : Reported) → TellsExactly told OutOfMemory → ShowsExactly old old told
 shows_none_exactly old told tells = record {
@@ -98,14 +111,14 @@ shows_none_exactly old told tells = record {
   past = λ input fault left long stops. inr (inr (inr tells.0));
 }
 
-pub drills_none : (text : DrillText) (seed rounds : ℕ) (old : Wires) (told : Reported) → TellsExactly told OutOfMemory → Drills text seed rounds old old told
-drills_none text seed rounds old told tells = (OutOfMemory, refl, inl tells, refl)
+pub drills_none : (text : DrillText) (seed rounds : ℕ) (old : Wires) (failed : Failures) (told : Reported) → TellsExactly told OutOfMemory → Drills text seed rounds old old failed failed told
+drills_none text seed rounds old failed told tells = record { ran = none_ran _ OutOfMemory failed told refl refl (inl tells); unread = refl }
 
 pub drills_none_exactly : (text : DrillText) (seed rounds : ℕ) (old : Wires) (told : Reported) → TellsExactly told OutOfMemory → DrillsExactly text seed rounds old old told
-drills_none_exactly text seed rounds old told tells = drills_exactly text seed rounds old old told (drills_none text seed rounds old told tells)
+drills_none_exactly text seed rounds old told tells = drills_exactly text seed rounds old old told OutOfMemory refl (inl tells)
 
-pub worlds_none : (old : Wires) (told : Reported) → TellsExactly told OutOfMemory → MakesWorld old old told
-worlds_none old told tells = (OutOfMemory, ([], omega arith, sym (with_front-nothing old.left), refl), inl tells)
+pub worlds_none : (old : Wires) (failed : Failures) (told : Reported) → TellsExactly told OutOfMemory → MakesWorld old old failed failed told
+worlds_none old failed told tells = none_ran _ OutOfMemory failed told refl ([], omega arith, sym (with_front-nothing old.left), refl) (inl tells)
 
 pub worlds_none_exactly : (old : Wires) (told : Reported) → TellsExactly told OutOfMemory → MakesWorldExactly old old told
 worlds_none_exactly old told tells = record {

@@ -1,5 +1,5 @@
 -- What a world's script comes to is determined by the script.
-use Rattle.std.proofs.Common.{◌≡◌, ◌≢◌, ℕ, ◌≤◌, ◌<◌, List, [], length, Some, Result, Ok, Err, ◌⊎◌, inl, inr, refl, ap, sym, subst, ◌∙◌, arith}
+use Rattle.std.proofs.Common.{◌≡◌, ◌≢◌, ℕ, ◌≤◌, ◌<◌, List, [], length, Some, Result, Ok, Err, ◌⊎◌, inl, inr, ap, sym, subst, ◌∙◌, arith}
 use Rattle.lease_world.proofs.Scripts.{comes_once}
 use Rattle.lease_world.specs.declared.fault.WorldFault.{WorldFault}
 use Rattle.lease_world.specs.declared.fault.WorldFault.TheVariants as faults
@@ -51,6 +51,7 @@ module _ (old new : Wires) (told : Reported) (script : List ℕ) (answer : Resul
   within ends.Done (taken, text, whole, mines, held) tells short = inl (at_whole taken (Ok text) whole mines (text_known text) tells held)
   within ends.Usage e tells short = absurd e
   within (ends.Answered end) e tells short = absurd e
+  within (ends.Talked end) e tells short = absurd e
   within (ends.BadLine n) (taken, whole, stops, held) tells short = inl (at_stop taken (ends.BadLine n) whole stops (λ e. cc) tells held)
   within ends.Refused (taken, whole, stops, held) tells short = inl (at_stop taken ends.Refused whole stops (λ e. cc) tells held)
   within (ends.TooLarge limit) (is, (front, long, most, front_is), held) tells short =
@@ -72,6 +73,7 @@ past : (old new : Wires) (told : Reported) (end : RunEnd) → WorldEnds old new 
 past old new told ends.Done (taken, text, whole, runs, held) tells script left long = absurd (no_room old new script taken left long whole)
 past old new told ends.Usage e tells script left long = absurd e
 past old new told (ends.Answered end) e tells script left long = absurd e
+past old new told (ends.Talked end) e tells script left long = absurd e
 past old new told (ends.BadLine n) (taken, whole, stops, held) tells script left long = absurd (no_room old new script taken left long whole)
 past old new told ends.Refused (taken, whole, stops, held) tells script left long = absurd (no_room old new script taken left long whole)
 past old new told (ends.TooLarge limit) (is, front, held) tells script left long = inl (subst (λ n. TellsExactly told (ends.TooLarge n)) is tells, held)
@@ -83,8 +85,8 @@ past old new told ends.WriteFault e tells script left long = inr (inr (inl tells
 past old new told ends.OutOfMemory e tells script left long = inr (inr (inr tells.0))
 
 -- Where the status is 0, the world that was printed keeps its promise.
-pub keeps_promise : (old new : Wires) (told : Reported) → MakesWorld old new told → told.status ≡ 0 → PrintsKeptWorld old new
-keeps_promise old new told (ends.Done, (script, text, whole, of_world, held), tells) ok = record {
+pub keeps_promise : (old new : Wires) (told : Reported) (end : RunEnd) → WorldEnds old new end → TellsEnd told end → told.status ≡ 0 → PrintsKeptWorld old new
+keeps_promise old new told ends.Done (script, text, whole, of_world, held) tells ok = record {
   script = script;
   taken = whole;
   course = of_world.course;
@@ -92,17 +94,18 @@ keeps_promise old new told (ends.Done, (script, text, whole, of_world, held), te
   kept = of_world.promise;
   written = held ∙ ap (λ (t : List ℕ). with_end old.held t) of_world.text_is;
 }
-keeps_promise old new told (ends.Usage, e, tells) ok = absurd e
-keeps_promise old new told (ends.Answered end, e, tells) ok = absurd e
-keeps_promise old new told (ends.BadLine n, e, tells) ok = absurd (never_ends_well told (ends.BadLine n) tells (omega arith) ok)
-keeps_promise old new told (ends.Refused, e, tells) ok = absurd (never_ends_well told ends.Refused tells (omega arith) ok)
-keeps_promise old new told (ends.TooLarge limit, e, tells) ok = absurd (never_ends_well told (ends.TooLarge limit) tells (omega arith) ok)
-keeps_promise old new told (ends.NotShown fault, e, tells) ok = absurd e
-keeps_promise old new told (ends.ListenFault, e, tells) ok = absurd e
-keeps_promise old new told (ends.AcceptFault, e, tells) ok = absurd e
-keeps_promise old new told (ends.ReadFault, e, tells) ok = absurd (never_ends_well told ends.ReadFault tells (omega arith) ok)
-keeps_promise old new told (ends.WriteFault, e, tells) ok = absurd (never_ends_well told ends.WriteFault tells (omega arith) ok)
-keeps_promise old new told (ends.OutOfMemory, e, tells) ok = absurd (never_ends_well told ends.OutOfMemory tells (omega arith) ok)
+keeps_promise old new told ends.Usage e tells ok = absurd e
+keeps_promise old new told (ends.Answered end) e tells ok = absurd e
+keeps_promise old new told (ends.Talked end) e tells ok = absurd e
+keeps_promise old new told (ends.BadLine n) e tells ok = absurd (never_ends_well told (ends.BadLine n) tells (omega arith) ok)
+keeps_promise old new told ends.Refused e tells ok = absurd (never_ends_well told ends.Refused tells (omega arith) ok)
+keeps_promise old new told (ends.TooLarge limit) e tells ok = absurd (never_ends_well told (ends.TooLarge limit) tells (omega arith) ok)
+keeps_promise old new told (ends.NotShown fault) e tells ok = absurd e
+keeps_promise old new told ends.ListenFault e tells ok = absurd e
+keeps_promise old new told ends.AcceptFault e tells ok = absurd e
+keeps_promise old new told ends.ReadFault e tells ok = absurd (never_ends_well told ends.ReadFault tells (omega arith) ok)
+keeps_promise old new told ends.WriteFault e tells ok = absurd (never_ends_well told ends.WriteFault tells (omega arith) ok)
+keeps_promise old new told ends.OutOfMemory e tells ok = absurd (never_ends_well told ends.OutOfMemory tells (omega arith) ok)
 
 -- A world that was made to such an end, which is told, is exact.
 pub makes_exactly : (old new : Wires) (told : Reported) (end : RunEnd) → WorldEnds old new end → TellsEnd told end → MakesWorldExactly old new told

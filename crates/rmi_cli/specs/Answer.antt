@@ -2,12 +2,12 @@
 use Rattle.std.specs.Prelude.{◌≡◌, Bool, ℕ, ◌+◌, ◌%◌, ◌^◌, pos, ◌⊎◌, List, [], ◌++◌, slice_index, Option, Some}
 use Rattle.std.specs.List.{flat_map}
 use Rattle.std.specs.Int.{w64, to_be_bytes}
-use Rattle.wire_io.specs.Wire.{Wires, with_front, with_end, Gave}
+use Rattle.wire_io.specs.Wire.{Wires, with_front, with_end, Gave, Rose}
 use Rattle.history.specs.declared.asks.Event.{Event}
 use Rattle.ports.specs.Ports.{Went}
 use Rattle.call_dispatch.specs.declared.end.ConnEnd.{ConnEnd}
-use Rattle.call_dispatch.specs.declared.end.ConnEnd.TheVariants.{Ended}
-use Rattle.call_dispatch.specs.End.{IsSettled}
+use Rattle.call_dispatch.specs.declared.end.ConnEnd.TheVariants.{Ended, ReadFault}
+use Rattle.call_dispatch.specs.End.{IsSettled, IsWriteFault}
 use Rattle.system_objects.specs.Terms.{Terms}
 use Rattle.call_dispatch.specs.Acts.{States, entries, moments, calls, MayAll, Moves}
 use Rattle.call_dispatch.specs.Tape.{OutsideAnswer, tape}
@@ -22,7 +22,7 @@ use Rattle.sample_app.specs.Does as sample
 use Rattle.conn_server.specs.Plans.{low_signed}
 use Rattle.rmi_cli.specs.Loopback.{loopback_host}
 use Rattle.rmi_cli.specs.Opening.{served_space}
-use Rattle.rmi_cli.specs.Told.{Reported, TellsExactly, TellsEnd}
+use Rattle.rmi_cli.specs.Told.{Failures, Reported, TellsExactly, TellsEnd}
 use Rattle.rmi_cli.specs.declared.end.RunEnd.TheVariants.{Answered}
 use Rattle.rmi_words.specs.declared.options.LeaseOptions.{LeaseOptions}
 
@@ -85,10 +85,12 @@ AnswersWhole seed options old course new told = (opening : Opening) (sents : Lis
     → old.left ≡ Some input → IsWholeInput sample_kinds opening sents input → FindsAll (flat_map entries course.acts) sents
     → (TellsExactly told (Answered Ended) × (new.left ≡ Some []) × AnswersEach (answer_terms seed options.binding) 0 opening sents course) ⊎ IsOutsideStatus told.status
 
--- One connection was served, and its end is told.
-pub record Answers (seed : List ℕ) (options : LeaseOptions) (old new : Wires) (given given_after : Option (List ℕ)) (told : Reported) : Type 0 where
+-- One connection was served, and its end is told. It is a fault of reading or of writing only where the input or the output failed.
+pub record Answers (seed : List ℕ) (options : LeaseOptions) (old new : Wires) (failed failed_after : Failures) (given given_after : Option (List ℕ)) (told : Reported) : Type 0 where
   pub end : ConnEnd
   pub serves : ServesOne seed options old new given given_after end
+  pub read_fault : end ≡ ReadFault → Rose failed.input failed_after.input
+  pub write_fault : IsWriteFault end → Rose failed.output failed_after.output
   pub tells : TellsEnd told (Answered end)
   pub whole : AnswersWhole seed options old serves.course new told
 

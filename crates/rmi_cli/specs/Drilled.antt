@@ -11,11 +11,11 @@ use Rattle.history.specs.Table.{places}
 use Rattle.journal.specs.Written.{journal_text}
 use Rattle.drill.specs.Rounds.{drill_config, drill_events}
 use Rattle.rmi_cli.specs.Replay.{AllTaken}
-use Rattle.rmi_cli.specs.Told.{Reported, TellsExactly, TellsEnd}
+use Rattle.rmi_cli.specs.Told.{Failures, Ran, Reported, TellsExactly}
 use Rattle.rmi_words.specs.declared.command.DrillText.{DrillText}
 use Rattle.rmi_words.specs.declared.command.DrillText.TheVariants.{Summary, Journal}
 use Rattle.rmi_cli.specs.declared.end.RunEnd.{RunEnd}
-use Rattle.rmi_cli.specs.declared.end.RunEnd.TheVariants.{Done, Usage, Answered, BadLine, Refused as RefusedTurn, TooLarge, NotShown, ListenFault, AcceptFault, ReadFault, WriteFault, OutOfMemory}
+use Rattle.rmi_cli.specs.declared.end.RunEnd.TheVariants.{Done, Usage, Answered, Talked, BadLine, Refused as RefusedTurn, TooLarge, NotShown, ListenFault, AcceptFault, ReadFault, WriteFault, OutOfMemory}
 
 -- this text of a history: its summary, or its journal
 abbrev pub text_of : DrillText → SpaceConfig → List Event → List ℕ
@@ -57,6 +57,7 @@ abbrev pub DrillEnds : ℕ → ℕ → List ℕ → Option (List ℕ) → Option
 DrillEnds seed rounds text held held_after Done = TakesAll seed rounds × (held_after ≡ with_end held text)
 DrillEnds seed rounds text held held_after Usage = ⊥
 DrillEnds seed rounds text held held_after (Answered end) = ⊥
+DrillEnds seed rounds text held held_after (Talked end) = ⊥
 DrillEnds seed rounds text held held_after (BadLine line) = ⊥
 DrillEnds seed rounds text held held_after RefusedTurn = IsStopped seed rounds × (held_after ≡ held)
 DrillEnds seed rounds text held held_after (TooLarge limit) = ⊥
@@ -69,9 +70,9 @@ DrillEnds seed rounds text held held_after WriteFault =
 DrillEnds seed rounds text held held_after OutOfMemory = held_after ≡ held
 
 -- A drill was made, which is told, and nothing was read.
-abbrev pub Drills : DrillText → ℕ → ℕ → Wires → Wires → Reported → Type 0
-Drills text seed rounds old new told =
-    (end : RunEnd) × DrillEnds seed rounds (drill_text text seed rounds) old.held new.held end × TellsEnd told end × (new.left ≡ old.left)
+pub record Drills (text : DrillText) (seed rounds : ℕ) (old new : Wires) (failed failed_after : Failures) (told : Reported) : Type 0 where
+  pub ran : Ran (DrillEnds seed rounds (drill_text text seed rounds) old.held new.held) failed failed_after told
+  pub unread : new.left ≡ old.left
 
 -- The output or memory failed.
 abbrev pub HasFailed : ℕ → Type 0

@@ -12,5 +12,7 @@ pub mod Replayed
 pub mod ServedLinks
 pub mod Shown
 pub mod Statuses
+pub mod TalkEnds
+pub mod Talked
 pub mod Told
 pub mod Worlds

@@ -1,17 +1,19 @@
 -- The line that says how a run ended, and the status of the process.
 use Rattle.std.specs.Prelude.{ℕ, codes, List, ◌++◌, decimal}
 use Rattle.rmi_cli.specs.Statuses.{status_of}
+use Rattle.rmi_cli.specs.TalkEnds.{line_of_talk, status_of_talk}
 use Rattle.call_dispatch.specs.Words.{words_of}
 use Rattle.ser_read.specs.declared.fault.StreamFault.{StreamFault}
 use Rattle.ser_read.specs.declared.fault.StreamFault.TheVariants as faults
 use Rattle.ser_read.specs.Words as streams
 use Rattle.rmi_cli.specs.declared.end.RunEnd.{RunEnd}
-use Rattle.rmi_cli.specs.declared.end.RunEnd.TheVariants.{Usage, Answered, Done, BadLine, Refused, TooLarge, NotShown, ListenFault, AcceptFault, ReadFault, WriteFault, OutOfMemory}
+use Rattle.rmi_cli.specs.declared.end.RunEnd.TheVariants.{Usage, Answered, Talked, Done, BadLine, Refused, TooLarge, NotShown, ListenFault, AcceptFault, ReadFault, WriteFault, OutOfMemory}
 
 -- The words of a run's end.
 abbrev pub line_of : RunEnd → List ℕ
 line_of Usage = codes "usage"
 line_of (Answered end) = words_of end
+line_of (Talked end) = line_of_talk end
 line_of Done = codes "done"
 line_of (BadLine line) = codes "bad line " ++ decimal line
 line_of Refused = codes "refused"
@@ -35,6 +37,7 @@ status_of_fault (faults.TooLarge what at) = 6
 abbrev pub status_of_run : RunEnd → ℕ
 status_of_run Usage = 1
 status_of_run (Answered end) = status_of end
+status_of_run (Talked end) = status_of_talk end
 status_of_run Done = 0
 status_of_run (BadLine line) = 2
 status_of_run Refused = 6

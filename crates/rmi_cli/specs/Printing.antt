@@ -18,7 +18,7 @@ use Rattle.rmi_cli.specs.declared.class_input.TheConstants.{OUTLINE_BYTES}
 use Rattle.rmi_cli.specs.declared.class_output.ClassFault.{ClassFault}
 use Rattle.rmi_cli.specs.declared.class_output.ClassFault.TheVariants as causes
 use Rattle.rmi_cli.specs.declared.end.RunEnd.{RunEnd}
-use Rattle.rmi_cli.specs.declared.end.RunEnd.TheVariants.{Done, Usage, Answered, BadLine, Refused, TooLarge, NotShown, ListenFault, AcceptFault, ReadFault, WriteFault, OutOfMemory}
+use Rattle.rmi_cli.specs.declared.end.RunEnd.TheVariants.{Done, Usage, Answered, Talked, BadLine, Refused, TooLarge, NotShown, ListenFault, AcceptFault, ReadFault, WriteFault, OutOfMemory}
 
 -- What is printed of a class: its number in 16 hexadecimal digits and an LF; the text that is hashed, in hexadecimal digits, and an LF; or its
 -- description, as a stream.
@@ -85,6 +85,7 @@ PrintEnds output old new faults faults_after Done =
     (input : List ℕ) × (bytes : List ℕ) × TakesOutline old new input × Prints output input bytes × (new.held ≡ with_end old.held bytes)
 PrintEnds output old new faults faults_after Usage = ⊥
 PrintEnds output old new faults faults_after (Answered end) = ⊥
+PrintEnds output old new faults faults_after (Talked end) = ⊥
 PrintEnds output old new faults faults_after (BadLine line) = (input : List ℕ) × TakesOutline old new input × IsBadLine input line × (new.held ≡ old.held)
 PrintEnds output old new faults faults_after Refused = (input : List ℕ) × TakesOutline old new input × HasTooManyFields output input × (new.held ≡ old.held)
 PrintEnds output old new faults faults_after (TooLarge limit) =

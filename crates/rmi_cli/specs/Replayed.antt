@@ -4,12 +4,12 @@ use Rattle.wire_io.specs.Wire.{Wires, with_front, with_end, NothingLeft}
 use Rattle.wire_io.specs.declared.whole.TheConstants.{READ_BLOCK}
 use Rattle.rmi_cli.specs.Answer.{IsOutsideStatus}
 use Rattle.rmi_cli.specs.Replay.{Outlines, IsBadLine, IsTurnRefused, Replays}
-use Rattle.rmi_cli.specs.Told.{Reported, TellsExactly, TellsEnd}
+use Rattle.rmi_cli.specs.Told.{Failures, Ran, Reported, TellsExactly}
 use Rattle.rmi_cli.specs.declared.journal_input.TheConstants.{JOURNAL_BYTES}
 use Rattle.rmi_cli.specs.declared.outlines.ReplayFault.{ReplayFault}
 use Rattle.rmi_cli.specs.declared.outlines.ReplayFault.TheVariants as faults
 use Rattle.rmi_cli.specs.declared.end.RunEnd.{RunEnd}
-use Rattle.rmi_cli.specs.declared.end.RunEnd.TheVariants.{Done, Usage, Answered, BadLine, Refused, TooLarge, NotShown, ListenFault, AcceptFault, ReadFault, WriteFault, OutOfMemory}
+use Rattle.rmi_cli.specs.declared.end.RunEnd.TheVariants.{Done, Usage, Answered, Talked, BadLine, Refused, TooLarge, NotShown, ListenFault, AcceptFault, ReadFault, WriteFault, OutOfMemory}
 
 -- The whole input was taken, within the limit.
 pub record TakesWhole (old new : Wires) (input : List ℕ) : Type 0 where
@@ -27,6 +27,7 @@ ReplayEnds old new Done =
     (input : List ℕ) × (output : List ℕ) × TakesWhole old new input × Outlines input output × (new.held ≡ with_end old.held output)
 ReplayEnds old new Usage = ⊥
 ReplayEnds old new (Answered end) = ⊥
+ReplayEnds old new (Talked end) = ⊥
 ReplayEnds old new (BadLine line) = (input : List ℕ) × TakesWhole old new input × IsBadLine input line × (new.held ≡ old.held)
 ReplayEnds old new Refused = (input : List ℕ) × TakesWhole old new input × IsTurnRefused input × (new.held ≡ old.held)
 ReplayEnds old new (TooLarge limit) =
@@ -41,8 +42,8 @@ ReplayEnds old new WriteFault =
 ReplayEnds old new OutOfMemory = TakesInputFront old new
 
 -- The input was replayed to an end, which is told.
-abbrev pub ReplaysInput : Wires → Wires → Reported → Type 0
-ReplaysInput old new told = (end : RunEnd) × ReplayEnds old new end × TellsEnd told end
+abbrev pub ReplaysInput : Wires → Wires → Failures → Failures → Reported → Type 0
+ReplaysInput old new = Ran (ReplayEnds old new)
 
 -- The end that an answer makes, and the outline that is written, if any.
 abbrev pub end_of : Result (List ℕ) ReplayFault → RunEnd

@@ -18,9 +18,9 @@ use Rattle.ser_read.specs.Whole.{stream_at, going_on, BreaksWhole}
 use Rattle.graph_text.specs.GraphText.{graph_text}
 use Rattle.rmi_cli.specs.Answer.{IsOutsideStatus}
 use Rattle.rmi_cli.specs.Line.{status_of_run}
-use Rattle.rmi_cli.specs.Told.{Reported, TellsExactly, TellsEnd}
+use Rattle.rmi_cli.specs.Told.{Failures, Ran, Reported, TellsExactly}
 use Rattle.rmi_cli.specs.declared.end.RunEnd.{RunEnd}
-use Rattle.rmi_cli.specs.declared.end.RunEnd.TheVariants.{Done, Usage, Answered, BadLine, Refused, TooLarge, NotShown, ListenFault, AcceptFault, ReadFault, WriteFault, OutOfMemory}
+use Rattle.rmi_cli.specs.declared.end.RunEnd.TheVariants.{Done, Usage, Answered, Talked, BadLine, Refused, TooLarge, NotShown, ListenFault, AcceptFault, ReadFault, WriteFault, OutOfMemory}
 
 -- The whole input was taken, within the limit, and is a stream of these nodes and items: by the grammar, and read from left to right.
 pub record TakesGraph (left_before left_after : Option (List ℕ)) (nodes : List Node) (items : List Item) : Type 0 where
@@ -52,6 +52,7 @@ abbrev pub ShowEnds : Wires → Wires → RunEnd → Type 0
 ShowEnds old new Done = (nodes : List Node) × (items : List Item) × TakesGraph old.left new.left nodes items × (new.held ≡ with_end old.held (graph_text nodes items))
 ShowEnds old new Usage = ⊥
 ShowEnds old new (Answered end) = ⊥
+ShowEnds old new (Talked end) = ⊥
 ShowEnds old new (BadLine line) = ⊥
 ShowEnds old new Refused = ⊥
 ShowEnds old new (TooLarge limit) = ⊥
@@ -65,8 +66,8 @@ ShowEnds old new WriteFault =
 ShowEnds old new OutOfMemory = (nodes : List Node) × (items : List Item) × TakesGraph old.left new.left nodes items × (new.held ≡ old.held)
 
 -- The input was shown to an end, which is told.
-abbrev pub ShowsInput : Wires → Wires → Reported → Type 0
-ShowsInput old new told = (end : RunEnd) × ShowEnds old new end × TellsEnd told end
+abbrev pub ShowsInput : Wires → Wires → Failures → Failures → Reported → Type 0
+ShowsInput old new = Ran (ShowEnds old new)
 
 -- How what is wrong in the bytes of a stream is named.
 abbrev pub told_kind : FaultKind → StreamKind

@@ -1,11 +1,11 @@
 -- How the end of a run is told: by the status of the process, and by a line on the errors' sink.
 use Rattle.std.specs.Prelude.{◌≡◌, ◌≢◌, ℕ, ◌<◌, ◌⊎◌, List, [], ◌∷◌, ◌++◌, length, take, Option}
-use Rattle.wire_io.specs.Wire.{WriteHalf, with_end, Rose}
+use Rattle.wire_io.specs.Wire.{ReadHalf, WriteHalf, with_end, Rose}
 use Rattle.rmi_cli.specs.Line.{line_of, status_of_run}
 use Rattle.rmi_words.specs.declared.command.WordsFault.{WordsFault}
 use Rattle.rmi_words.specs.declared.command.WordsFault.TheVariants as words
 use Rattle.rmi_cli.specs.declared.end.RunEnd.{RunEnd}
-use Rattle.rmi_cli.specs.declared.end.RunEnd.TheVariants.{Usage, Answered, Done, BadLine, Refused, TooLarge, NotShown, ListenFault, AcceptFault, ReadFault, WriteFault, OutOfMemory}
+use Rattle.rmi_cli.specs.declared.end.RunEnd.TheVariants.{Usage, Answered, Talked, Done, BadLine, Refused, TooLarge, NotShown, ListenFault, AcceptFault, ReadFault, WriteFault, OutOfMemory}
 
 -- What a run answered, and what it did to the errors' sink: what that held, where it tells it, and its count of faults, before and after.
 pub record Reported : Type 0 where
@@ -36,6 +36,7 @@ abbrev pub told_line : RunEnd → List ℕ
 told_line Done = []
 told_line Usage = line_of Usage ++ 10 ∷ []
 told_line (Answered end) = line_of (Answered end) ++ 10 ∷ []
+told_line (Talked end) = line_of (Talked end) ++ 10 ∷ []
 told_line (BadLine line) = line_of (BadLine line) ++ 10 ∷ []
 told_line Refused = line_of Refused ++ 10 ∷ []
 told_line (TooLarge limit) = line_of (TooLarge limit) ++ 10 ∷ []
@@ -62,3 +63,24 @@ end_of_words words.OutOfMemory = OutOfMemory
 -- It is told that the words are no command line, or that there was no memory to read them.
 abbrev pub TellsNoCommand : Reported → Type 0
 TellsNoCommand told = TellsExactly told Usage ⊎ TellsExactly told OutOfMemory
+
+-- How often the input and the output have failed.
+pub record Failures : Type 0 where
+  pub input : ℕ
+  pub output : ℕ
+
+abbrev pub failures : {I O : Type 0} → (I → ReadHalf) → (O → WriteHalf) → I → O → Failures
+failures read_half write_half input output = record { input = (read_half input).faults; output = (write_half output).faults }
+
+-- Neither the input nor the output was shut.
+abbrev pub StayOpen : {I O : Type 0} → (I → ReadHalf) → (O → WriteHalf) → I → O → I → O → Type 0
+StayOpen read_half write_half input output input2 output2 =
+    ((read_half input2).shut ≡ (read_half input).shut) × ((write_half output2).shut ≡ (write_half output).shut)
+
+-- A command ran to an end, of which this holds, and which is told. It is a fault of reading or of writing only where the input or the output failed.
+pub record Ran (Holds : RunEnd → Type 0) (failed failed_after : Failures) (told : Reported) : Type 0 where
+  pub end : RunEnd
+  pub holds : Holds end
+  pub read_fault : status_of_run end ≡ 3 → Rose failed.input failed_after.input
+  pub write_fault : status_of_run end ≡ 4 → Rose failed.output failed_after.output
+  pub tells : TellsEnd told end

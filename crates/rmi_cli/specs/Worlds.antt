@@ -8,10 +8,10 @@ use Rattle.wire_io.specs.Wire.{Wires, with_front, with_end}
 use Rattle.wire_io.specs.declared.whole.TheConstants.{READ_BLOCK}
 use Rattle.rmi_cli.specs.Answer.{IsOutsideStatus}
 use Rattle.rmi_cli.specs.Replayed.{TakesWhole, TakesInputFront}
-use Rattle.rmi_cli.specs.Told.{Reported, TellsExactly, TellsEnd}
+use Rattle.rmi_cli.specs.Told.{Failures, Ran, Reported, TellsExactly}
 use Rattle.rmi_cli.specs.declared.journal_input.TheConstants.{JOURNAL_BYTES}
 use Rattle.rmi_cli.specs.declared.end.RunEnd.{RunEnd}
-use Rattle.rmi_cli.specs.declared.end.RunEnd.TheVariants.{Done, Usage, Answered, BadLine, Refused, TooLarge, NotShown, ListenFault, AcceptFault, ReadFault, WriteFault, OutOfMemory}
+use Rattle.rmi_cli.specs.declared.end.RunEnd.TheVariants.{Done, Usage, Answered, Talked, BadLine, Refused, TooLarge, NotShown, ListenFault, AcceptFault, ReadFault, WriteFault, OutOfMemory}
 
 -- What a script comes to: the end of a world, which is printed, or a fault. In the world that is printed each object that is promised to a client is
 -- exported. Want of memory says nothing of the script.
@@ -37,6 +37,7 @@ WorldEnds old new Done =
     (script : List ℕ) × (text : List ℕ) × TakesWhole old new script × ComesTo script (Ok text) × (new.held ≡ with_end old.held text)
 WorldEnds old new Usage = ⊥
 WorldEnds old new (Answered end) = ⊥
+WorldEnds old new (Talked end) = ⊥
 WorldEnds old new (BadLine line) = (script : List ℕ) × TakesWhole old new script × StopsSo script (BadLine line) × (new.held ≡ old.held)
 WorldEnds old new Refused = (script : List ℕ) × TakesWhole old new script × StopsSo script Refused × (new.held ≡ old.held)
 WorldEnds old new (TooLarge limit) =
@@ -51,8 +52,8 @@ WorldEnds old new WriteFault =
 WorldEnds old new OutOfMemory = TakesInputFront old new
 
 -- A world was made to an end, which is told.
-abbrev pub MakesWorld : Wires → Wires → Reported → Type 0
-MakesWorld old new told = (end : RunEnd) × WorldEnds old new end × TellsEnd told end
+abbrev pub MakesWorld : Wires → Wires → Failures → Failures → Reported → Type 0
+MakesWorld old new = Ran (WorldEnds old new)
 
 -- The whole input was taken as a script, and the end of its world was written, in which each object that is promised to a client is exported: it is
 -- usable, and it was exported at a delivery of the dirty call that made it sure.

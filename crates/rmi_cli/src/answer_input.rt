@@ -7,6 +7,7 @@ ghost use Rattle.sample_app.specs.Kinds.{sample_kinds};
 ghost use Rattle.rmi_cli.specs.Answer.{answer_terms, ServesOne, ServesExactly};
 ghost use Rattle.rmi_cli.specs.Opening.{served_opening};
 ghost use Rattle.rmi_words.specs.Options.{IsInRange};
+ghost use Rattle.rmi_cli.specs.Told.{StayOpen};
 
 use crate::loopback::loopback_host;
 use crate::opening::opened_space;
@@ -46,6 +47,7 @@ pub fn answer_input<S: Source, K: Sink, C: Clock>(
         (wires S.half K.half source.old sink.old) (wires S.half K.half source.new sink.new) result }
     ensures read_fault { result ≡ ConnEnd.ReadFault → Rose (S.half source.old).faults (S.half source.new).faults }
     ensures write_fault { IsWriteFault result → Rose (K.half sink.old).faults (K.half sink.new).faults }
+    ensures open { StayOpen S.half K.half source.old sink.old source.new sink.new }
 {
     let mut parts = match answer_parts(alloc, seed, options) {
         Ok(parts) => parts,

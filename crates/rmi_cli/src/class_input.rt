@@ -3,6 +3,7 @@ ghost use Rattle.std.specs.Prelude.{◌≡◌, ◌≢◌};
 ghost use Rattle.wire_io.specs.Wire.{Rose, wires};
 ghost use Rattle.rmi_cli.specs.Line.{status_of_run};
 ghost use Rattle.rmi_cli.specs.Printing.{PrintEnds};
+ghost use Rattle.rmi_cli.specs.Told.{StayOpen};
 
 use crate::class_output::{ClassFault, class_output};
 use crate::end::RunEnd;
@@ -28,6 +29,7 @@ pub fn print_class<S: Source, K: Sink>(
     ensures known { status_of_run result ≢ 1 }
     ensures read_fault { status_of_run result ≡ 3 → Rose (S.half source.old).faults (S.half source.new).faults }
     ensures write_fault { status_of_run result ≡ 4 → Rose (K.half sink.old).faults (K.half sink.new).faults }
+    ensures open { StayOpen S.half K.half source.old sink.old source.new sink.new }
 {
     let limit = OUTLINE_BYTES as u64;
     let input = match take_whole(alloc, source, OUTLINE_BYTES) {

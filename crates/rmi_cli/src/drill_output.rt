@@ -30,6 +30,7 @@ pub fn write_drill<K: Sink>(
     ensures known { status_of_run result ≢ 1 }
     ensures unread { status_of_run result ≢ 3 }
     ensures write_fault { status_of_run result ≡ 4 → Rose (K.half sink.old).faults (K.half sink.new).faults }
+    ensures open { (K.half sink.new).shut ≡ (K.half sink.old).shut }
 {
     let space = match drilled_space(alloc, seed, rounds) {
         Ok(space) => space,

@@ -3,17 +3,21 @@ ghost use Rattle.std.specs.Prelude.{◌≡◌};
 ghost use Rattle.rmi_cli.specs.Line.{status_of_fault};
 ghost use Rattle.rmi_cli.specs.Statuses.{status_of};
 
+use crate::talk_end::{status_of_talk, talk_line};
 use call_dispatch::end::ConnEnd;
+use client_talk::CommandEnd;
 use ser_read::StreamFault;
-use std::fmt;
+use std::alloc::{AllocError, Global};
 
-/// How a run of the program ends. As text it is the line on the errors' sink, without its line feed.
-#[derive(Clone, Copy, Debug)]
+/// The end of a run of the program.
+#[derive(Debug)]
 pub enum RunEnd {
     /// The words are no command line.
     Usage,
     /// One connection was served to this end.
     Answered(ConnEnd),
+    /// A server was asked, and that went no further.
+    Talked(CommandEnd),
     /// All was done. No line tells it.
     Done,
     /// The line of this number, from 1, is none of a journal, of a world's script, or of a class outline.
@@ -36,21 +40,43 @@ pub enum RunEnd {
     OutOfMemory,
 }
 
+// Written out, so that whoever owns one has one call at each exit, and not the drop of each variant.
+impl Drop for RunEnd {
+    fn drop(self) {
+        match self {
+            RunEnd::Talked(end) => drop(end),
+            RunEnd::Usage => {}
+            RunEnd::Answered(_) => {}
+            RunEnd::Done => {}
+            RunEnd::BadLine { line: _ } => {}
+            RunEnd::Refused => {}
+            RunEnd::TooLarge { limit: _ } => {}
+            RunEnd::NotShown(_) => {}
+            RunEnd::ListenFault => {}
+            RunEnd::AcceptFault => {}
+            RunEnd::ReadFault => {}
+            RunEnd::WriteFault => {}
+            RunEnd::OutOfMemory => {}
+        }
+    }
+}
+
 impl RunEnd {
-    ghost use Rattle.std.specs.Prelude.{◌≡◌, IsTrue, ◌↔◌};
-    ghost use Rattle.rmi_cli.specs.Line.{status_of_run};
+    ghost use Rattle.std.specs.Prelude.{◌≡◌, IsTrue, ◌↔◌, IfOk, string_bytes};
+    ghost use Rattle.rmi_cli.specs.Line.{line_of, status_of_run};
     ghost use Rattle.rmi_cli.specs.declared.end.RunEnd.{RunEnd as RunEnds};
 
     /// The status of the process.
-    pub fn status(self) -> u8
-        ensures { result ≡ status_of_run self }
+    pub fn status(&self) -> u8
+        ensures { result ≡ status_of_run self.now }
     {
         match self {
-            RunEnd::Answered(end) => status_of(&end),
+            RunEnd::Answered(end) => status_of(end),
+            RunEnd::Talked(end) => status_of_talk(end),
             RunEnd::Done => 0,
             RunEnd::Usage => 1,
             RunEnd::BadLine { line: _ } => 2,
-            RunEnd::NotShown(fault) => status_of_fault(fault),
+            RunEnd::NotShown(fault) => status_of_fault(*fault),
             RunEnd::ListenFault | RunEnd::AcceptFault | RunEnd::ReadFault => 3,
             RunEnd::WriteFault => 4,
             RunEnd::OutOfMemory => 5,
@@ -59,10 +85,31 @@ impl RunEnd {
     }
 
     /// Whether no line tells it.
-    pub fn is_silent(self) -> bool
-        ensures { IsTrue result ↔ (self ≡ RunEnds.Done) }
+    pub fn is_silent(&self) -> bool
+        ensures { IsTrue result ↔ (self.now ≡ RunEnds.Done) }
     {
         matches!(self, RunEnd::Done)
+    }
+
+    /// Returns the line that tells it, without its line feed.
+    pub fn line(&self, alloc: Global) -> Result<String, AllocError>
+        ensures { IfOk result (λ line. string_bytes line ≡ line_of self.now) }
+    {
+        match self {
+            RunEnd::Usage => "usage".to_string(alloc),
+            RunEnd::Answered(end) => end.to_string(alloc),
+            RunEnd::Talked(end) => talk_line(alloc, end),
+            RunEnd::Done => "done".to_string(alloc),
+            RunEnd::BadLine { line } => format!(in alloc; "bad line {line}"),
+            RunEnd::Refused => "refused".to_string(alloc),
+            RunEnd::TooLarge { limit } => format!(in alloc; "too large bytes at {limit}"),
+            RunEnd::NotShown(fault) => fault.to_string(alloc),
+            RunEnd::ListenFault => "listen fault".to_string(alloc),
+            RunEnd::AcceptFault => "accept fault".to_string(alloc),
+            RunEnd::ReadFault => "read fault".to_string(alloc),
+            RunEnd::WriteFault => "write fault".to_string(alloc),
+            RunEnd::OutOfMemory => "out of memory".to_string(alloc),
+        }
     }
 }
 
@@ -101,29 +148,5 @@ fn status_of_fault(fault: StreamFault) -> u8
         StreamFault::ReadFault => 3,
         StreamFault::OutOfMemory => 5,
         StreamFault::TooLarge { .. } => 6,
-    }
-}
-
-impl fmt::Display for RunEnd {
-    ghost use Rattle.std.specs.Prelude.{Some};
-    ghost use Rattle.rmi_cli.specs.Line.{line_of};
-
-    ghost output = { λ end. Some (line_of end) };
-
-    fn fmt<W: fmt::Write>(&self, f: &mut fmt::Formatter<W>) -> fmt::Result {
-        match *self {
-            RunEnd::Usage => write!(f, "usage"),
-            RunEnd::Answered(end) => write!(f, "{end}"),
-            RunEnd::Done => write!(f, "done"),
-            RunEnd::BadLine { line } => write!(f, "bad line {line}"),
-            RunEnd::Refused => write!(f, "refused"),
-            RunEnd::TooLarge { limit } => write!(f, "too large bytes at {limit}"),
-            RunEnd::NotShown(fault) => write!(f, "{fault}"),
-            RunEnd::ListenFault => write!(f, "listen fault"),
-            RunEnd::AcceptFault => write!(f, "accept fault"),
-            RunEnd::ReadFault => write!(f, "read fault"),
-            RunEnd::WriteFault => write!(f, "write fault"),
-            RunEnd::OutOfMemory => write!(f, "out of memory"),
-        }
     }
 }

@@ -18,6 +18,7 @@ pub fn write_help<K: Sink>(alloc: Global, sink: &mut K, topic: HelpTopic) -> Run
     ensures known { status_of_run result ≢ 1 }
     ensures unread { status_of_run result ≢ 3 }
     ensures write_fault { status_of_run result ≡ 4 → Rose (K.half sink.old).faults (K.half sink.new).faults }
+    ensures open { (K.half sink.new).shut ≡ (K.half sink.old).shut }
 {
     let text = match help_text(alloc, topic) {
         Ok(text) => text,

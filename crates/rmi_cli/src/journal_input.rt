@@ -3,6 +3,7 @@ ghost use Rattle.std.specs.Prelude.{◌≡◌, ◌≢◌};
 ghost use Rattle.wire_io.specs.Wire.{Rose, wires};
 ghost use Rattle.rmi_cli.specs.Line.{status_of_run};
 ghost use Rattle.rmi_cli.specs.Replayed.{ReplayEnds};
+ghost use Rattle.rmi_cli.specs.Told.{StayOpen};
 
 use crate::end::RunEnd;
 use crate::outlines::{ReplayFault, replay};
@@ -21,6 +22,7 @@ pub fn replay_input<S: Source, K: Sink>(alloc: Global, source: &mut S, sink: &mu
     ensures known { status_of_run result ≢ 1 }
     ensures read_fault { status_of_run result ≡ 3 → Rose (S.half source.old).faults (S.half source.new).faults }
     ensures write_fault { status_of_run result ≡ 4 → Rose (K.half sink.old).faults (K.half sink.new).faults }
+    ensures open { StayOpen S.half K.half source.old sink.old source.new sink.new }
 {
     let input = match take_whole(alloc, source, JOURNAL_BYTES) {
         Ok(input) => input,

@@ -4,6 +4,7 @@
 mod answer_input;
 mod class_input;
 mod class_output;
+mod client_output;
 mod drill_output;
 mod end;
 mod help_output;
@@ -16,6 +17,8 @@ mod outlines;
 mod program;
 mod serve_input;
 mod stream_input;
+mod talk_end;
+mod talk_text;
 mod world_input;
 
 pub use answer_input::setup_of;
@@ -26,6 +29,7 @@ pub use journal_input::JOURNAL_BYTES;
 pub use outlines::{ReplayFault, replay};
 pub use program::run;
 pub use rmi_words::{
-    ClassOutput, Command, DrillText, HelpTopic, LeaseOptions, ServeWords, Words, WordsFault,
+    ClassOutput, ClientCommand, Command, DrillText, HelpTopic, LeaseOptions, ServeWords,
+    ServerAddress, Words, WordsFault,
 };
 pub use stream_input::STREAM_BYTES;

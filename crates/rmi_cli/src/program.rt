@@ -1,19 +1,22 @@
 //! All that the program does.
-ghost use Rattle.std.specs.Prelude.{◌≡◌, ◌≢◌, ◌⊎◌, ℕ, None};
+ghost use Rattle.std.specs.Prelude.{◌≡◌, ◌≢◌, ◌⊎◌, ◌++◌, ◌∷◌, [], ℕ, List, Option, None, IfOk, map, string_bytes};
 ghost use Rattle.wire_io.specs.Wire.{Rose, wires};
 ghost use Rattle.rmi_cli.specs.Answer.{Answers, AnswersExactly};
 ghost use Rattle.rmi_words.specs.Command.{AskFor};
 ghost use Rattle.rmi_cli.specs.Drilled.{Drills, DrillsExactly};
 ghost use Rattle.rmi_cli.specs.Helped.{Helps};
 ghost use Rattle.rmi_cli.specs.Limits.{IsInLimits};
-ghost use Rattle.rmi_cli.specs.Line.{status_of_run};
+ghost use Rattle.rmi_cli.specs.Line.{line_of, status_of_run};
 ghost use Rattle.rmi_cli.specs.Printing.{PrintsClass, PrintsExactly};
 ghost use Rattle.rmi_cli.specs.Replayed.{ReplaysInput, ReplaysExactly};
 ghost use Rattle.conn_server.specs.Stops.{IsLostLink};
 ghost use Rattle.rmi_cli.specs.ServedLinks.{IsSampleLink, Serving, serve_plan};
 ghost use Rattle.rmi_cli.specs.Shown.{ShowsInput, ShowsExactly};
-ghost use Rattle.rmi_cli.specs.Told.{told_by, end_of_words, TellsExactly, TellsEnd, TellsNoCommand};
+ghost use Rattle.client_talk.specs.Sessions.{ended_as};
+ghost use Rattle.rmi_cli.specs.Talked.{AsksServer, LinkFailed, SinkFailed, side};
+ghost use Rattle.rmi_cli.specs.Told.{told_by, failures, StayOpen, end_of_words, TellsExactly, TellsEnd, TellsNoCommand};
 ghost use Rattle.rmi_cli.specs.Worlds.{MakesWorld, MakesWorldExactly, PrintsKeptWorld};
+ghost use Rattle.rmi_words.specs.declared.client.ClientCommand.{ClientCommand as ClientCommands};
 ghost use Rattle.rmi_words.specs.declared.command.ClassOutput.{ClassOutput as ClassOutputs};
 ghost use Rattle.rmi_words.specs.declared.command.Command.{Command as Commands};
 ghost use Rattle.rmi_words.specs.declared.command.DrillText.{DrillText as DrillTexts};
@@ -21,6 +24,7 @@ ghost use Rattle.rmi_words.specs.declared.command.HelpTopic.{HelpTopic as Topics
 
 use crate::answer_input::answer_input;
 use crate::class_input::print_class;
+use crate::client_output::ask_server;
 use crate::drill_output::write_drill;
 use crate::end::RunEnd;
 use crate::help_output::write_help;
@@ -31,9 +35,10 @@ use crate::stream_input::show_input;
 use crate::world_input::print_world;
 use rmi_words::{Command, LeaseOptions, ServeWords, Words, WordsFault};
 use sample_app::SampleHand;
-use std::alloc::Global;
+use std::alloc::{AllocError, Global};
 use std::sync::Wait;
 use std::thread::Threads;
+use wire_io::Dialer;
 use wire_io::clock::Clock;
 use wire_io::listener::Listener;
 use wire_io::put::put_all;
@@ -46,20 +51,30 @@ use wire_io::source::Source;
 /// |---|---|
 /// | 0 | the command ended well |
 /// | 1 | only where the words are no command line; it, or 5, comes wherever they are none, and nothing is read or written then |
-/// | 2 | the input is not what the command reads |
-/// | 3 | only where reading the input failed, or at `serve` the listener |
-/// | 4 | only where writing the output failed |
+/// | 2 | the input, or what a server answers, is not what the command reads |
+/// | 3 | only where reading the input failed, at `serve` the listener, or at a client's command the dialer or a source of its links |
+/// | 4 | only where writing the output failed, or at a client's command a sink of its links |
 /// | 5 | for want of memory |
 /// | 6 | at a limit |
+/// | 7 | an object or a method is not there, or a server answers an exception |
 ///
 /// One line on the errors' sink tells the end, but that all was done, which no line tells. That it could not be written changes nothing.
 /// Where there is no memory for the line, the status is 5, and the line is that of want of memory.
 #[tactic(auto, using(crate::proofs::Telling::took))]
-pub fn run<'t, R: Threads + Wait + Sync, I: Source, O: Sink, E: Sink, T: Clock, L: Listener>(
+pub fn run<
+    't,
+    R: Threads + Wait + Sync,
+    I: Source,
+    O: Sink,
+    E: Sink,
+    T: Clock,
+    L: Listener,
+    D: Dialer,
+>(
     rt: &'t R,
     alloc: Global,
     words: &Words,
-    host: &mut Host<I, O, E, T, L, SampleHand<'t, R>>,
+    host: &mut Host<I, O, E, T, L, D, SampleHand<'t, R>>,
 ) -> u8
     // Words that ask for nothing are no command line: that is told, with the status 1, or want of memory to read them, with the status 5.
     ensures usage { result ≡ 1 → (command : Commands) → AskFor words.now command → ⊥ }
@@ -74,6 +89,8 @@ pub fn run<'t, R: Threads + Wait + Sync, I: Source, O: Sink, E: Sink, T: Clock, 
     ensures answer { (options : LeaseOptions) → AskFor words.now (Command.Answer options) → Answers host.old.seed options
         (wires I.half O.half host.old.input host.old.output)
         (wires I.half O.half host.new.input host.new.output)
+        (failures I.half O.half host.old.input host.old.output)
+        (failures I.half O.half host.new.input host.new.output)
         (T.given host.old.ticks) (T.given host.new.ticks)
         (told_by E.half host.old.errors host.new.errors result) }
     ensures exact { (options : LeaseOptions) → AskFor words.now (Command.Answer options) → AnswersExactly host.old.seed options
@@ -95,10 +112,21 @@ pub fn run<'t, R: Threads + Wait + Sync, I: Source, O: Sink, E: Sink, T: Clock, 
         (O.half host.old.output).faults (O.half host.new.output).faults
         (told_by E.half host.old.errors host.new.errors result) }
 
+    // `list`, `lookup`, `bind` and `unbind` dial a server and talk to it as their scripts say: what was sent and read on the link, and how it ended, is
+    // one talk, the only one of the bytes that the server answers, where the link tells them, unless something outside failed or memory lacked. Nothing is
+    // sent after the first end. The names, the reference or `ok` are printed where it ended well, and the end is told. The link's halves are left, shut.
+    ensures asks { (asked : ClientCommands) (given : Option (List ℕ)) → AskFor words.now (Command.Client asked) → AsksServer asked
+        (side (D.dialing host.old.dialer) (map (ended_as D.In.half D.Out.half) host.old.talked.items) (O.half host.old.output))
+        (side (D.dialing host.new.dialer) (map (ended_as D.In.half D.Out.half) host.new.talked.items) (O.half host.new.output))
+        given given
+        (told_by E.half host.old.errors host.new.errors result) }
+
     // `replay` takes the whole input as a journal, and writes the outline of the history that it spells, or says why it has none.
     ensures replay { AskFor words.now Command.Replay → ReplaysInput
         (wires I.half O.half host.old.input host.old.output)
         (wires I.half O.half host.new.input host.new.output)
+        (failures I.half O.half host.old.input host.old.output)
+        (failures I.half O.half host.new.input host.new.output)
         (told_by E.half host.old.errors host.new.errors result) }
     ensures replay_exact { AskFor words.now Command.Replay → ReplaysExactly
         (wires I.half O.half host.old.input host.old.output)
@@ -109,6 +137,8 @@ pub fn run<'t, R: Threads + Wait + Sync, I: Source, O: Sink, E: Sink, T: Clock, 
     ensures show { AskFor words.now Command.Show → ShowsInput
         (wires I.half O.half host.old.input host.old.output)
         (wires I.half O.half host.new.input host.new.output)
+        (failures I.half O.half host.old.input host.old.output)
+        (failures I.half O.half host.new.input host.new.output)
         (told_by E.half host.old.errors host.new.errors result) }
     ensures show_exact { AskFor words.now Command.Show → ShowsExactly
         (wires I.half O.half host.old.input host.old.output)
@@ -120,6 +150,8 @@ pub fn run<'t, R: Threads + Wait + Sync, I: Source, O: Sink, E: Sink, T: Clock, 
     ensures drill { (text : DrillTexts) (seed rounds : ℕ) → AskFor words.now (Command.Drill text seed rounds) → Drills text seed rounds
         (wires I.half O.half host.old.input host.old.output)
         (wires I.half O.half host.new.input host.new.output)
+        (failures I.half O.half host.old.input host.old.output)
+        (failures I.half O.half host.new.input host.new.output)
         (told_by E.half host.old.errors host.new.errors result) }
     ensures drill_exact { (text : DrillTexts) (seed rounds : ℕ) → AskFor words.now (Command.Drill text seed rounds) → DrillsExactly text seed rounds
         (wires I.half O.half host.old.input host.old.output)
@@ -131,12 +163,15 @@ pub fn run<'t, R: Threads + Wait + Sync, I: Source, O: Sink, E: Sink, T: Clock, 
     ensures world { AskFor words.now Command.World → MakesWorld
         (wires I.half O.half host.old.input host.old.output)
         (wires I.half O.half host.new.input host.new.output)
+        (failures I.half O.half host.old.input host.old.output)
+        (failures I.half O.half host.new.input host.new.output)
         (told_by E.half host.old.errors host.new.errors result) }
     ensures world_exact { AskFor words.now Command.World → MakesWorldExactly
         (wires I.half O.half host.old.input host.old.output)
         (wires I.half O.half host.new.input host.new.output)
         (told_by E.half host.old.errors host.new.errors result) }
-    // Where it ends well, each object that is promised to a client is exported in the world that is printed.
+    // Where it ends well, each object that is promised to a client is exported in the world that is printed. This is `world` and a law of all worlds,
+    // `lease_world::laws::what_is_promised_is_exported`: it says no more of the program.
     ensures promise { AskFor words.now Command.World → result ≡ 0 → PrintsKeptWorld
         (wires I.half O.half host.old.input host.old.output)
         (wires I.half O.half host.new.input host.new.output) }
@@ -160,16 +195,38 @@ pub fn run<'t, R: Threads + Wait + Sync, I: Source, O: Sink, E: Sink, T: Clock, 
         (O.half host.old.output).faults (O.half host.new.output).faults
         (told_by E.half host.old.errors host.new.errors result) }
 
-    // No other command asks the clock, none but `serve` the listener or leaves anything as served, and none changes the seed.
+    // No other command asks the clock; none but `serve` asks the listener or leaves anything as served; none but a client's command dials, or leaves
+    // halves of links, and these take nothing of the input; and none changes the seed.
     ensures clock { ((options : LeaseOptions) → AskFor words.now (Command.Answer options) → ⊥) → T.given host.new.ticks ≡ T.given host.old.ticks }
     ensures network { ((serve : ServeWords) → AskFor words.now (Command.Serve serve) → ⊥) → host.new.listener ≡ host.old.listener }
     ensures served { ((serve : ServeWords) → AskFor words.now (Command.Serve serve) → ⊥) → host.new.served ≡ None }
     ensures seed { host.new.seed ≡ host.old.seed }
+    ensures dialing { ((asked : ClientCommands) → AskFor words.now (Command.Client asked) → ⊥)
+        → (host.new.dialer ≡ host.old.dialer) × (host.new.talked ≡ host.old.talked) }
+    ensures unread { (asked : ClientCommands) → AskFor words.now (Command.Client asked) → host.new.input ≡ host.old.input }
 
     // The outside's failures.
-    ensures read_fault { ((serve : ServeWords) → AskFor words.now (Command.Serve serve) → ⊥) → result ≡ 3 → Rose (I.half host.old.input).faults (I.half host.new.input).faults }
+    ensures read_fault { ((serve : ServeWords) → AskFor words.now (Command.Serve serve) → ⊥) → ((asked : ClientCommands) → AskFor words.now (Command.Client asked) → ⊥)
+        → result ≡ 3 → Rose (I.half host.old.input).faults (I.half host.new.input).faults }
     ensures network_fault { (serve : ServeWords) → AskFor words.now (Command.Serve serve) → result ≡ 3 → Rose (L.listening host.old.listener).faults (L.listening host.new.listener).faults }
-    ensures write_fault { result ≡ 4 → Rose (O.half host.old.output).faults (O.half host.new.output).faults }
+    ensures write_fault { ((asked : ClientCommands) → AskFor words.now (Command.Client asked) → ⊥)
+        → result ≡ 4 → Rose (O.half host.old.output).faults (O.half host.new.output).faults }
+    ensures link_fault { (asked : ClientCommands) → AskFor words.now (Command.Client asked) → result ≡ 3 → LinkFailed
+        (side (D.dialing host.old.dialer) (map (ended_as D.In.half D.Out.half) host.old.talked.items) (O.half host.old.output))
+        (side (D.dialing host.new.dialer) (map (ended_as D.In.half D.Out.half) host.new.talked.items) (O.half host.new.output)) }
+    ensures sink_fault { (asked : ClientCommands) → AskFor words.now (Command.Client asked) → result ≡ 4 → SinkFailed
+        (side (D.dialing host.old.dialer) (map (ended_as D.In.half D.Out.half) host.old.talked.items) (O.half host.old.output))
+        (side (D.dialing host.new.dialer) (map (ended_as D.In.half D.Out.half) host.new.talked.items) (O.half host.new.output)) }
+
+    // Where the listener and the output did not fail, `serve` ends well, or memory lacked: however its links ended.
+    ensures settled { (serve : ServeWords) → AskFor words.now (Command.Serve serve)
+        → ¬ Rose (L.listening host.old.listener).faults (L.listening host.new.listener).faults
+        → ¬ Rose (O.half host.old.output).faults (O.half host.new.output).faults
+        → (result ≡ 0) ⊎ (result ≡ 5) }
+
+    // Neither the input, nor the output, nor the errors' sink is shut.
+    ensures open { StayOpen I.half O.half host.old.input host.old.output host.new.input host.new.output }
+    ensures errors_open { (E.half host.new.errors).shut ≡ (E.half host.old.errors).shut }
 {
     host.served = None;
     match words.command(alloc) {
@@ -181,7 +238,8 @@ pub fn run<'t, R: Threads + Wait + Sync, I: Source, O: Sink, E: Sink, T: Clock, 
 /// Writes the line that tells why the words gave no command, and answers the status. It takes no memory.
 #[tactic(auto, using(crate::proofs::Telling::took))]
 fn report_words<E: Sink>(errors: &mut E, fault: WordsFault) -> u8
-    ensures { TellsExactly (told_by E.half errors.old errors.new result) (end_of_words fault) }
+    ensures told { TellsExactly (told_by E.half errors.old errors.new result) (end_of_words fault) }
+    ensures open { (E.half errors.new).shut ≡ (E.half errors.old).shut }
 {
     match fault {
         WordsFault::Usage => {
@@ -197,17 +255,28 @@ fn report_words<E: Sink>(errors: &mut E, fault: WordsFault) -> u8
 
 /// Does what a command says, and answers the status of the process, with the clauses of `run`.
 #[tactic(auto, using(crate::proofs::Telling::took))]
-fn obey<'t, R: Threads + Wait + Sync, I: Source, O: Sink, E: Sink, T: Clock, L: Listener>(
+fn obey<
+    't,
+    R: Threads + Wait + Sync,
+    I: Source,
+    O: Sink,
+    E: Sink,
+    T: Clock,
+    L: Listener,
+    D: Dialer,
+>(
     rt: &'t R,
     alloc: Global,
     command: Command,
-    host: &mut Host<I, O, E, T, L, SampleHand<'t, R>>,
+    host: &mut Host<I, O, E, T, L, D, SampleHand<'t, R>>,
 ) -> u8
     requires limits { IsInLimits command }
     ensures known { result ≢ 1 }
     ensures answer { (options : LeaseOptions) → command ≡ Command.Answer options → Answers host.old.seed options
         (wires I.half O.half host.old.input host.old.output)
         (wires I.half O.half host.new.input host.new.output)
+        (failures I.half O.half host.old.input host.old.output)
+        (failures I.half O.half host.new.input host.new.output)
         (T.given host.old.ticks) (T.given host.new.ticks)
         (told_by E.half host.old.errors host.new.errors result) }
     ensures exact { (options : LeaseOptions) → command ≡ Command.Answer options → AnswersExactly host.old.seed options
@@ -222,9 +291,16 @@ fn obey<'t, R: Threads + Wait + Sync, I: Source, O: Sink, E: Sink, T: Clock, L: 
         (wires I.half O.half host.new.input host.new.output)
         (O.half host.old.output).faults (O.half host.new.output).faults
         (told_by E.half host.old.errors host.new.errors result) }
+    ensures asks { (asked : ClientCommands) (given : Option (List ℕ)) → command ≡ Command.Client asked → AsksServer asked
+        (side (D.dialing host.old.dialer) (map (ended_as D.In.half D.Out.half) host.old.talked.items) (O.half host.old.output))
+        (side (D.dialing host.new.dialer) (map (ended_as D.In.half D.Out.half) host.new.talked.items) (O.half host.new.output))
+        given given
+        (told_by E.half host.old.errors host.new.errors result) }
     ensures replay { command ≡ Command.Replay → ReplaysInput
         (wires I.half O.half host.old.input host.old.output)
         (wires I.half O.half host.new.input host.new.output)
+        (failures I.half O.half host.old.input host.old.output)
+        (failures I.half O.half host.new.input host.new.output)
         (told_by E.half host.old.errors host.new.errors result) }
     ensures replay_exact { command ≡ Command.Replay → ReplaysExactly
         (wires I.half O.half host.old.input host.old.output)
@@ -233,6 +309,8 @@ fn obey<'t, R: Threads + Wait + Sync, I: Source, O: Sink, E: Sink, T: Clock, L: 
     ensures show { command ≡ Command.Show → ShowsInput
         (wires I.half O.half host.old.input host.old.output)
         (wires I.half O.half host.new.input host.new.output)
+        (failures I.half O.half host.old.input host.old.output)
+        (failures I.half O.half host.new.input host.new.output)
         (told_by E.half host.old.errors host.new.errors result) }
     ensures show_exact { command ≡ Command.Show → ShowsExactly
         (wires I.half O.half host.old.input host.old.output)
@@ -241,6 +319,8 @@ fn obey<'t, R: Threads + Wait + Sync, I: Source, O: Sink, E: Sink, T: Clock, L: 
     ensures drill { (text : DrillTexts) (seed rounds : ℕ) → command ≡ Command.Drill text seed rounds → Drills text seed rounds
         (wires I.half O.half host.old.input host.old.output)
         (wires I.half O.half host.new.input host.new.output)
+        (failures I.half O.half host.old.input host.old.output)
+        (failures I.half O.half host.new.input host.new.output)
         (told_by E.half host.old.errors host.new.errors result) }
     ensures drill_exact { (text : DrillTexts) (seed rounds : ℕ) → command ≡ Command.Drill text seed rounds → DrillsExactly text seed rounds
         (wires I.half O.half host.old.input host.old.output)
@@ -249,6 +329,8 @@ fn obey<'t, R: Threads + Wait + Sync, I: Source, O: Sink, E: Sink, T: Clock, L: 
     ensures world { command ≡ Command.World → MakesWorld
         (wires I.half O.half host.old.input host.old.output)
         (wires I.half O.half host.new.input host.new.output)
+        (failures I.half O.half host.old.input host.old.output)
+        (failures I.half O.half host.new.input host.new.output)
         (told_by E.half host.old.errors host.new.errors result) }
     ensures world_exact { command ≡ Command.World → MakesWorldExactly
         (wires I.half O.half host.old.input host.old.output)
@@ -272,9 +354,22 @@ fn obey<'t, R: Threads + Wait + Sync, I: Source, O: Sink, E: Sink, T: Clock, L: 
     ensures network { ((serve : ServeWords) → command ≡ Command.Serve serve → ⊥) → host.new.listener ≡ host.old.listener }
     ensures served { ((serve : ServeWords) → command ≡ Command.Serve serve → ⊥) → host.new.served ≡ host.old.served }
     ensures seed { host.new.seed ≡ host.old.seed }
-    ensures read_fault { ((serve : ServeWords) → command ≡ Command.Serve serve → ⊥) → result ≡ 3 → Rose (I.half host.old.input).faults (I.half host.new.input).faults }
+    ensures dialing { ((asked : ClientCommands) → command ≡ Command.Client asked → ⊥)
+        → (host.new.dialer ≡ host.old.dialer) × (host.new.talked ≡ host.old.talked) }
+    ensures unread { (asked : ClientCommands) → command ≡ Command.Client asked → host.new.input ≡ host.old.input }
+    ensures read_fault { ((serve : ServeWords) → command ≡ Command.Serve serve → ⊥) → ((asked : ClientCommands) → command ≡ Command.Client asked → ⊥)
+        → result ≡ 3 → Rose (I.half host.old.input).faults (I.half host.new.input).faults }
     ensures network_fault { (serve : ServeWords) → command ≡ Command.Serve serve → result ≡ 3 → Rose (L.listening host.old.listener).faults (L.listening host.new.listener).faults }
-    ensures write_fault { result ≡ 4 → Rose (O.half host.old.output).faults (O.half host.new.output).faults }
+    ensures write_fault { ((asked : ClientCommands) → command ≡ Command.Client asked → ⊥)
+        → result ≡ 4 → Rose (O.half host.old.output).faults (O.half host.new.output).faults }
+    ensures link_fault { (asked : ClientCommands) → command ≡ Command.Client asked → result ≡ 3 → LinkFailed
+        (side (D.dialing host.old.dialer) (map (ended_as D.In.half D.Out.half) host.old.talked.items) (O.half host.old.output))
+        (side (D.dialing host.new.dialer) (map (ended_as D.In.half D.Out.half) host.new.talked.items) (O.half host.new.output)) }
+    ensures sink_fault { (asked : ClientCommands) → command ≡ Command.Client asked → result ≡ 4 → SinkFailed
+        (side (D.dialing host.old.dialer) (map (ended_as D.In.half D.Out.half) host.old.talked.items) (O.half host.old.output))
+        (side (D.dialing host.new.dialer) (map (ended_as D.In.half D.Out.half) host.new.talked.items) (O.half host.new.output)) }
+    ensures open { StayOpen I.half O.half host.old.input host.old.output host.new.input host.new.output }
+    ensures errors_open { (E.half host.new.errors).shut ≡ (E.half host.old.errors).shut }
 {
     match command {
         Command::Answer(options) => {
@@ -299,6 +394,16 @@ fn obey<'t, R: Threads + Wait + Sync, I: Source, O: Sink, E: Sink, T: Clock, L: 
             );
             host.served = served.report;
             report_end(alloc, &mut host.errors, served.end)
+        }
+        Command::Client(asked) => {
+            let end = ask_server(
+                alloc,
+                &mut host.dialer,
+                &mut host.talked,
+                &mut host.output,
+                asked,
+            );
+            report_end(alloc, &mut host.errors, end)
         }
         Command::Replay => {
             let end = replay_input(alloc, &mut host.input, &mut host.output);
@@ -333,11 +438,12 @@ fn obey<'t, R: Threads + Wait + Sync, I: Source, O: Sink, E: Sink, T: Clock, L: 
 fn report_end<E: Sink>(alloc: Global, errors: &mut E, end: RunEnd) -> u8
     ensures told { TellsEnd (told_by E.half errors.old errors.new result) end }
     ensures status { (result ≡ status_of_run end) ⊎ (result ≡ 5) }
+    ensures open { (E.half errors.new).shut ≡ (E.half errors.old).shut }
 {
     if end.is_silent() {
         return end.status();
     }
-    match format!(in alloc; "{end}\n") {
+    match line_with_end(alloc, &end) {
         Ok(line) => {
             let _ = put_all(errors, line.as_bytes());
             end.status()
@@ -347,4 +453,13 @@ fn report_end<E: Sink>(alloc: Global, errors: &mut E, end: RunEnd) -> u8
             RunEnd::OutOfMemory.status()
         }
     }
+}
+
+/// Returns the line that tells an end, with its line feed.
+fn line_with_end(alloc: Global, end: &RunEnd) -> Result<String, AllocError>
+    ensures { IfOk result (λ line. string_bytes line ≡ line_of end.now ++ 10 ∷ []) }
+{
+    let mut line = end.line(alloc)?;
+    line.push_str("\n")?;
+    Ok(line)
 }

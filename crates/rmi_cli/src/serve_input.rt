@@ -18,7 +18,7 @@ use crate::end::RunEnd;
 use crate::loopback::loopback_host;
 use crate::opening::opened_space;
 use call_dispatch::Book;
-use conn_server::{Report, ServePlan, Stop, serve};
+use conn_server::{Report, ServePlan, Server, Stop};
 use rmi_words::ServeWords;
 use sample_app::{SampleCrew, SampleHand, sample_book};
 use space::{Space, outline};
@@ -65,6 +65,7 @@ pub fn serve_input<'t, R: Threads + Wait + Sync, L: Listener, K: Sink>(
     ensures known { status_of_run result.end ≢ 1 }
     ensures fault { status_of_run result.end ≡ 3 → Rose (L.listening listener.old).faults (L.listening listener.new).faults }
     ensures write_fault { status_of_run result.end ≡ 4 → Rose (K.half sink.old).faults (K.half sink.new).faults }
+    ensures open { (K.half sink.new).shut ≡ (K.half sink.old).shut }
 {
     match serve_parts(rt, alloc, seed, words) {
         Ok(parts) => serve_on(rt, alloc, listener, sink, parts, words.port),
@@ -94,6 +95,7 @@ fn serve_on<'t, R: Threads + Wait + Sync, L: Listener, K: Sink>(
     ensures known { status_of_run result.end ≢ 1 }
     ensures fault { status_of_run result.end ≡ 3 → Rose (L.listening listener.old).faults (L.listening listener.new).faults }
     ensures write_fault { status_of_run result.end ≡ 4 → Rose (K.half sink.old).faults (K.half sink.new).faults }
+    ensures open { (K.half sink.new).shut ≡ (K.half sink.old).shut }
 {
     if listener.listen("127.0.0.1", port).is_err() {
         return nothing_served(RunEnd::ListenFault);
@@ -131,7 +133,13 @@ fn serve_links<'t, R: Threads + Wait + Sync, L: Listener>(
         lock,
         root,
     } = parts;
-    serve(rt, alloc, listener, &crew, &book, lock, root, &plan)
+    let server = Server {
+        rt,
+        alloc,
+        crew: &crew,
+        book: &book,
+    };
+    server.serve(listener, lock, root, &plan)
 }
 
 /// Nothing was served.
@@ -144,8 +152,9 @@ fn nothing_served<I, O, T, H>(end: RunEnd) -> ServeOutcome<I, O, T, H>
 /// Writes the outline of the space that is left, and answers how that ended.
 fn print_outline<K: Sink>(alloc: Global, sink: &mut K, space: &Space) -> RunEnd
     requires { space.now.configuration.stored ≡ true }
-    ensures { Printed (K.half sink.old).held (K.half sink.new).held (K.half sink.old).faults (K.half sink.new).faults
+    ensures printed { Printed (K.half sink.old).held (K.half sink.new).held (K.half sink.old).faults (K.half sink.new).faults
         (outline space.now.configuration space.now.events) result }
+    ensures open { (K.half sink.new).shut ≡ (K.half sink.old).shut }
 {
     match outline(alloc, space) {
         Ok(text) => match put_all(sink, text.as_slice()) {

@@ -4,6 +4,7 @@ ghost use Rattle.wire_io.specs.Wire.{Rose, wires};
 ghost use Rattle.ser_read.specs.Here.{Caused};
 ghost use Rattle.rmi_cli.specs.Line.{status_of_run};
 ghost use Rattle.rmi_cli.specs.Shown.{TakesGraph, IsFaultOf, StopsAt, ShowEnds, EndsExactly};
+ghost use Rattle.rmi_cli.specs.Told.{StayOpen};
 
 use crate::end::RunEnd;
 use graph_text::graph_text;
@@ -26,6 +27,7 @@ pub fn show_input<S: Source, K: Sink>(alloc: Global, source: &mut S, sink: &mut 
     ensures known { status_of_run result ≢ 1 }
     ensures read_fault { status_of_run result ≡ 3 → Rose (S.half source.old).faults (S.half source.new).faults }
     ensures write_fault { status_of_run result ≡ 4 → Rose (K.half sink.old).faults (K.half sink.new).faults }
+    ensures open { StayOpen S.half K.half source.old sink.old source.new sink.new }
 {
     let graph = match read_input(alloc, source) {
         Ok(graph) => graph,
@@ -47,6 +49,7 @@ fn read_input<S: Source>(alloc: Global, source: &mut S) -> Result<Graph, StreamF
     ensures taken { IfOk result (λ graph. TakesGraph (S.half source.old).left (S.half source.new).left graph.nodes graph.items) }
     ensures fault { IfErr result (IsFaultOf (S.half source.old).left) }
     ensures stops { IfErr result (StopsAt (S.half source.old).left (S.half source.new).left) }
+    ensures open { (S.half source.new).shut ≡ (S.half source.old).shut }
 {
     let mut pull = Pull::new(source);
     read_marked(alloc, &mut pull)
@@ -60,6 +63,7 @@ fn read_marked<S: Source>(alloc: Global, pull: &mut Pull<'_, S>) -> Result<Graph
     ensures taken { IfOk result (λ graph. TakesGraph (S.half pull.old.source.now).left (S.half pull.new.source.now).left graph.nodes graph.items) }
     ensures fault { IfErr result (IsFaultOf (S.half pull.old.source.now).left) }
     ensures stops { IfErr result (StopsAt (S.half pull.old.source.now).left (S.half pull.new.source.now).left) }
+    ensures open { (S.half pull.new.source.now).shut ≡ (S.half pull.old.source.now).shut }
 {
     pull.mark(STREAM_BYTES);
     read_to_end(alloc, pull)

@@ -3,6 +3,7 @@ ghost use Rattle.std.specs.Prelude.{◌≡◌, ◌≢◌};
 ghost use Rattle.wire_io.specs.Wire.{Rose, wires};
 ghost use Rattle.rmi_cli.specs.Line.{status_of_run};
 ghost use Rattle.rmi_cli.specs.Worlds.{WorldEnds, end_of_fault};
+ghost use Rattle.rmi_cli.specs.Told.{StayOpen};
 
 use crate::end::RunEnd;
 use crate::journal_input::JOURNAL_BYTES;
@@ -19,6 +20,7 @@ pub fn print_world<S: Source, K: Sink>(alloc: Global, source: &mut S, sink: &mut
     ensures known { status_of_run result ≢ 1 }
     ensures read_fault { status_of_run result ≡ 3 → Rose (S.half source.old).faults (S.half source.new).faults }
     ensures write_fault { status_of_run result ≡ 4 → Rose (K.half sink.old).faults (K.half sink.new).faults }
+    ensures open { StayOpen S.half K.half source.old sink.old source.new sink.new }
 {
     let limit = JOURNAL_BYTES as u64;
     let input = match take_whole(alloc, source, JOURNAL_BYTES) {

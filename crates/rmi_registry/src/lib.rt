@@ -7,5 +7,5 @@ pub mod laws;
 mod names;
 
 pub use binding::{Binding, BindingList};
-pub use history::Name;
+pub use history::{Name, NameTooLong};
 pub use names::{NameFault, Names, NotBound};

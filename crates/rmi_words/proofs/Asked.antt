@@ -1,17 +1,21 @@
 -- What holds wherever words ask for a command.
-use Rattle.std.proofs.Common.{◌≡◌, ℕ, ◌≤◌, ◌<◌, ◌^◌, List, [], ◌∷◌, get_or, drop, Bool, true, false, true≢false, ◌==◌, Option, Some, None, codes, if◌then◌else◌, refl, ap, sym, subst, ◌∙◌, arith}
+use Rattle.std.proofs.Common.{◌≡◌, ℕ, ◌≤◌, ◌<◌, ◌^◌, List, [], ◌∷◌, get_or, drop, Bool, true, false, Option, Some, None, codes, refl, ap, ap₂, sym, subst, ◌∙◌, arith}
 use Rattle.std.specs.Prelude.{slice_get}
 use Rattle.std.proofs.lemmas.Fmt.{decimal_injective}
 use Rattle.history.specs.declared.limits.TheConstants.{MAX_DURATION_MS}
 use Rattle.rmi_words.proofs.DrillWords.{one_drill}
 use Rattle.rmi_words.proofs.Naming.{IsOf, named_by, topic_in}
+use Rattle.rmi_words.specs.Clients.{ClientWords, IsAddressIn, IsClient, IsTextIn, IsToldBy, placed_words}
 use Rattle.rmi_words.specs.Command.{AskFor, IsAnswer, IsServe, IsWordOfDrill, word_of_text, words_of_topic}
-use Rattle.rmi_words.specs.Options.{AreGivenBy, IsInRange, IsServeInRange, IsBindingOf, IsDurationOf, SpellsUpTo}
+use Rattle.rmi_words.specs.Options.{AreGivenBy, IsInRange, IsServeInRange, IsBindingOf, IsDurationOf, IsSmallOf, SpellsUpTo}
 use Rattle.rmi_words.specs.Values.{name_of}
+use Rattle.rmi_words.specs.declared.client.ClientCommand.{ClientCommand}
+use Rattle.rmi_words.specs.declared.client.ClientCommand.TheVariants.{List as ListNames, Lookup, Bind, Unbind}
+use Rattle.rmi_words.specs.declared.client.ServerAddress.{ServerAddress}
 use Rattle.rmi_words.specs.declared.options.ServeWords.{ServeWords}
 use Rattle.rmi_words.specs.declared.options.LeaseOptions.{LeaseOptions}
 use Rattle.rmi_words.specs.declared.command.Command.{Command}
-use Rattle.rmi_words.specs.declared.command.Command.TheVariants.{Answer, Serve, Replay, Show, Drill, World, Class, Help}
+use Rattle.rmi_words.specs.declared.command.Command.TheVariants.{Answer, Serve, Client, Replay, Show, Drill, World, Class, Help}
 use Rattle.rmi_words.specs.declared.command.ClassOutput.TheVariants as outputs
 use Rattle.rmi_words.specs.declared.command.HelpTopic.{HelpTopic}
 use Rattle.rmi_words.specs.declared.command.HelpTopic.TheVariants as topics
@@ -77,6 +81,7 @@ same_options words a b x y =
 first_is : (words : List (List ℕ)) (command : Command) → AskFor words command → get_or words 0 [] ≡ name_of command
 first_is words (Answer options) asked = ap (λ words. get_or words 0 []) asked.words_are
 first_is words (Serve serve) asked = ap (λ words. get_or words 0 []) asked.words_are
+first_is words (Client command) asked = ap (λ words. get_or words 0 []) asked.words_are
 first_is words Replay asked = ap (λ words. get_or words 0 []) asked
 first_is words Show asked = ap (λ words. get_or words 0 []) asked
 first_is words World asked = ap (λ words. get_or words 0 []) asked
@@ -102,6 +107,44 @@ same_serve words a b x y =
     let options : a.options ≡ b.options = same_options y.rest a.options b.options (subst (λ words. AreGivenBy a.options words) rest x.told.options_are) y.told.options_are in
     ap (λ n. serve_with n a.count a.options) port ∙ ap (λ n. serve_with b.port n a.options) count ∙ ap (λ x. serve_with b.port b.count x) options
 
+same_text : (a b : List ℕ) (word : Option (List ℕ)) → IsTextIn a word → IsTextIn b word → a ≡ b
+same_text a b (Some word) x y = x.0 ∙ sym y.0
+same_text a b None x y = absurd x
+
+same_small : (a b : ℕ) (word : Option (List ℕ)) → IsSmallOf a word → IsSmallOf b word → a ≡ b
+same_small a b (Some word) x y = same_number 65535 a b word (omega arith) x y
+same_small a b None x y = absurd x
+
+abbrev server_with : List ℕ → ℕ → ServerAddress
+server_with host port = record { host = host; port = port }
+
+same_server : (words : ClientWords) (a b : ServerAddress) → IsAddressIn a words → IsAddressIn b words → a ≡ b
+same_server words a b x y =
+    let host = same_text a.host b.host words.host x.host_is y.host_is in
+    let port = same_small a.port b.port words.port x.port_is y.port_is in
+    ap (λ (h : List ℕ). server_with h a.port) host ∙ ap (λ (n : ℕ). server_with b.host n) port
+
+same_list : (words : ClientWords) (a b : ServerAddress) → IsToldBy (ListNames a) words → IsToldBy (ListNames b) words → ListNames a ≡ ListNames b
+same_list words a b x y = ap (λ (s : ServerAddress). ListNames s) (same_server words a b x y)
+
+same_lookup : (words : ClientWords) (a b : ServerAddress) (n m : List ℕ) → IsToldBy (Lookup a n) words → IsToldBy (Lookup b m) words → Lookup a n ≡ Lookup b m
+same_lookup words a b n m x y = ap₂ Lookup (same_server words a b x.server_is y.server_is) (same_text n m words.name x.name_is y.name_is)
+
+same_unbind : (words : ClientWords) (a b : ServerAddress) (n m : List ℕ) → IsToldBy (Unbind a n) words → IsToldBy (Unbind b m) words → Unbind a n ≡ Unbind b m
+same_unbind words a b n m x y = ap₂ Unbind (same_server words a b x.server_is y.server_is) (same_text n m words.name x.name_is y.name_is)
+
+same_bind : (words : ClientWords) (a b : ServerAddress) (n m from from2 : List ℕ) → IsToldBy (Bind a n from) words → IsToldBy (Bind b m from2) words → Bind a n from ≡ Bind b m from2
+same_bind words a b n m from from2 x y =
+    ap₂ (λ s t. Bind s t from) (same_server words a b x.0.server_is y.0.server_is) (same_text n m words.name x.0.name_is y.0.name_is)
+    ∙ ap (λ t. Bind b m t) (same_text from from2 words.from x.1 y.1)
+
+-- Two commands of one word are told the same by the same words.
+same_told : (words : List (List ℕ)) (a b : ClientCommand) → IsClient a words → IsClient b words
+    → ((seen : ClientWords) → IsToldBy a seen → IsToldBy b seen → a ≡ b) → a ≡ b
+same_told words a b x y same =
+    let rest : x.rest ≡ y.rest = ap (λ words. drop 1 words) (sym x.words_are ∙ y.words_are) in
+    same (placed_words y.rest) (subst (λ r. IsToldBy a (placed_words r)) rest x.told) y.told
+
 same_drill : (words : List (List ℕ)) (text text2 : DrillText) (seed rounds seed2 rounds2 : ℕ) → IsWordOfDrill words (word_of_text text) seed rounds
     → IsWordOfDrill words (word_of_text text2) seed2 rounds2 → Drill text seed rounds ≡ Drill text2 seed2 rounds2
 same_drill words text text2 seed rounds seed2 rounds2 x y =
@@ -118,6 +161,10 @@ topic_is : (topic : HelpTopic) → topic_in (topic_word topic) ≡ topic
 topic_is topics.All = refl
 topic_is topics.Answer = refl
 topic_is topics.Serve = refl
+topic_is topics.List = refl
+topic_is topics.Lookup = refl
+topic_is topics.Bind = refl
+topic_is topics.Unbind = refl
 topic_is topics.Replay = refl
 topic_is topics.Show = refl
 topic_is topics.Drill = refl
@@ -139,6 +186,18 @@ asked_once words (Answer options) b x y =
 asked_once words (Serve serve) b x y =
     let of = same_name words (Serve serve) b x y in
     ap Serve (same_serve words serve of.0 x (subst (AskFor words) of.1 y)) ∙ sym of.1
+asked_once words (Client (ListNames server)) b x y =
+    let of = same_name words (Client (ListNames server)) b x y in
+    ap Client (same_told words (ListNames server) (ListNames of.0) x (subst (AskFor words) of.1 y) (λ seen. same_list seen server of.0)) ∙ sym of.1
+asked_once words (Client (Lookup server name)) b x y =
+    let of = same_name words (Client (Lookup server name)) b x y in
+    ap Client (same_told words (Lookup server name) (Lookup of.0 of.1) x (subst (AskFor words) of.2 y) (λ seen. same_lookup seen server of.0 name of.1)) ∙ sym of.2
+asked_once words (Client (Bind server name from)) b x y =
+    let of = same_name words (Client (Bind server name from)) b x y in
+    ap Client (same_told words (Bind server name from) (Bind of.0 of.1 of.2) x (subst (AskFor words) of.3 y) (λ seen. same_bind seen server of.0 name of.1 from of.2)) ∙ sym of.3
+asked_once words (Client (Unbind server name)) b x y =
+    let of = same_name words (Client (Unbind server name)) b x y in
+    ap Client (same_told words (Unbind server name) (Unbind of.0 of.1) x (subst (AskFor words) of.2 y) (λ seen. same_unbind seen server of.0 name of.1)) ∙ sym of.2
 asked_once words Replay b x y = sym (same_name words Replay b x y)
 asked_once words Show b x y = sym (same_name words Show b x y)
 asked_once words (Drill Summary seed rounds) b x y =

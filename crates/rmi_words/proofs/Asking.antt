@@ -1,5 +1,5 @@
 -- The command that words ask for is the one that `clap` finds in them.
-use Rattle.std.proofs.Common.{◌≡◌, ◌∙◌, ◌≤◌, ◌<◌, ◌^◌, ◌==◌, ◌||◌, ℕ, Bool, true, false, true≢false, ◌∷◌, [], List, Option, Some, None, length, get_or, map, codes, decimal, refl, ap, sym, subst, arith}
+use Rattle.std.proofs.Common.{◌≡◌, ◌∙◌, ◌≤◌, ◌<◌, ◌^◌, ◌==◌, ◌||◌, ℕ, Bool, true, false, true≢false, ◌∷◌, [], List, Option, Some, None, Result, Ok, Err, IfOk, length, get_or, map, codes, decimal, refl, ap, sym, subst, arith}
 use Rattle.std.specs.Prelude.{slice_get}
 use Rattle.std.specs.List.{list_any}
 use Rattle.std.specs.Str.Parse.{AllDigits, digits_value}
@@ -8,20 +8,23 @@ use Rattle.std.proofs.lemmas.Fmt.{decimal_nonempty, digits_decimal}
 use Rattle.std.proofs.lemmas.Str.Parse.{IsNumeralModel, not_in_digits, numerals_by_value, tells_digits}
 use Rattle.clap.specs.Walk.{Row, Text, first_of}
 use Rattle.history.specs.declared.limits.TheConstants.{MAX_DURATION_MS}
-use Rattle.journal.specs.Reading.{Finds}
-use Rattle.rmi_words.proofs.Found.{AreRead, Takes, answer_takes, describe_takes, drill_takes, first_is, found, help_takes, journal_takes, read, replay_takes, serve_takes, show_takes, suid_takes, suidtext_takes, world_takes, wrong}
-use Rattle.rmi_words.proofs.Places.{answer_ack, answer_binding, answer_lease, answer_passes, bare, bare_passes, drill_n, drill_passes, drill_seed, help_command, help_passes, journal_n, journal_passes, journal_seed, rows_of, serve_ack, serve_binding, serve_count, serve_lease, serve_passes, serve_port}
+use Rattle.rmi_words.proofs.Found.{AreRead, Takes, answer_takes, bind_takes, describe_takes, drill_takes, first_is, found, help_takes, journal_takes, list_takes, lookup_takes, read, replay_takes, serve_takes, show_takes, suid_takes, suidtext_takes, unbind_takes, world_takes, wrong}
+use Rattle.rmi_words.proofs.Places.{answer_ack, answer_binding, answer_lease, answer_passes, bare, bare_passes, bind_passes, bind_words, drill_n, drill_passes, drill_seed, help_command, help_passes, journal_n, journal_passes, journal_seed, level_of, list_passes, list_words, lookup_passes, lookup_words, rows_of, serve_ack, serve_binding, serve_count, serve_lease, serve_passes, serve_port, unbind_passes, unbind_words}
 use Rattle.rmi_words.proofs.Walking.{ArePlain}
-use Rattle.rmi_words.specs.Command.{AskFor, AreInRange, IsAnswer, IsServe, IsWordOfDrill, word_of_text, words_of_topic}
-use Rattle.rmi_words.specs.Entries.{answer_entry, drill_entry, help_entry, journal_entry, serve_entry}
-use Rattle.rmi_words.specs.Options.{AreGivenBy, IsBindingOf, IsDurationOf, SpellsUpTo}
+use Rattle.rmi_words.specs.Clients.{IsClient, IsToldBy, Reads, count_of_client, named_words, placed_words, word_of_client}
+use Rattle.rmi_words.specs.Command.{AskFor, AreInRange, IsAnswer, IsServe, IsWordOfDrill, words_of_topic}
+use Rattle.rmi_words.specs.Entries.{Entry, answer_entry, bind_entry, drill_entry, help_entry, journal_entry, list_entry, lookup_entry, serve_entry, unbind_entry}
+use Rattle.rmi_words.specs.Options.{AreGivenBy, IsBindingOf, IsDurationOf, IsSmallOf, SpellsUpTo}
 use Rattle.rmi_words.specs.Program.{faults_in, found_in, is_option}
-use Rattle.rmi_words.specs.Values.{AreOptionsOf, IsCommandIn, IsCommandOf, IsDrillOf, IsServeOf, IsSmallOf, IsToldIn, Values, name_of}
+use Rattle.rmi_words.specs.Values.{AreOptionsOf, IsCommandIn, IsCommandOf, IsDrillOf, IsServeOf, IsToldIn, Values, name_of}
+use Rattle.rmi_words.specs.declared.client.ClientCommand.{ClientCommand}
+use Rattle.rmi_words.specs.declared.client.ClientCommand.TheVariants.{List as ListNames, Lookup, Bind, Unbind}
+use Rattle.rmi_words.specs.declared.command.WordsFault.{WordsFault}
+use Rattle.rmi_words.specs.declared.command.WordsFault.TheVariants.{Usage}
 use Rattle.rmi_words.specs.declared.options.LeaseOptions.{LeaseOptions}
 use Rattle.rmi_words.specs.declared.options.ServeWords.{ServeWords}
 use Rattle.rmi_words.specs.declared.command.Command.{Command}
-use Rattle.rmi_words.specs.declared.command.Command.TheVariants.{Answer, Serve, Replay, Show, Drill, World, Class, Help}
-use Rattle.rmi_words.specs.declared.command.DrillText.{DrillText}
+use Rattle.rmi_words.specs.declared.command.Command.TheVariants.{Answer, Serve, Client, Replay, Show, Drill, World, Class, Help}
 use Rattle.rmi_words.specs.declared.command.DrillText.TheVariants.{Summary, Journal}
 use Rattle.rmi_words.specs.declared.command.ClassOutput.TheVariants as outputs
 use Rattle.rmi_words.specs.declared.command.HelpTopic.{HelpTopic}
@@ -62,6 +65,10 @@ plain_topic : (topic : HelpTopic) → ArePlain (words_of_topic topic)
 plain_topic topics.All = tt
 plain_topic topics.Answer = (refl, tt)
 plain_topic topics.Serve = (refl, tt)
+plain_topic topics.List = (refl, tt)
+plain_topic topics.Lookup = (refl, tt)
+plain_topic topics.Bind = (refl, tt)
+plain_topic topics.Unbind = (refl, tt)
 plain_topic topics.Replay = (refl, tt)
 plain_topic topics.Show = (refl, tt)
 plain_topic topics.Drill = (refl, tt)
@@ -79,20 +86,6 @@ plain_serve : (serve : ServeWords) (port count : List ℕ) (rest : List (List �
     → ArePlain (port ∷ count ∷ rest)
 plain_serve serve port count rest p n given = (plain_spelled 65535 serve.port port (omega arith) p, (plain_spelled 65535 serve.count count (omega arith) n, plain_options serve.options rest given))
 
--- Words that ask for a command begin with no `-`.
-pub asked_plain : (words : List (List ℕ)) (c : Command) → AskFor words c → ArePlain words
-asked_plain words (Answer options) a = subst ArePlain (sym a.words_are) (refl, plain_options options a.rest a.options_are)
-asked_plain words (Serve serve) a = subst ArePlain (sym a.words_are) (refl, plain_serve serve a.port a.count a.rest a.told.port_is a.told.count_is a.told.options_are)
-asked_plain words Replay a = subst ArePlain (sym a) (refl, tt)
-asked_plain words Show a = subst ArePlain (sym a) (refl, tt)
-asked_plain words World a = subst ArePlain (sym a) (refl, tt)
-asked_plain words (Drill Summary seed rounds) a = subst ArePlain (sym a.words_are) (refl, plain_drill seed rounds a.in_range)
-asked_plain words (Drill Journal seed rounds) a = subst ArePlain (sym a.words_are) (refl, plain_drill seed rounds a.in_range)
-asked_plain words (Class outputs.Number) a = subst ArePlain (sym a) (refl, tt)
-asked_plain words (Class outputs.Text) a = subst ArePlain (sym a) (refl, tt)
-asked_plain words (Class outputs.Description) a = subst ArePlain (sym a) (refl, tt)
-asked_plain words (Help topic) a = subst ArePlain (sym a) (refl, plain_topic topic)
-
 pub any_plain : (words : List (List ℕ)) → ArePlain words → list_any is_option words ≡ false
 any_plain [] p = refl
 any_plain (w ∷ ws) p = rw p.0 (any_plain ws p.1)
@@ -107,12 +100,37 @@ plain_any (w ∷ ws) e =
     let parts = neither (is_option w) (list_any is_option ws) e in
     (parts.0, plain_any ws parts.1)
 
+plain_client : (c : ClientCommand) → is_option (word_of_client c) ≡ false
+plain_client (ListNames server) = refl
+plain_client (Lookup server name) = refl
+plain_client (Bind server name from) = refl
+plain_client (Unbind server name) = refl
+
+-- Words that ask for a command begin with no `-`.
+pub asked_plain : (words : List (List ℕ)) (c : Command) → AskFor words c → ArePlain words
+asked_plain words (Answer options) a = subst ArePlain (sym a.words_are) (refl, plain_options options a.rest a.options_are)
+asked_plain words (Serve serve) a = subst ArePlain (sym a.words_are) (refl, plain_serve serve a.port a.count a.rest a.told.port_is a.told.count_is a.told.options_are)
+asked_plain words (Client c) a = subst ArePlain (sym a.words_are) (plain_client c, plain_any a.rest a.plain)
+asked_plain words Replay a = subst ArePlain (sym a) (refl, tt)
+asked_plain words Show a = subst ArePlain (sym a) (refl, tt)
+asked_plain words World a = subst ArePlain (sym a) (refl, tt)
+asked_plain words (Drill Summary seed rounds) a = subst ArePlain (sym a.words_are) (refl, plain_drill seed rounds a.in_range)
+asked_plain words (Drill Journal seed rounds) a = subst ArePlain (sym a.words_are) (refl, plain_drill seed rounds a.in_range)
+asked_plain words (Class outputs.Number) a = subst ArePlain (sym a) (refl, tt)
+asked_plain words (Class outputs.Text) a = subst ArePlain (sym a) (refl, tt)
+asked_plain words (Class outputs.Description) a = subst ArePlain (sym a) (refl, tt)
+asked_plain words (Help topic) a = subst ArePlain (sym a) (refl, plain_topic topic)
+
 -- ---- what words that ask for a command come to
 
 topic_short : (topic : HelpTopic) → length (words_of_topic topic) ≤ 1
 topic_short topics.All = omega arith
 topic_short topics.Answer = omega arith
 topic_short topics.Serve = omega arith
+topic_short topics.List = omega arith
+topic_short topics.Lookup = omega arith
+topic_short topics.Bind = omega arith
+topic_short topics.Unbind = omega arith
 topic_short topics.Replay = omega arith
 topic_short topics.Show = omega arith
 topic_short topics.Drill = omega arith
@@ -129,6 +147,33 @@ right_alone {name} {does} {example} t words is = ap faults_in is ∙ wrong (bare
 found_alone : {name does example : List ℕ} → Takes (bare name does example) 0 0 → (words : List (List ℕ)) → words ≡ name ∷ [] → found_in words ≡ Some (name, rows_of (bare name does example) [])
 found_alone {name} {does} {example} t words is = ap found_in is ∙ found (bare name does example) 0 0 t [] tt
 
+-- the values in rows
+abbrev values_in : List Row → Values
+values_in rows name = first_of name rows
+
+-- The program has a client's command, and each of its words is found at its place.
+record IsPlaced (c : ClientCommand) : Type 0 where
+  entry : Entry
+  named : word_of_client c ≡ entry.name
+  takes : Takes entry (count_of_client c) (count_of_client c)
+  passes : (ws : List (List ℕ)) → count_of_client c ≤ length ws → length ws ≤ count_of_client c → level_of entry ws ≡ []
+  words : (ws : List (List ℕ)) → length ws ≤ count_of_client c → named_words (values_in (rows_of entry ws)) ≡ placed_words ws
+
+placed : (c : ClientCommand) → IsPlaced c
+placed (ListNames server) = record { entry = list_entry; named = refl; takes = list_takes; passes = list_passes; words = list_words }
+placed (Lookup server name) = record { entry = lookup_entry; named = refl; takes = lookup_takes; passes = lookup_passes; words = lookup_words }
+placed (Bind server name from) = record { entry = bind_entry; named = refl; takes = bind_takes; passes = bind_passes; words = bind_words }
+placed (Unbind server name) = record { entry = unbind_entry; named = refl; takes = unbind_takes; passes = unbind_passes; words = unbind_words }
+
+begins_with : (c : ClientCommand) (words ws : List (List ℕ)) → words ≡ word_of_client c ∷ ws → words ≡ (placed c).entry.name ∷ ws
+begins_with c words ws is = is ∙ ap (λ name. name ∷ ws) (placed c).named
+
+client_right : (words : List (List ℕ)) (c : ClientCommand) → IsClient c words → faults_in words ≡ []
+client_right words c a =
+    let p = placed c in
+    ap faults_in (begins_with c words a.rest a.words_are) ∙ wrong p.entry _ _ p.takes a.rest (plain_any a.rest a.plain)
+    ∙ p.passes a.rest (omega (arith, a.count_is)) (omega (arith, a.count_is))
+
 -- `clap` takes them.
 pub asked_right : (words : List (List ℕ)) (c : Command) → AskFor words c → faults_in words ≡ []
 asked_right words (Answer options) a = ap faults_in a.words_are ∙ wrong answer_entry 0 3 answer_takes a.rest (plain_options options a.rest a.options_are) ∙ answer_passes a.rest (omega arith) a.options_are.no_more
@@ -136,6 +181,7 @@ asked_right words (Serve serve) a =
     let ws = a.port ∷ a.count ∷ a.rest in
     ap faults_in a.words_are ∙ wrong serve_entry 2 5 serve_takes ws (plain_serve serve a.port a.count a.rest a.told.port_is a.told.count_is a.told.options_are)
     ∙ serve_passes ws (omega arith) (omega (arith, a.told.options_are.no_more))
+asked_right words (Client c) a = client_right words c a
 asked_right words Replay a = right_alone replay_takes words a
 asked_right words Show a = right_alone show_takes words a
 asked_right words World a = right_alone world_takes words a
@@ -147,10 +193,6 @@ asked_right words (Class outputs.Number) a = right_alone suid_takes words a
 asked_right words (Class outputs.Text) a = right_alone suidtext_takes words a
 asked_right words (Class outputs.Description) a = right_alone describe_takes words a
 asked_right words (Help topic) a = ap faults_in a ∙ wrong help_entry 0 1 help_takes (words_of_topic topic) (plain_topic topic) ∙ help_passes (words_of_topic topic) (omega arith) (topic_short topic)
-
--- the values in rows
-abbrev values_in : List Row → Values
-values_in rows name = first_of name rows
 
 options_to : (options : LeaseOptions) (value : Values) (ws : List (List ℕ)) → length ws ≤ 3 → value (codes "BINDING") ≡ slice_get ws 0 → value (codes "LEASE") ≡ slice_get ws 1 → value (codes "ACK") ≡ slice_get ws 2
     → AreOptionsOf options value → AreGivenBy options ws
@@ -236,10 +278,23 @@ module _ (words : List (List ℕ)) (plain : ArePlain words) (right : faults_in w
       let h = named _ e in
       h.1 ∙ ap (λ ws. name ∷ ws) (no_word h.0 (read (bare name does example) 0 0 t words h.0 p plain right is h.1).few)
 
+  client_asked : (c : ClientCommand) → p.0 ≡ word_of_client c → IsToldBy c (named_words (values_in p.1)) → IsClient c words
+  client_asked c n told =
+      let h = named _ n in
+      let placed_c = placed c in
+      let r = read placed_c.entry _ _ placed_c.takes words h.0 p plain right is (begins_with c words h.0 h.1) in record {
+        rest = h.0;
+        words_are = h.1;
+        count_is = omega (arith, r.some, r.few);
+        plain = any_plain h.0 r.plain;
+        told = subst (IsToldBy c) (ap (λ (rows : List Row). named_words (values_in rows)) (sym r.rows_are) ∙ placed_c.words h.0 r.few) told;
+      }
+
   -- What is found is asked for.
   pub found_asked : (c : Command) → IsCommandOf p.0 c (values_in p.1) → AskFor words c
   found_asked (Answer options) g = let h = named _ g.0 in answer_to options words h.0 p.1 h.1 (read answer_entry 0 3 answer_takes words h.0 p plain right is h.1) g.1
   found_asked (Serve serve) g = let h = named _ g.0 in serve_to serve words h.0 p.1 h.1 (read serve_entry 2 5 serve_takes words h.0 p plain right is h.1) g.1
+  found_asked (Client c) g = client_asked c g.0 g.1
   found_asked Replay g = asked_alone replay_takes g.0
   found_asked Show g = asked_alone show_takes g.0
   found_asked World g = asked_alone world_takes g.0
@@ -287,6 +342,13 @@ asked_found words (Serve serve) a =
         options = options_from serve.options (values_in (rows_of serve_entry ws)) a.rest (serve_binding ws few) (serve_lease ws few) (serve_ack ws few) a.told.options_are;
       };
     }
+asked_found words (Client c) a =
+    let p = placed c in
+    let rows = rows_of p.entry a.rest in record {
+      rows = rows;
+      is = ap found_in (begins_with c words a.rest a.words_are) ∙ found p.entry _ _ p.takes a.rest (plain_any a.rest a.plain) ∙ ap (λ (name : List ℕ). Some (name, rows)) (sym p.named);
+      told = subst (IsToldBy c) (sym (p.words a.rest (omega (arith, a.count_is)))) a.told;
+    }
 asked_found words Replay a = record { rows = _; is = found_alone replay_takes words a; told = tt }
 asked_found words Show a = record { rows = _; is = found_alone show_takes words a; told = tt }
 asked_found words World a = record { rows = _; is = found_alone world_takes words a; told = tt }
@@ -324,12 +386,12 @@ nothing_asked words p is none c a =
     none c (subst P (some_pair _ _ (sym comes.is ∙ is)) (refl, comes.told))
 
 -- A command that is found in words that `clap` takes is asked for, and where none is, none is.
-pub finds_asked : (words : List (List ℕ)) (result : Option Command) → ArePlain words → faults_in words ≡ [] → (o : Option (Text × List Row)) → found_in words ≡ o
-    → Finds IsCommandIn result o → Finds Asks result words
-finds_asked words (Some c) plain right (Some p) is finds = found_asked words plain right p is c finds
-finds_asked words (Some c) plain right None is finds = absurd finds
-finds_asked words None plain right (Some p) is finds = nothing_asked words p is finds
-finds_asked words None plain right None is finds = λ c a. let comes = asked_found words c a in let both = sym is ∙ comes.is in cc
+pub finds_asked : (words : List (List ℕ)) (result : Result Command WordsFault) → ArePlain words → faults_in words ≡ [] → (o : Option (Text × List Row)) → found_in words ≡ o
+    → Reads IsCommandIn result o → Reads Asks result words
+finds_asked words (Ok c) plain right (Some p) is reads = found_asked words plain right p is c reads
+finds_asked words (Ok c) plain right None is reads = absurd reads
+finds_asked words (Err fault) plain right (Some p) is reads = λ usage. nothing_asked words p is (reads usage)
+finds_asked words (Err fault) plain right None is reads = λ usage c a. let comes = asked_found words c a in let both = sym is ∙ comes.is in cc
 
 -- ---- `Words::command`, over words that are `seen`
 
@@ -344,11 +406,26 @@ pub wrong_refused : (words seen : List (List ℕ)) → words ≡ seen → (fault
 wrong_refused words seen same wrong c a = wrong (ap faults_in (sym same) ∙ asked_right words c a)
 
 -- `clap` takes them.
-pub taken_asked : (words seen : List (List ℕ)) (b : Bool) (result : Option Command) (o : Option (Text × List Row)) → words ≡ seen → b ≡ list_any is_option seen → b ≡ false → faults_in seen ≡ [] → o ≡ found_in seen
-    → Finds IsCommandIn result o → Finds Asks result words
+pub taken_asked : (words seen : List (List ℕ)) (b : Bool) (result : Result Command WordsFault) (o : Option (Text × List Row)) → words ≡ seen → b ≡ list_any is_option seen → b ≡ false → faults_in seen ≡ [] → o ≡ found_in seen
+    → Reads IsCommandIn result o → Reads Asks result words
 taken_asked words seen b result o same is fails right found finds =
     let plain : ArePlain words = subst ArePlain (sym same) (plain_any seen (sym is ∙ fails)) in
     finds_asked words result plain (ap faults_in same ∙ right) o (ap found_in same ∙ sym found) finds
+
+-- What is read is asked for, and Usage comes only where nothing is.
+pub asked_by : (words : List (List ℕ)) (result : Result Command WordsFault) → Reads Asks result words → IfOk result (AskFor words)
+asked_by words (Ok c) reads = reads
+asked_by words (Err fault) reads = tt
+
+pub refused_by : (words : List (List ℕ)) (result : Result Command WordsFault) → Reads Asks result words → result ≡ Err Usage → (c : Command) → AskFor words c → ⊥
+refused_by words (Ok c) reads usage = absurd (never_ok c usage)
+  where
+    never_ok : (c : Command) → ◌≡◌ {A = Result Command WordsFault} (Ok c) (Err Usage) → ⊥
+    never_ok c e = cc
+refused_by words (Err fault) reads usage = reads (same_fault fault usage)
+  where
+    same_fault : (f : WordsFault) → ◌≡◌ {A = Result Command WordsFault} (Err f) (Err Usage) → f ≡ Usage
+    same_fault f e = cc
 
 pub any_map : {A : Type 0} (f : A → List ℕ) (xs : List A) → list_any (λ x. is_option (f x)) xs ≡ list_any is_option (map f xs)
 any_map f [] = refl

@@ -1,5 +1,5 @@
 -- What `clap` makes of each command's words: what is wrong, and what it finds.
-use Rattle.std.proofs.Common.{◌≡◌, ◌∙◌, ◌≤◌, ℕ, Bool, true, false, ◌∷◌, [], List, Option, Some, None, ◌⊎◌, inl, inr, length, codes, refl, ap, sym, subst}
+use Rattle.std.proofs.Common.{◌≡◌, ◌∙◌, ◌≤◌, ℕ, Bool, true, false, ◌∷◌, [], List, Option, Some, None, ◌⊎◌, inl, inr, length, refl, ap, sym, subst}
 use Rattle.std.specs.Prelude.{find, is_some, option_map}
 use Rattle.std.specs.Str.{bytes_eq}
 use Rattle.std.proofs.lemmas.Slice.Eq.{bytes_eq-Decides}
@@ -7,9 +7,9 @@ use Rattle.clap.specs.Faults.{entered_fault, level_fault, turn_fault}
 use Rattle.clap.specs.Simple.{entered}
 use Rattle.clap.specs.Walk.{Names, Row, Text, answers_to, idle, nothing_held, rows_after, subcommand_met, walked}
 use Rattle.rmi_words.proofs.Levels.{fault_empty, fault_named, fault_stray, level_is_fed, names, rows_are_fed, rows_named, start, whole}
-use Rattle.rmi_words.proofs.Places.{answer_fits, bare_fits, drill_fits, help_fits, journal_fits, leaf, level_of, rows_of, serve_fits}
+use Rattle.rmi_words.proofs.Places.{answer_fits, bare_fits, drill_fits, help_fits, journal_fits, leaf, level_of, rows_of, serve_fits, list_fits, lookup_fits, bind_fits, unbind_fits}
 use Rattle.rmi_words.proofs.Walking.{ArePlain}
-use Rattle.rmi_words.specs.Entries.{Entry, entries, answer_entry, serve_entry, replay_entry, show_entry, drill_entry, journal_entry, world_entry, suid_entry, suidtext_entry, describe_entry, help_entry}
+use Rattle.rmi_words.specs.Entries.{Entry, entries, answer_entry, serve_entry, list_entry, lookup_entry, bind_entry, unbind_entry, replay_entry, show_entry, drill_entry, journal_entry, world_entry, suid_entry, suidtext_entry, describe_entry, help_entry}
 use Rattle.rmi_words.specs.Program.{faults_in, found_in, is_option}
 
 -- ---- by the name of a command
@@ -30,6 +30,22 @@ answer_takes = record { met = refl; turn = refl; is_there = λ ws. refl; fault =
 pub serve_takes : Takes serve_entry 2 5
 unfolding walked
 serve_takes = record { met = refl; turn = refl; is_there = λ ws. refl; fault = λ ws. refl; rows = λ ws. refl; fits = serve_fits }
+
+pub list_takes : Takes list_entry 2 2
+unfolding walked
+list_takes = record { met = refl; turn = refl; is_there = λ ws. refl; fault = λ ws. refl; rows = λ ws. refl; fits = list_fits }
+
+pub lookup_takes : Takes lookup_entry 3 3
+unfolding walked
+lookup_takes = record { met = refl; turn = refl; is_there = λ ws. refl; fault = λ ws. refl; rows = λ ws. refl; fits = lookup_fits }
+
+pub bind_takes : Takes bind_entry 4 4
+unfolding walked
+bind_takes = record { met = refl; turn = refl; is_there = λ ws. refl; fault = λ ws. refl; rows = λ ws. refl; fits = bind_fits }
+
+pub unbind_takes : Takes unbind_entry 3 3
+unfolding walked
+unbind_takes = record { met = refl; turn = refl; is_there = λ ws. refl; fault = λ ws. refl; rows = λ ws. refl; fits = unbind_fits }
 
 pub replay_takes : Takes replay_entry 0 0
 unfolding walked
@@ -117,7 +133,7 @@ there : {entry : Entry} {least most : ℕ} → Takes entry least most → IsTher
 there {least = least} {most = most} t = record { least = least; most = most; takes = t }
 
 all_there : AreThere entries
-all_there = (there answer_takes, (there serve_takes, (there replay_takes, (there show_takes, (there drill_takes, (there journal_takes, (there world_takes, (there suid_takes, (there suidtext_takes, (there describe_takes, (there help_takes, tt)))))))))))
+all_there = (there answer_takes, (there serve_takes, (there list_takes, (there lookup_takes, (there bind_takes, (there unbind_takes, (there replay_takes, (there show_takes, (there drill_takes, (there journal_takes, (there world_takes, (there suid_takes, (there suidtext_takes, (there describe_takes, (there help_takes, tt)))))))))))))))
 
 abbrev names_of : List Entry → Names
 names_of [] = []

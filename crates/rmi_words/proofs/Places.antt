@@ -1,12 +1,13 @@
 -- How many words each command takes, and what is found at their places.
-use Rattle.std.proofs.Common.{◌≡◌, ◌≤◌, true, false, true≢false, ◌∷◌, [], List, length, codes, refl, ap, sym, arith}
+use Rattle.std.proofs.Common.{◌≡◌, ◌≤◌, true≢false, ◌∷◌, [], List, length, codes, refl, ap, sym, arith}
 use Rattle.std.specs.Prelude.{slice_get}
 use Rattle.clap.specs.Faults.{defaults_fault}
 use Rattle.clap.specs.Simple.{Shape, built_leaf, inherited, marked_built, with_leaf_noted}
 use Rattle.clap.specs.Kinds.{Kinds}
 use Rattle.clap.specs.Walk.{Row, Text, first_of}
 use Rattle.rmi_words.proofs.Levels.{fed_level, fed_rows, is_right}
-use Rattle.rmi_words.specs.Entries.{Entry, answer_entry, serve_entry, drill_entry, journal_entry, help_entry}
+use Rattle.rmi_words.specs.Clients.{named_words, placed_words}
+use Rattle.rmi_words.specs.Entries.{Entry, answer_entry, serve_entry, list_entry, lookup_entry, bind_entry, unbind_entry, drill_entry, journal_entry, help_entry}
 use Rattle.rmi_words.specs.Program.{app_of_entry, program}
 
 -- A command as it is built in the program.
@@ -148,6 +149,110 @@ serve_ack (a ∷ b ∷ c ∷ []) few = refl
 serve_ack (a ∷ b ∷ c ∷ d ∷ []) few = refl
 serve_ack (a ∷ b ∷ c ∷ d ∷ e ∷ []) few = refl
 serve_ack (a ∷ b ∷ c ∷ d ∷ e ∷ f ∷ ws) few = absurd (omega arith)
+
+-- ---- list
+
+pub list_fits : (ws : List Text) → level_of list_entry ws ≡ [] → (2 ≤ length ws) × (length ws ≤ 2)
+unfolding level_of defaults_fault
+list_fits [] ok = absurd (true≢false (ap is_right (sym ok)))
+list_fits (a ∷ []) ok = absurd (true≢false (ap is_right (sym ok)))
+list_fits (a ∷ b ∷ []) ok = (omega arith, omega arith)
+list_fits (a ∷ b ∷ c ∷ ws) ok = absurd (true≢false (ap is_right (sym ok)))
+
+pub list_passes : (ws : List Text) → 2 ≤ length ws → length ws ≤ 2 → level_of list_entry ws ≡ []
+unfolding level_of defaults_fault
+list_passes [] some few = absurd (omega arith)
+list_passes (a ∷ []) some few = absurd (omega arith)
+list_passes (a ∷ b ∷ []) some few = refl
+list_passes (a ∷ b ∷ c ∷ ws) some few = absurd (omega arith)
+
+pub list_words : (ws : List Text) → length ws ≤ 2 → named_words (λ name. first_of name (rows_of list_entry ws)) ≡ placed_words ws
+unfolding rows_of
+list_words [] few = refl
+list_words (a ∷ []) few = refl
+list_words (a ∷ b ∷ []) few = refl
+list_words (a ∷ b ∷ c ∷ ws) few = absurd (omega arith)
+
+-- ---- lookup
+
+pub lookup_fits : (ws : List Text) → level_of lookup_entry ws ≡ [] → (3 ≤ length ws) × (length ws ≤ 3)
+unfolding level_of defaults_fault
+lookup_fits [] ok = absurd (true≢false (ap is_right (sym ok)))
+lookup_fits (a ∷ []) ok = absurd (true≢false (ap is_right (sym ok)))
+lookup_fits (a ∷ b ∷ []) ok = absurd (true≢false (ap is_right (sym ok)))
+lookup_fits (a ∷ b ∷ c ∷ []) ok = (omega arith, omega arith)
+lookup_fits (a ∷ b ∷ c ∷ d ∷ ws) ok = absurd (true≢false (ap is_right (sym ok)))
+
+pub lookup_passes : (ws : List Text) → 3 ≤ length ws → length ws ≤ 3 → level_of lookup_entry ws ≡ []
+unfolding level_of defaults_fault
+lookup_passes [] some few = absurd (omega arith)
+lookup_passes (a ∷ []) some few = absurd (omega arith)
+lookup_passes (a ∷ b ∷ []) some few = absurd (omega arith)
+lookup_passes (a ∷ b ∷ c ∷ []) some few = refl
+lookup_passes (a ∷ b ∷ c ∷ d ∷ ws) some few = absurd (omega arith)
+
+pub lookup_words : (ws : List Text) → length ws ≤ 3 → named_words (λ name. first_of name (rows_of lookup_entry ws)) ≡ placed_words ws
+unfolding rows_of
+lookup_words [] few = refl
+lookup_words (a ∷ []) few = refl
+lookup_words (a ∷ b ∷ []) few = refl
+lookup_words (a ∷ b ∷ c ∷ []) few = refl
+lookup_words (a ∷ b ∷ c ∷ d ∷ ws) few = absurd (omega arith)
+
+-- ---- bind
+
+pub bind_fits : (ws : List Text) → level_of bind_entry ws ≡ [] → (4 ≤ length ws) × (length ws ≤ 4)
+unfolding level_of defaults_fault
+bind_fits [] ok = absurd (true≢false (ap is_right (sym ok)))
+bind_fits (a ∷ []) ok = absurd (true≢false (ap is_right (sym ok)))
+bind_fits (a ∷ b ∷ []) ok = absurd (true≢false (ap is_right (sym ok)))
+bind_fits (a ∷ b ∷ c ∷ []) ok = absurd (true≢false (ap is_right (sym ok)))
+bind_fits (a ∷ b ∷ c ∷ d ∷ []) ok = (omega arith, omega arith)
+bind_fits (a ∷ b ∷ c ∷ d ∷ e ∷ ws) ok = absurd (true≢false (ap is_right (sym ok)))
+
+pub bind_passes : (ws : List Text) → 4 ≤ length ws → length ws ≤ 4 → level_of bind_entry ws ≡ []
+unfolding level_of defaults_fault
+bind_passes [] some few = absurd (omega arith)
+bind_passes (a ∷ []) some few = absurd (omega arith)
+bind_passes (a ∷ b ∷ []) some few = absurd (omega arith)
+bind_passes (a ∷ b ∷ c ∷ []) some few = absurd (omega arith)
+bind_passes (a ∷ b ∷ c ∷ d ∷ []) some few = refl
+bind_passes (a ∷ b ∷ c ∷ d ∷ e ∷ ws) some few = absurd (omega arith)
+
+pub bind_words : (ws : List Text) → length ws ≤ 4 → named_words (λ name. first_of name (rows_of bind_entry ws)) ≡ placed_words ws
+unfolding rows_of
+bind_words [] few = refl
+bind_words (a ∷ []) few = refl
+bind_words (a ∷ b ∷ []) few = refl
+bind_words (a ∷ b ∷ c ∷ []) few = refl
+bind_words (a ∷ b ∷ c ∷ d ∷ []) few = refl
+bind_words (a ∷ b ∷ c ∷ d ∷ e ∷ ws) few = absurd (omega arith)
+
+-- ---- unbind
+
+pub unbind_fits : (ws : List Text) → level_of unbind_entry ws ≡ [] → (3 ≤ length ws) × (length ws ≤ 3)
+unfolding level_of defaults_fault
+unbind_fits [] ok = absurd (true≢false (ap is_right (sym ok)))
+unbind_fits (a ∷ []) ok = absurd (true≢false (ap is_right (sym ok)))
+unbind_fits (a ∷ b ∷ []) ok = absurd (true≢false (ap is_right (sym ok)))
+unbind_fits (a ∷ b ∷ c ∷ []) ok = (omega arith, omega arith)
+unbind_fits (a ∷ b ∷ c ∷ d ∷ ws) ok = absurd (true≢false (ap is_right (sym ok)))
+
+pub unbind_passes : (ws : List Text) → 3 ≤ length ws → length ws ≤ 3 → level_of unbind_entry ws ≡ []
+unfolding level_of defaults_fault
+unbind_passes [] some few = absurd (omega arith)
+unbind_passes (a ∷ []) some few = absurd (omega arith)
+unbind_passes (a ∷ b ∷ []) some few = absurd (omega arith)
+unbind_passes (a ∷ b ∷ c ∷ []) some few = refl
+unbind_passes (a ∷ b ∷ c ∷ d ∷ ws) some few = absurd (omega arith)
+
+pub unbind_words : (ws : List Text) → length ws ≤ 3 → named_words (λ name. first_of name (rows_of unbind_entry ws)) ≡ placed_words ws
+unfolding rows_of
+unbind_words [] few = refl
+unbind_words (a ∷ []) few = refl
+unbind_words (a ∷ b ∷ []) few = refl
+unbind_words (a ∷ b ∷ c ∷ []) few = refl
+unbind_words (a ∷ b ∷ c ∷ d ∷ ws) few = absurd (omega arith)
 
 -- ---- drill
 

@@ -1,12 +1,13 @@
 -- What `clap` found as a command, by what its matches answer.
-use Rattle.std.proofs.Common.{◌≡◌, ap₂, List, Option, Some, None, sym, subst}
+use Rattle.std.proofs.Common.{◌≡◌, ap₂, List, Option, Some, None, Result, Ok, Err, sym, subst}
 use Rattle.std.specs.Prelude.{option_map}
 use Rattle.clap.proofs.WalkLemmas.{first_value-rows}
 use Rattle.clap.specs.Words.{Row, Text, first_of, found_of, rows_of, subcommand_name_of, subcommand_rows_of}
 use Rattle.clap.specs.declared.ArgMatches.{ArgMatches}
-use Rattle.journal.specs.Reading.{Finds}
+use Rattle.rmi_words.specs.Clients.{Reads}
 use Rattle.rmi_words.specs.Values.{IsCommandIn, IsCommandOf, Values, values_of}
 use Rattle.rmi_words.specs.declared.command.Command.{Command}
+use Rattle.rmi_words.specs.declared.command.WordsFault.{WordsFault}
 
 some_same : {A : Type 0} (a b : A) → Some a ≡ Some b → a ≡ b
 some_same a b e = cc
@@ -25,15 +26,15 @@ pair_is f g (Some b) n rows e d =
 values_are : (m : ArgMatches) → values_of m ≡ (λ name. first_of name (rows_of (found_of m)))
 values_are m i name = first_value-rows (found_of m) name i
 
-in_some : (name : Text) (rows : List Row) (result : Option Command) → Finds (IsCommandOf name) result (λ id. first_of id rows) → Finds IsCommandIn result (Some (name, rows))
-in_some name rows (Some c) finds = finds
-in_some name rows None finds = finds
+in_some : (name : Text) (rows : List Row) (result : Result Command WordsFault) → Reads (IsCommandOf name) result (λ id. first_of id rows) → Reads IsCommandIn result (Some (name, rows))
+in_some name rows (Ok c) finds = finds
+in_some name rows (Err fault) finds = finds
 
 -- What is found by the name and the values is found in the matches.
-pub found_in_matches : (m values : ArgMatches) (name : Text) (result : Option Command) → Some name ≡ subcommand_name_of m → Some (rows_of (found_of values)) ≡ option_map {T = Text × List Row} (λ p. p.1) (subcommand_rows_of m)
-    → Finds (IsCommandOf name) result (values_of values) → Finds IsCommandIn result (subcommand_rows_of m)
+pub found_in_matches : (m values : ArgMatches) (name : Text) (result : Result Command WordsFault) → Some name ≡ subcommand_name_of m → Some (rows_of (found_of values)) ≡ option_map {T = Text × List Row} (λ p. p.1) (subcommand_rows_of m)
+    → Reads (IsCommandOf name) result (values_of values) → Reads IsCommandIn result (subcommand_rows_of m)
 found_in_matches m values name result is rows_are finds =
     let rows = rows_of (found_of values) in
     let sub : subcommand_rows_of m ≡ Some (name, rows) = pair_is _ _ _ name rows is rows_are in
-    subst (λ (o : Option (Text × List Row)). Finds IsCommandIn result o) (sym sub)
-    (in_some name rows result (subst (λ (v : Values). Finds (IsCommandOf name) result v) (values_are values) finds))
+    subst (λ (o : Option (Text × List Row)). Reads IsCommandIn result o) (sym sub)
+    (in_some name rows result (subst (λ (v : Values). Reads (IsCommandOf name) result v) (values_are values) finds))

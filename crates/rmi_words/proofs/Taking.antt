@@ -1,8 +1,8 @@
 -- What a parse of the program's words says of them.
-use Rattle.std.proofs.Common.{◌≡◌, ◌∙◌, true, [], ◌∷◌, List, Result, Err, refl, sym, ap, subst, inl, inr}
+use Rattle.std.proofs.Common.{◌≡◌, ◌∙◌, true, [], ◌∷◌, List, Result, Err, refl, subst, inl, inr}
 use Rattle.clap.specs.Faults.{fault_of, is_simple_and_free}
 use Rattle.clap.specs.Kinds.{HasKind, Kinds}
-use Rattle.clap.specs.Simple.{App, HasMatchesOf, is_simple, subcommand_rows_of}
+use Rattle.clap.specs.Simple.{App, HasMatchesOf, is_simple}
 use Rattle.clap.specs.Values.{kind_of}
 use Rattle.clap.specs.Walk.{Text}
 use Rattle.clap.specs.declared.ArgMatches.{ArgMatches}

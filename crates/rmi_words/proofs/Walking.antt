@@ -1,13 +1,13 @@
 -- What `clap` makes of words none of which begins with `-`.
-use Rattle.std.proofs.Common.{◌≡◌, ◌∙◌, ℕ, Bool, true, false, true≢false, if◌then◌else◌, ◌==◌, ◌&&◌, ◌∷◌, [], List, Option, Some, None, refl, ap, sym}
-use Rattle.std.specs.Prelude.{fold, is_some}
+use Rattle.std.proofs.Common.{◌≡◌, ◌∙◌, ℕ, Bool, true, false, true≢false, if◌then◌else◌, ◌∷◌, [], List, Option, Some, None, refl, ap, sym}
+use Rattle.std.specs.Prelude.{fold}
 use Rattle.std.specs.Str.{bytes_eq}
 use Rattle.clap.specs.Kinds.{Kinds, or_else}
 use Rattle.clap.specs.Lexer.{long_of, short_of}
 use Rattle.clap.specs.Simple.{Shape}
-use Rattle.clap.specs.Walk.{Held, Names, Rule, Step, Text, Waiting, Walk, arg_by_index, idle, option, positional, to_positional, value, is_multiple, walked, walked_from, word_met, after_step, subcommand_or_other, long_or_other, short_or_plain, plain_word}
+use Rattle.clap.specs.Walk.{Held, Rule, Step, Text, Waiting, Walk, arg_by_index, idle, option, positional, to_positional, value, is_multiple, walked, walked_from, word_met, after_step, subcommand_or_other, plain_word}
 use Rattle.rmi_words.specs.Program.{is_option}
-use Rattle.clap.specs.Faults.{turn_fault, step_fault, walk_fault, word_fault, other_fault, flag_word_fault}
+use Rattle.clap.specs.Faults.{turn_fault, step_fault, walk_fault, word_fault}
 
 -- None of the words begins with `-`.
 abbrev pub ArePlain : List Text → Type 0

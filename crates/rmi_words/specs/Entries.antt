@@ -56,6 +56,18 @@ seed_word = needed (codes "SEED") (codes "the seed of the drill: 0 to 9223372036
 abbrev pub rounds_word : Word
 rounds_word = needed (codes "N") (codes "how many rounds the drill has: 1 to 1000000")
 
+abbrev pub host_word : Word
+host_word = needed (codes "HOST") (codes "the registry's host, a name or an address: at most 255 UTF-16 units")
+
+abbrev pub registry_port_word : Word
+registry_port_word = needed (codes "PORT") (codes "the registry's port: 1 to 65535")
+
+abbrev pub name_word : Word
+name_word = needed (codes "NAME") (codes "a name of the registry: at most 255 UTF-16 units")
+
+abbrev pub from_word : Word
+from_word = needed (codes "FROM") (codes "the name whose reference is bound: at most 255 UTF-16 units")
+
 abbrev pub command_word : Word
 command_word = free (codes "COMMAND") (codes "the command to explain (all commands)")
 
@@ -75,6 +87,38 @@ serve_entry = record {
   words = port_word ∷ count_word ∷ binding_word ∷ lease_word ∷ ack_word ∷ [];
   does = codes "listens on 127.0.0.1:PORT, serves COUNT connections over one object table, and prints the outline of its history";
   example = codes "rmi serve 1099 10 open";
+}
+
+abbrev pub list_entry : Entry
+list_entry = record {
+  name = codes "list";
+  words = host_word ∷ registry_port_word ∷ [];
+  does = codes "prints the names of a registry, one a line";
+  example = codes "rmi list localhost 1099";
+}
+
+abbrev pub lookup_entry : Entry
+lookup_entry = record {
+  name = codes "lookup";
+  words = host_word ∷ registry_port_word ∷ name_word ∷ [];
+  does = codes "prints the host, the port and the object that a name of a registry stands for";
+  example = codes "rmi lookup localhost 1099 echo";
+}
+
+abbrev pub bind_entry : Entry
+bind_entry = record {
+  name = codes "bind";
+  words = host_word ∷ registry_port_word ∷ name_word ∷ from_word ∷ [];
+  does = codes "binds a name of a registry to what another name stands for, as a java.rmi.Remote alone";
+  example = codes "rmi bind localhost 1099 copy echo";
+}
+
+abbrev pub unbind_entry : Entry
+unbind_entry = record {
+  name = codes "unbind";
+  words = host_word ∷ registry_port_word ∷ name_word ∷ [];
+  does = codes "unbinds a name of a registry";
+  example = codes "rmi unbind localhost 1099 copy";
 }
 
 abbrev pub replay_entry : Entry
@@ -151,4 +195,4 @@ help_entry = record {
 
 -- All commands.
 abbrev pub entries : List Entry
-entries = answer_entry ∷ serve_entry ∷ replay_entry ∷ show_entry ∷ drill_entry ∷ journal_entry ∷ world_entry ∷ suid_entry ∷ suidtext_entry ∷ describe_entry ∷ help_entry ∷ []
+entries = answer_entry ∷ serve_entry ∷ list_entry ∷ lookup_entry ∷ bind_entry ∷ unbind_entry ∷ replay_entry ∷ show_entry ∷ drill_entry ∷ journal_entry ∷ world_entry ∷ suid_entry ∷ suidtext_entry ∷ describe_entry ∷ help_entry ∷ []

@@ -1,7 +1,7 @@
 -- What `help` prints.
 use Rattle.std.specs.Prelude.{ℕ, Bool, true, false, List, [], ◌∷◌, ◌++◌, codes}
 use Rattle.std.specs.List.{flat_map}
-use Rattle.rmi_words.specs.Entries.{Word, Entry, entries, answer_entry, serve_entry, replay_entry, show_entry, drill_entry, journal_entry, world_entry, suid_entry, suidtext_entry, describe_entry, help_entry}
+use Rattle.rmi_words.specs.Entries.{Word, Entry, entries, answer_entry, serve_entry, list_entry, lookup_entry, bind_entry, unbind_entry, replay_entry, show_entry, drill_entry, journal_entry, world_entry, suid_entry, suidtext_entry, describe_entry, help_entry}
 use Rattle.rmi_words.specs.declared.command.HelpTopic.{HelpTopic}
 use Rattle.rmi_words.specs.declared.command.HelpTopic.TheVariants as topics
 
@@ -10,6 +10,10 @@ abbrev pub entries_of : HelpTopic → List Entry
 entries_of topics.All = entries
 entries_of topics.Answer = answer_entry ∷ []
 entries_of topics.Serve = serve_entry ∷ []
+entries_of topics.List = list_entry ∷ []
+entries_of topics.Lookup = lookup_entry ∷ []
+entries_of topics.Bind = bind_entry ∷ []
+entries_of topics.Unbind = unbind_entry ∷ []
 entries_of topics.Replay = replay_entry ∷ []
 entries_of topics.Show = show_entry ∷ []
 entries_of topics.Drill = drill_entry ∷ []

@@ -33,6 +33,11 @@ IsBindingOf binding None = binding ≡ default_options.binding
 abbrev pub SpellsUpTo : ℕ → ℕ → List ℕ → Type 0
 SpellsUpTo most n word = (1 ≤ n) × (n ≤ most) × (word ≡ decimal n)
 
+-- There is a word, and it spells 1 to 65535.
+abbrev pub IsSmallOf : ℕ → Option (List ℕ) → Type 0
+IsSmallOf n (Some word) = SpellsUpTo 65535 n word
+IsSmallOf n None = ⊥
+
 -- The word spells the duration, 1 to 2^40 milliseconds; where there is none, it is the default.
 abbrev pub IsDurationOf : ℕ → ℕ → Option (List ℕ) → Type 0
 IsDurationOf default duration (Some word) = SpellsUpTo MAX_DURATION_MS duration word

@@ -1,13 +1,16 @@
 //! The commands that words may ask for.
+use crate::client::ClientCommand;
 use crate::options::{LeaseOptions, ServeWords};
 
 /// A command, with what the words say of it.
-#[derive(Clone, Copy, Debug, PartialEq, Eq)]
+#[derive(Debug, Drop)]
 pub enum Command {
     /// `answer [BINDING] [LEASE] [ACK]`: serve the input and the output as one connection, on these options.
     Answer(LeaseOptions),
     /// `serve PORT COUNT [BINDING] [LEASE] [ACK]`: serve this many links at this port, on these options.
     Serve(ServeWords),
+    /// `list`, `lookup`, `bind` or `unbind`: ask this of a server.
+    Client(ClientCommand),
     /// `replay`: print the outline of the history that the input spells as a journal.
     Replay,
     /// `show`: print the text of the graph that the input spells as a stream.
@@ -54,6 +57,10 @@ pub enum HelpTopic {
     All,
     Answer,
     Serve,
+    List,
+    Lookup,
+    Bind,
+    Unbind,
     Replay,
     Show,
     Drill,

@@ -1,17 +1,21 @@
 //! The words of the program's command line, and the text that `help` prints.
 #![tactic(auto)]
 
+mod client;
 mod command;
 mod declared;
 mod help;
 mod numbers;
 mod options;
 mod table;
+mod texts;
 mod words;
 
+pub use client::{ClientCommand, ServerAddress};
 pub use command::{ClassOutput, Command, DrillText, HelpTopic, WordsFault};
 pub use help::help_text;
 pub use numbers::MAX_ROUNDS;
 pub use options::{LeaseOptions, ServeWords};
 pub use table::{CommandEntry, WordEntry, commands, commands_of};
+pub use texts::units_of_text;
 pub use words::Words;

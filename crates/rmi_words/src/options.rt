@@ -1,8 +1,8 @@
 //! The options on which a space is served, and what `serve` is told.
 ghost use Rattle.std.specs.Prelude.{option_map};
 ghost use Rattle.journal.specs.Reading.{Finds};
-ghost use Rattle.rmi_words.specs.Options.{IsBindingOf, IsDurationOf};
-ghost use Rattle.rmi_words.specs.Values.{AreOptionsOf, IsServeOf, IsSmallOf, values_of};
+ghost use Rattle.rmi_words.specs.Options.{IsBindingOf, IsDurationOf, IsSmallOf};
+ghost use Rattle.rmi_words.specs.Values.{AreOptionsOf, IsServeOf, values_of};
 
 use crate::numbers::{read_duration, read_small};
 use clap::ArgMatches;
@@ -64,7 +64,7 @@ pub(crate) fn read_serve(values: &ArgMatches) -> Option<ServeWords>
 }
 
 /// Returns the number, 1 to 65535, that the word spells, or None where it spells none or is left out.
-fn read_small_of(word: Option<&str>) -> Option<u16>
+pub(crate) fn read_small_of(word: Option<&str>) -> Option<u16>
     ensures { Finds IsSmallOf result (option_map (λ text. text.now) word.entry) }
 {
     match word {

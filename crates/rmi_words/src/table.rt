@@ -78,6 +78,34 @@ const COUNT: WordEntry = WordEntry {
     says: "how many connections to serve: 1 to 65535",
 };
 
+/// The host of a registry.
+const HOST: WordEntry = WordEntry {
+    name: "HOST",
+    required: true,
+    says: "the registry's host, a name or an address: at most 255 UTF-16 units",
+};
+
+/// The port of a registry.
+const REGISTRY_PORT: WordEntry = WordEntry {
+    name: "PORT",
+    required: true,
+    says: "the registry's port: 1 to 65535",
+};
+
+/// A name of a registry.
+const NAME: WordEntry = WordEntry {
+    name: "NAME",
+    required: true,
+    says: "a name of the registry: at most 255 UTF-16 units",
+};
+
+/// The name of which the reference is bound.
+const FROM: WordEntry = WordEntry {
+    name: "FROM",
+    required: true,
+    says: "the name whose reference is bound: at most 255 UTF-16 units",
+};
+
 /// The command that is explained.
 const COMMAND: WordEntry = WordEntry {
     name: "COMMAND",
@@ -86,7 +114,7 @@ const COMMAND: WordEntry = WordEntry {
 };
 
 /// All commands, in the order in which `help` prints them.
-static COMMANDS: [CommandEntry; 11] = [
+static COMMANDS: [CommandEntry; 15] = [
     CommandEntry {
         name: "answer",
         words: &[BINDING, LEASE, ACK],
@@ -98,6 +126,30 @@ static COMMANDS: [CommandEntry; 11] = [
         words: &[PORT, COUNT, BINDING, LEASE, ACK],
         does: "listens on 127.0.0.1:PORT, serves COUNT connections over one object table, and prints the outline of its history",
         example: "rmi serve 1099 10 open",
+    },
+    CommandEntry {
+        name: "list",
+        words: &[HOST, REGISTRY_PORT],
+        does: "prints the names of a registry, one a line",
+        example: "rmi list localhost 1099",
+    },
+    CommandEntry {
+        name: "lookup",
+        words: &[HOST, REGISTRY_PORT, NAME],
+        does: "prints the host, the port and the object that a name of a registry stands for",
+        example: "rmi lookup localhost 1099 echo",
+    },
+    CommandEntry {
+        name: "bind",
+        words: &[HOST, REGISTRY_PORT, NAME, FROM],
+        does: "binds a name of a registry to what another name stands for, as a java.rmi.Remote alone",
+        example: "rmi bind localhost 1099 copy echo",
+    },
+    CommandEntry {
+        name: "unbind",
+        words: &[HOST, REGISTRY_PORT, NAME],
+        does: "unbinds a name of a registry",
+        example: "rmi unbind localhost 1099 copy",
     },
     CommandEntry {
         name: "replay",
@@ -163,15 +215,19 @@ pub fn commands_of(topic: HelpTopic) -> &'static [CommandEntry]
         HelpTopic::All => COMMANDS.as_slice(),
         HelpTopic::Answer => &COMMANDS[0..1],
         HelpTopic::Serve => &COMMANDS[1..2],
-        HelpTopic::Replay => &COMMANDS[2..3],
-        HelpTopic::Show => &COMMANDS[3..4],
-        HelpTopic::Drill => &COMMANDS[4..5],
-        HelpTopic::Journal => &COMMANDS[5..6],
-        HelpTopic::World => &COMMANDS[6..7],
-        HelpTopic::Suid => &COMMANDS[7..8],
-        HelpTopic::SuidText => &COMMANDS[8..9],
-        HelpTopic::Describe => &COMMANDS[9..10],
-        HelpTopic::Help => &COMMANDS[10..11],
+        HelpTopic::List => &COMMANDS[2..3],
+        HelpTopic::Lookup => &COMMANDS[3..4],
+        HelpTopic::Bind => &COMMANDS[4..5],
+        HelpTopic::Unbind => &COMMANDS[5..6],
+        HelpTopic::Replay => &COMMANDS[6..7],
+        HelpTopic::Show => &COMMANDS[7..8],
+        HelpTopic::Drill => &COMMANDS[8..9],
+        HelpTopic::Journal => &COMMANDS[9..10],
+        HelpTopic::World => &COMMANDS[10..11],
+        HelpTopic::Suid => &COMMANDS[11..12],
+        HelpTopic::SuidText => &COMMANDS[12..13],
+        HelpTopic::Describe => &COMMANDS[13..14],
+        HelpTopic::Help => &COMMANDS[14..15],
     }
 }
 

@@ -3,11 +3,13 @@ ghost use Rattle.std.specs.Prelude.{◌≡◌, ◌≢◌, [], map, option_map, s
 ghost use Rattle.std.specs.List.{list_any};
 ghost use Rattle.journal.specs.Reading.{Finds};
 ghost use Rattle.clap.specs.Words.{subcommand_rows_of};
+ghost use Rattle.rmi_words.specs.Clients.{Reads};
 ghost use Rattle.rmi_words.specs.Command.{word_of_text};
 ghost use Rattle.rmi_words.specs.Program.{AreTaken, faults_in, is_option};
-ghost use Rattle.rmi_words.specs.Values.{IsCommandIn, IsCommandOf, IsTopicOf, values_of};
+ghost use Rattle.rmi_words.specs.Values.{IsCommandIn, IsCommandOf, IsOwnOf, IsTopicOf, values_of};
 ghost use Rattle.rmi_words.specs.declared.command.Command.{Command as Commands};
 
+use crate::client::{read_bind, read_list, read_lookup, read_unbind};
 use crate::command::{ClassOutput, Command, DrillText, HelpTopic, WordsFault};
 use crate::declared::declared_program;
 use crate::numbers::read_drill;
@@ -52,10 +54,7 @@ impl Words {
             return Err(WordsFault::Usage);
         }
         let matches = matches_of(alloc, words)?;
-        match command_of(&matches) {
-            Some(command) => Ok(command),
-            None => Err(WordsFault::Usage),
-        }
+        command_of(alloc, &matches)
     }
 }
 
@@ -99,19 +98,35 @@ fn fault_of_kind(kind: ErrorKind) -> WordsFault
     }
 }
 
-/// Returns the command that `clap` found, where what it is told is in range.
-fn command_of(matches: &ArgMatches) -> Option<Command>
-    ensures { Finds IsCommandIn result (subcommand_rows_of matches.now) }
+/// Returns the command that `clap` found. The fault is Usage only where what it is told is out of range.
+fn command_of(alloc: Global, matches: &ArgMatches) -> Result<Command, WordsFault>
+    ensures { Reads IsCommandIn result (subcommand_rows_of matches.now) }
 {
     match matches.subcommand() {
-        Some((name, values)) => read_command(name, values),
-        None => None,
+        Some((name, values)) => read_command(alloc, name, values),
+        None => Err(WordsFault::Usage),
     }
 }
 
-/// Returns the command of this name, where what its words tell it is in range.
-fn read_command(name: &str, values: &ArgMatches) -> Option<Command>
-    ensures { Finds (IsCommandOf name.now) result (values_of values.now) }
+/// Returns the command of this name. The fault is Usage only where what its words tell it is out of range.
+fn read_command(alloc: Global, name: &str, values: &ArgMatches) -> Result<Command, WordsFault>
+    ensures { Reads (IsCommandOf name.now) result (values_of values.now) }
+{
+    match name {
+        "list" => read_list(alloc, values),
+        "lookup" => read_lookup(alloc, values),
+        "bind" => read_bind(alloc, values),
+        "unbind" => read_unbind(alloc, values),
+        _ => match read_own(name, values) {
+            Some(command) => Ok(command),
+            None => Err(WordsFault::Usage),
+        },
+    }
+}
+
+/// Returns the command of this name that asks nothing of a server, where what its words tell it is in range.
+fn read_own(name: &str, values: &ArgMatches) -> Option<Command>
+    ensures { Finds (IsOwnOf name.now) result (values_of values.now) }
 {
     match name {
         "answer" => Some(Command::Answer(read_lease_options(values)?)),
@@ -131,7 +146,7 @@ fn read_command(name: &str, values: &ArgMatches) -> Option<Command>
 
 /// Returns the drill of which this text is printed, where the words SEED and N are in range.
 fn read_drill_of(values: &ArgMatches, text: DrillText) -> Option<Command>
-    ensures { Finds (IsCommandOf (word_of_text text)) result (values_of values.now) }
+    ensures { Finds (IsOwnOf (word_of_text text)) result (values_of values.now) }
 {
     let (seed, rounds) = read_drill(values.get_str("SEED")?, values.get_str("N")?)?;
     Some(Command::Drill { text, seed, rounds })
@@ -145,6 +160,10 @@ fn read_topic(word: Option<&str>) -> Option<HelpTopic>
         None => Some(HelpTopic::All),
         Some("answer") => Some(HelpTopic::Answer),
         Some("serve") => Some(HelpTopic::Serve),
+        Some("list") => Some(HelpTopic::List),
+        Some("lookup") => Some(HelpTopic::Lookup),
+        Some("bind") => Some(HelpTopic::Bind),
+        Some("unbind") => Some(HelpTopic::Unbind),
         Some("replay") => Some(HelpTopic::Replay),
         Some("show") => Some(HelpTopic::Show),
         Some("drill") => Some(HelpTopic::Drill),

@@ -1,7 +1,8 @@
-//! What holds of writing and reading together.
+//! What holds of writing and reading together, and of the faults that bytes show.
 #![tactic(auto)]
 
 mod descriptions;
+pub mod faults;
 mod round_trip;
 
 pub use descriptions::description_read_back;

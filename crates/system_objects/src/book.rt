@@ -11,7 +11,7 @@ ghost use Rattle.system_objects.specs.declared.book.BookFault.TheVariants.{OutOf
 use class_desc::TypeCode;
 use jrmp_frames::CallHead;
 use method_hash::{CollectorMethod, Method, MethodList, RegistryMethod, hash};
-use sequence::{I64List, Sequence, Units};
+use sequence::{I64List, Sequence, TryCopy, Units};
 use std::alloc::{AllocError, AllocFailed, Global};
 use std::marker::Model;
 use system_ids::{SystemMethod, hash_by, is_registry};
@@ -31,6 +31,15 @@ impl Drop for Kind {
         let Kind { interface, methods } = self;
         drop(interface);
         drop(methods);
+    }
+}
+
+impl TryCopy for Kind {
+    fn try_copy(&self, alloc: Global) -> Result<Kind, AllocError> {
+        Ok(Kind {
+            interface: self.interface.copy(alloc)?,
+            methods: self.methods.copy(alloc)?,
+        })
     }
 }
 

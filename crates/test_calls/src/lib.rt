@@ -25,3 +25,5 @@ mod spaces;
 mod system_rows;
 #[cfg(test)]
 mod texts;
+#[cfg(test)]
+mod turn_tests;

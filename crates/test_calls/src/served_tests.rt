@@ -181,7 +181,7 @@ fn outcome_of(rt: &impl Abort, alloc: Global, word: &str) -> Outcome {
 }
 
 /// How invocations come out.
-fn outcomes_of(rt: &impl Abort, alloc: Global, words: &str) -> OutcomeList {
+pub(crate) fn outcomes_of(rt: &impl Abort, alloc: Global, words: &str) -> OutcomeList {
     let mut outcomes = OutcomeList::new(alloc);
     for word in words.split(' ') {
         if !word.is_empty() {
@@ -230,7 +230,7 @@ fn this_host(rt: &impl Abort, alloc: Global) -> Units
 }
 
 /// What a connection is told beforehand.
-fn setup(rt: &impl Abort, alloc: Global, binding: bool) -> Setup
+pub(crate) fn setup(rt: &impl Abort, alloc: Global, binding: bool) -> Setup
     ensures draw { result.draw ≡ record { unique = pos 2; time = pos 2; drawn = 0 } }
     ensures peer_host { length (utf result.peer_host) ≤ 255 }
     ensures host { length (utf result.host) ≤ 255 }

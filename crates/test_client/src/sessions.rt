@@ -78,7 +78,7 @@ fn put_done(rt: &impl Abort, alloc: Global, out: &mut ByteList, done: &Result<()
 }
 
 /// The graph of no arguments.
-fn no_arguments(rt: &impl Abort, alloc: Global) -> Graph {
+pub(crate) fn no_arguments(rt: &impl Abort, alloc: Global) -> Graph {
     match Builder::new(alloc).finish(Items::new(alloc)) {
         Ok(graph) => graph,
         Err(_fault) => panic!(rt; "no arguments"),
@@ -153,7 +153,7 @@ fn put_bind(rt: &impl Abort, alloc: Global, out: &mut ByteList, session: &mut Te
 }
 
 /// The client of lease calls.
-fn caller(rt: &impl Abort, alloc: Global) -> Vmid {
+pub(crate) fn caller(rt: &impl Abort, alloc: Global) -> Vmid {
     let mut addr = ByteList::new(alloc);
     put(rt, &mut addr, &[1, 2, 3, 4, 5, 6, 7, 8]);
     let uid = Uid {

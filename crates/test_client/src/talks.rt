@@ -69,9 +69,9 @@ unbind list : : ACK NORMAL / none : HEAD OWN REG 00000004 NAMING 74 =echo : ok, 
 
 /// A dialer, and the halves of the links that commands left.
 #[derive(Drop)]
-struct Wires {
-    dialer: MemDialer,
-    talked: Vec<Halves<MemSource, MemSink>>,
+pub(crate) struct Wires {
+    pub(crate) dialer: MemDialer,
+    pub(crate) talked: Vec<Halves<MemSource, MemSink>>,
 }
 
 /// A link whose end is at this host, to a server that sends these bytes.
@@ -95,7 +95,13 @@ fn link_of(rt: &impl Abort, alloc: Global, server: &str, failing: &str) -> MemLi
 }
 
 /// Appends a link to a server that sends these bytes, where it is not `none`.
-fn put_link(rt: &impl Abort, alloc: Global, links: &mut MemLinks, server: &str, failing: &str)
+pub(crate) fn put_link(
+    rt: &impl Abort,
+    alloc: Global,
+    links: &mut MemLinks,
+    server: &str,
+    failing: &str,
+)
     requires { AllByRecursion IsNew links.old }
     ensures { AllByRecursion IsNew links.new }
 {
@@ -119,11 +125,19 @@ fn links_of(rt: &impl Abort, alloc: Global, servers: &str, failing: &str) -> Mem
 }
 
 /// Appends the text of the end of a command.
-fn put_command_end(rt: &impl Abort, alloc: Global, out: &mut ByteList, end: &CommandEnd) {
+pub(crate) fn put_command_end(
+    rt: &impl Abort,
+    alloc: Global,
+    out: &mut ByteList,
+    end: &CommandEnd,
+) {
     match end {
         CommandEnd::DialFault => put(rt, out, b"dial fault"),
         CommandEnd::Session(end) => put_end(rt, alloc, out, end),
-        CommandEnd::Table(_) => put(rt, out, b"table"),
+        CommandEnd::Table(fault) => {
+            let text = format!(in alloc; "table {fault}").expect(rt, "memory");
+            put(rt, out, text.as_bytes());
+        }
     }
 }
 
@@ -269,7 +283,7 @@ fn check_sent(rt: &impl Abort, alloc: Global, talked: &[Halves<MemSource, MemSin
 }
 
 /// Stops where the halves of a link that was dialled were not left.
-fn check_left(rt: &impl Abort, alloc: Global, wires: &Wires, sent: &str) {
+pub(crate) fn check_left(rt: &impl Abort, alloc: Global, wires: &Wires, sent: &str) {
     must(
         rt,
         wires.talked.len() == wires.dialer.dialed(),

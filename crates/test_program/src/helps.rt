@@ -22,9 +22,13 @@ fn each_help_is_printed(rt: HostRuntime) {
 }
 
 /// The words that print one command's help, in the order of the commands.
-const TOPICS: [&str; 11] = [
+const TOPICS: [&str; 15] = [
     "help answer",
     "help serve",
+    "help list",
+    "help lookup",
+    "help bind",
+    "help unbind",
     "help replay",
     "help show",
     "help drill",

@@ -7,11 +7,12 @@ use std::alloc::Global;
 use std::process::Abort;
 use std::sync::Wait;
 use std::thread::Threads;
+use wire_io::MemDialer;
 use wire_io::listener::{MemLinks, MemListener};
 use wire_io::mem::{MemClock, MemSink, MemSource};
 
 /// A host over streams in memory.
-pub(crate) type MemHost<H> = Host<MemSource, MemSink, MemSink, MemClock, MemListener, H>;
+pub(crate) type MemHost<H> = Host<MemSource, MemSink, MemSink, MemClock, MemListener, MemDialer, H>;
 
 /// What the program runs on: it may start threads and wait, and a test may stop.
 pub(crate) trait Runs: Abort + Threads + Wait + Sync {}
@@ -21,6 +22,11 @@ impl<R: Abort + Threads + Wait + Sync> Runs for R {}
 /// A network that gives no connections.
 pub(crate) fn silent(alloc: Global) -> MemListener {
     MemListener::new(alloc, MemLinks::new(alloc))
+}
+
+/// A network in which nobody is reached.
+pub(crate) fn unlinked(alloc: Global) -> MemDialer {
+    MemDialer::new(alloc, MemLinks::new(alloc))
 }
 
 /// The seed of the tests' hosts.
@@ -102,15 +108,17 @@ pub(crate) fn host_over<I, O, H>(
     input: I,
     output: O,
     moments: &str,
-) -> Host<I, O, MemSink, MemClock, MemListener, H> {
+) -> Host<I, O, MemSink, MemClock, MemListener, MemDialer, H> {
     Host {
         input,
         output,
         errors: sink_of(rt, alloc, ""),
         ticks: MemClock::new(moments_of(rt, alloc, moments)),
         listener: silent(alloc),
+        dialer: unlinked(alloc),
         seed: SEED,
         served: None,
+        talked: Vec::new(alloc),
     }
 }
 

@@ -44,6 +44,8 @@ mod shows;
 #[cfg(test)]
 mod system_rows;
 #[cfg(test)]
+mod talks;
+#[cfg(test)]
 mod texts;
 #[cfg(test)]
 mod wires;

@@ -1,5 +1,5 @@
 //! A port on which the program can't listen.
-use crate::hosts::{Runs, SEED, cut_by, is_line, must, sink_of, source_of, words_of};
+use crate::hosts::{Runs, SEED, cut_by, is_line, must, sink_of, source_of, unlinked, words_of};
 use rmi_cli::{Host, run};
 use sequence::MomentList;
 use std::alloc::Global;
@@ -50,8 +50,10 @@ fn check_deaf(rt: &impl Runs, alloc: Global, line: &str) {
         errors: sink_of(rt, alloc, ""),
         ticks: MemClock::new(MomentList::new(alloc)),
         listener: Deaf { faults: 0 },
+        dialer: unlinked(alloc),
         seed: SEED,
         served: None,
+        talked: Vec::new(alloc),
     };
     let status = run(rt, alloc, &words, &mut host);
     must(rt, status == 3, line);

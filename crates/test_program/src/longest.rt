@@ -1,4 +1,4 @@
-//! How many bytes a journal has at most.
+//! How many bytes a journal and a script have at most.
 ghost use Rattle.std.specs.Prelude.{true};
 ghost use Rattle.wire_io.specs.Wire.{untold_read};
 
@@ -26,15 +26,18 @@ impl Source for Untold {
     fn shut(&mut self) {}
 }
 
-/// How many bytes there are, and the status and the line. The bytes are no journal, which is seen where all of them are taken.
-const LENGTHS: &str = "268435456 | 2 bad line 1
-268435457 | 6 too large bytes at 268435456";
+/// The command, how many bytes there are, and the status and the line. The bytes are no journal and no script, which is seen where all of them are taken.
+const LENGTHS: &str = "replay | 268435456 | 2 bad line 1
+replay | 268435457 | 6 too large bytes at 268435456
+world | 268435456 | 2 bad line 1
+world | 268435457 | 6 too large bytes at 268435456";
 
-/// Replays so many bytes.
+/// Runs a command over so many bytes.
 fn check_length(rt: &impl Runs, alloc: Global, line: &str) {
-    let (length, told) = cut(line, '|');
+    let (command, told) = cut(line, '|');
+    let (length, told) = cut(told, '|');
     let (status, told) = cut(told, ' ');
-    let words = words_of(rt, alloc, "replay");
+    let words = words_of(rt, alloc, command);
     let input = Untold {
         left: number_of(rt, length) as usize,
     };
@@ -46,7 +49,7 @@ fn check_length(rt: &impl Runs, alloc: Global, line: &str) {
 }
 
 #[test]
-fn a_journal_has_a_longest_length(rt: HostRuntime) {
+fn journals_and_scripts_have_a_longest_length(rt: HostRuntime) {
     for line in LENGTHS.split('\n') {
         check_length(&rt, rt.alloc(), line);
     }

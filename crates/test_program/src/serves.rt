@@ -3,14 +3,14 @@ ghost use Rattle.std.specs.Prelude.{◌≤◌, length, IsTrue};
 ghost use Rattle.mod_utf.specs.Utf.{utf};
 
 use crate::hosts::{MemHost, Runs, cut_by, host_of, is_line, must, put, run_line, sink_of};
-use crate::texts::{bytes_of, cut, number_of};
+use crate::texts::{bytes_of, cut, number_of, numbers_of};
 use mod_utf::utf::{encoded_len, units_of_ascii};
 use sequence::{ByteList, Kinds, MomentList, Units};
 use std::alloc::Global;
 use std::marker::Model;
 use std::process::Abort;
 use wire_io::mem::{MemClock, MemSink, MemSource};
-use wire_io::{Link, MemLinks, MemListener};
+use wire_io::{Link, MemDialer, MemLinks, MemListener};
 
 // A line is a run: the program's words; which of the output's writes fail; what each connection sends, between commas; how many connections are
 // taken; the status and the line on the errors' sink; the first line of the outline, where one is printed; the line of an object that was made; and
@@ -67,7 +67,7 @@ fn is_short(host: &Units) -> bool
 
 /// Connections of which no half failed yet.
 #[derive(Drop)]
-struct Network {
+pub(crate) struct Network {
     links: MemLinks,
 }
 
@@ -85,13 +85,25 @@ impl Model for Network {
 
 impl Network {
     /// No connections.
-    fn new(alloc: Global) -> Network {
+    pub(crate) fn new(alloc: Global) -> Network {
         let links = MemLinks::new(alloc);
         Network { links }
     }
 
     /// Adds a connection that sends these bytes.
     fn add(&mut self, rt: &impl Abort, alloc: Global, words: &str) {
+        self.add_failing(rt, alloc, words, "", "");
+    }
+
+    /// Adds a connection that sends these bytes, of which the reads and the writes of these indices fail.
+    pub(crate) fn add_failing(
+        &mut self,
+        rt: &impl Abort,
+        alloc: Global,
+        words: &str,
+        failing_reads: &str,
+        failing_writes: &str,
+    ) {
         let Ok(host) = units_of_ascii(alloc, b"127.0.0.1") else {
             return must(rt, false, "memory");
         };
@@ -100,8 +112,12 @@ impl Network {
         }
         let bytes = bytes_of(rt, alloc, words);
         let added = self.links.push(Link {
-            source: MemSource::new(bytes, Kinds::new(alloc), Kinds::new(alloc)),
-            sink: MemSink::new(alloc, Kinds::new(alloc)),
+            source: MemSource::new(
+                bytes,
+                Kinds::new(alloc),
+                numbers_of(rt, alloc, failing_reads),
+            ),
+            sink: MemSink::new(alloc, numbers_of(rt, alloc, failing_writes)),
             clock: MemClock::new(MomentList::new(alloc)),
             host,
             port: 1234,
@@ -113,6 +129,12 @@ impl Network {
     fn listener(self, alloc: Global) -> MemListener {
         let Network { links } = self;
         MemListener::new(alloc, links)
+    }
+
+    /// The dialer that gives these connections.
+    pub(crate) fn dialer(self, alloc: Global) -> MemDialer {
+        let Network { links } = self;
+        MemDialer::new(alloc, links)
     }
 }
 
@@ -179,4 +201,38 @@ fn connections_are_served_and_the_outline_is_printed(rt: HostRuntime) {
     for line in RUNS.split('\n') {
         check_run(&rt, rt.alloc(), line);
     }
+}
+
+/// Two connections that each add 5 to one counter, and then get what it has counted.
+const ADDING: &str =
+    "opening add 77 08 0000000000000005 get, opening add 77 08 0000000000000005 get";
+
+/// The last bytes that the two connections got, where two were served.
+fn last_bytes<H>(host: &MemHost<H>) -> (u8, u8) {
+    let Some(report) = &host.served else {
+        return (0, 0);
+    };
+    match report.links.as_slice() {
+        [one, two] => (
+            one.sink.held().last().copied().unwrap_or(0),
+            two.sink.held().last().copied().unwrap_or(0),
+        ),
+        _ => (0, 0),
+    }
+}
+
+/// Serves the two connections, and looks at what each got last: the one that came second saw what the other added.
+fn check_adding(rt: &impl Runs, alloc: Global) {
+    let mut host = host_of(rt, alloc, b"", cut_by("-"));
+    host.listener = listener_of(rt, alloc, ADDING);
+    let ended = run_line(rt, alloc, "serve 1099 2", &mut host);
+    must(rt, ended == 0, "ended");
+    let told = last_bytes(&host);
+    let is_shared = told == (5, 10) || told == (10, 5) || told == (10, 10);
+    must(rt, is_shared, "one counter");
+}
+
+#[test]
+fn connections_count_together(rt: HostRuntime) {
+    check_adding(&rt, rt.alloc());
 }

@@ -1,10 +1,14 @@
 //! What words ask for.
 use crate::hosts::{must, words_of};
-use rmi_cli::{ClassOutput, Command, HelpTopic, LeaseOptions, WordsFault};
+use history::Name;
+use rmi_cli::{
+    ClassOutput, ClientCommand, Command, HelpTopic, LeaseOptions, ServerAddress, WordsFault,
+};
+use sequence::Units;
 use std::alloc::Global;
 use std::process::Abort;
 
-/// Words, and the command that they ask for: `answer` or `serve` with its numbers, `help` with its topic, what is printed of a class, `other`, or `none`.
+/// Words, and the command that they ask for: `answer` or `serve` with its numbers, a client's with its words, `help` with its topic, what is printed of a class, `other`, or `none`.
 const ROWS: &str = "answer|answer false 600000 300000
 answer open|answer true 600000 300000
 answer closed|answer false 600000 300000
@@ -39,6 +43,27 @@ serve 01 1|none
 serve 1 ~1|none
 serve 1|none
 serve|none
+list 127.0.0.1 1099|list 127.0.0.1 1099
+list localhost 65535|list localhost 65535
+list 127.0.0.1|none
+list|none
+list 127.0.0.1 0|none
+list 127.0.0.1 65536|none
+list 127.0.0.1 01099|none
+list 127.0.0.1 1099 echo|none
+list -h 1099|none
+lookup h 1 echo|lookup h 1 echo
+lookup h 1 ~a|lookup h 1 ~a
+lookup h 1 -a|none
+lookup h 1|none
+lookup h 1 a b|none
+bind h 1 copy echo|bind h 1 copy echo
+bind h 1 copy|none
+bind h 1 copy echo more|none
+unbind h 1 copy|unbind h 1 copy
+unbind h 1|none
+unbind h x copy|none
+List h 1|none
 serve 1 1 open 7 8 9|none
 serve 1 1 7|none
 replay|other
@@ -74,6 +99,10 @@ show show|none
 help|help all
 help answer|help answer
 help serve|help serve
+help list|help list
+help lookup|help lookup
+help bind|help bind
+help unbind|help unbind
 help replay|help replay
 help show|help show
 help drill|help drill
@@ -124,6 +153,10 @@ fn topic_name(topic: HelpTopic) -> &'static str {
         HelpTopic::All => "help all",
         HelpTopic::Answer => "help answer",
         HelpTopic::Serve => "help serve",
+        HelpTopic::List => "help list",
+        HelpTopic::Lookup => "help lookup",
+        HelpTopic::Bind => "help bind",
+        HelpTopic::Unbind => "help unbind",
         HelpTopic::Replay => "help replay",
         HelpTopic::Show => "help show",
         HelpTopic::Drill => "help drill",
@@ -145,6 +178,49 @@ fn output_name(output: ClassOutput) -> &'static str {
     }
 }
 
+/// A text of 16-bit units.
+fn text_of(rt: &impl Abort, alloc: Global, units: &Units) -> String {
+    String::from_utf16_lossy(alloc, units.as_slice()).expect(rt, "memory")
+}
+
+/// Looks whether a command of a client is written so, with the word that names it and the words for names.
+fn are_client_words(
+    rt: &impl Abort,
+    alloc: Global,
+    word: &str,
+    server: &ServerAddress,
+    names: &[&Name],
+    wanted: &str,
+) {
+    let host = text_of(rt, alloc, &server.host);
+    let port = server.port;
+    let mut text = format!(in alloc; "{word} {host} {port}").expect(rt, "memory");
+    for name in names {
+        let name = text_of(rt, alloc, name.units());
+        must(rt, text.push_str(" ").is_ok(), "memory");
+        must(rt, text.push_str(name.as_str()).is_ok(), "memory");
+    }
+    must(rt, text.as_str() == wanted, wanted);
+}
+
+/// Looks whether a command of a client is written so.
+fn is_client(rt: &impl Abort, alloc: Global, command: &ClientCommand, wanted: &str) {
+    match command {
+        ClientCommand::List { server } => {
+            are_client_words(rt, alloc, "list", server, &[], wanted);
+        }
+        ClientCommand::Lookup { server, name } => {
+            are_client_words(rt, alloc, "lookup", server, &[name], wanted);
+        }
+        ClientCommand::Bind { server, name, from } => {
+            are_client_words(rt, alloc, "bind", server, &[name, from], wanted);
+        }
+        ClientCommand::Unbind { server, name } => {
+            are_client_words(rt, alloc, "unbind", server, &[name], wanted);
+        }
+    }
+}
+
 /// Looks at what the words of a line ask for.
 fn check(rt: &impl Abort, alloc: Global, line: &str, wanted: &str) {
     match words_of(rt, alloc, line).command(alloc) {
@@ -157,6 +233,7 @@ fn check(rt: &impl Abort, alloc: Global, line: &str, wanted: &str) {
                 Err(_) => must(rt, false, "memory"),
             }
         }
+        Ok(Command::Client(command)) => is_client(rt, alloc, &command, wanted),
         Ok(Command::Class(output)) => must(rt, wanted == output_name(output), line),
         Ok(Command::Help(topic)) => must(rt, wanted == topic_name(topic), line),
         Ok(_) => must(rt, wanted == "other", line),

@@ -12,7 +12,7 @@ use std::io;
 use std::io::Write;
 use std::sync::Wait;
 use std::thread::Threads;
-use wire_io::{MemClock, MemLinks, MemListener, MemSink, MemSource};
+use wire_io::{MemClock, MemDialer, MemLinks, MemListener, MemSink, MemSource};
 
 const FIRST_LINE: &[u8] = b"space 600000 300000 7 9\n";
 
@@ -146,8 +146,10 @@ fn show<R: Threads + Wait + Sync, W: Write>(
         errors: MemSink::new(alloc, Kinds::new(alloc)),
         ticks: MemClock::new(MomentList::new(alloc)),
         listener: MemListener::new(alloc, MemLinks::new(alloc)),
+        dialer: MemDialer::new(alloc, MemLinks::new(alloc)),
         seed: [0; 4],
         served: None,
+        talked: Vec::new(alloc),
     };
     let status = run(rt, alloc, &Words::from_vec(words), &mut host);
     writeln!(out, "{what}: {status}")?;

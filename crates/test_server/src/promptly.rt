@@ -8,7 +8,7 @@ use crate::servers::{is_short, is_told, listener_of, plan_of};
 use crate::telling::space_with_made;
 use crate::texts::{bytes_of, cut, must, number_of};
 use call_dispatch::{Crew, Invocation, Outcome, Worker};
-use conn_server::{Report, ServePlan, Stop, serve};
+use conn_server::{Report, ServePlan, Server, Stop};
 use object_ids::ObjId;
 use sample_app::sample_book;
 use sequence::{ByteList, Kinds};
@@ -236,7 +236,15 @@ fn serve_noted<R: Threads + Wait + Sync>(
     }
     let book = sample_book(alloc).ok()?;
     match TurnLock::around(alloc, space_with_made(alloc)?) {
-        Ok((lock, root)) => Some(serve(rt, alloc, listener, crew, &book, lock, root, plan)),
+        Ok((lock, root)) => {
+            let server = Server {
+                rt,
+                alloc,
+                crew,
+                book: &book,
+            };
+            Some(server.serve(listener, lock, root, plan))
+        }
         Err(_space) => None,
     }
 }

@@ -5,7 +5,7 @@ ghost use Rattle.mod_utf.specs.Utf.{utf};
 use crate::gates::{Gated, GatedSink, GatedSource};
 use crate::texts::{bytes_of, cut, moments_of, must, number_of, this_host};
 use call_dispatch::{ConnEnd, Crew};
-use conn_server::{LinkReport, Report, ServePlan, Stop, serve};
+use conn_server::{LinkReport, Report, ServePlan, Server, Stop};
 use mod_utf::utf::encoded_len;
 use sample_app::{SampleCrew, SampleHand, sample_book, sample_space};
 use sequence::{Kinds, Units};
@@ -157,7 +157,15 @@ pub(crate) fn serve_over<R: Threads + Wait + Sync, G: Crew>(
     }
     let book = sample_book(alloc).ok()?;
     match TurnLock::around(alloc, space) {
-        Ok((lock, root)) => Some(serve(rt, alloc, listener, crew, &book, lock, root, plan)),
+        Ok((lock, root)) => {
+            let server = Server {
+                rt,
+                alloc,
+                crew,
+                book: &book,
+            };
+            Some(server.serve(listener, lock, root, plan))
+        }
         Err(_space) => None,
     }
 }

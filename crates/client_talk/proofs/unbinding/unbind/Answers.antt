@@ -7,7 +7,7 @@ returns-then-not-has_room-clause-spoke g c given = rw c.has_room.ensures.items (
 
 pub returns-in-Ok-clause-spoke : goal.returns-in-Ok-clause-spoke
 returns-in-Ok-clause-spoke g c given =
-    spoke_one g.D.In.Source.half g.D.Out.Sink.half g.D.Ticks.Clock.given _ _ c.args.place.now (λ host. greets 0 host (unbinds 0 c.args.name.now)) c.in-Ok.link _ _ _ given _ c.has_room.ensures.items c.in-Ok.ensures.dials
+    spoke_one g.D.In.Source.half g.D.Out.Sink.half g.D.Ticks.Clock.given _ _ c.args.place.now (λ host. greets 0 host (unbinds 0 c.args.name.now)) c.in-Ok.link _ _ _ given _ c.has_room.ensures.items c.in-Ok.ensures.dials c.in-Ok.ensures.halves
     (λ b stands. c.unbind_over.ensures.talks _ b given given stands)
 
 pub returns-in-Err-clause-spoke : goal.returns-in-Err-clause-spoke

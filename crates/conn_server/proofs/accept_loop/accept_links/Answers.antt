@@ -7,7 +7,7 @@ use Rattle.conn_server.proofs.accept_loop.accept_links.Goals as goal
 
 pub loop-init : goal.loop-init
 loop-init g c =
-    let a = c.args.accepting in
+    let a = c.args.acceptor.now in
     let fresh = c.requires.fresh in
     let read_half = g.L.In.Source.half in let write_half = g.L.Out.Sink.half in let given = g.L.Ticks.Clock.given in
     let told = (g.L.Listener.listening c.args.listener.now).accepted in
@@ -20,62 +20,62 @@ loop-init g c =
       ports = refl;
     }
 
-pub admit-next-requires-clause-few : goal.admit-next-requires-clause-few
-admit-next-requires-clause-few g c κs within =
+pub admit-requires-clause-few : goal.admit-requires-clause-few
+admit-requires-clause-few g c κs within =
     let was = c.loop.invariant in
-    let freed = c.join_ended-accepted.ensures in
+    let freed = c.join_ended.ensures in
     let count = was.count in
     let count2 = freed.count in
     let test = c.loop-test.true in
     let few = c.requires.few in
     omega (arith, count, count2, test, few)
 
-pub admit-next-requires-clause-tied : goal.admit-next-requires-clause-tied
-admit-next-requires-clause-tied g c κs within =
-    let freed = c.join_ended-accepted.ensures in
+pub admit-requires-clause-tied : goal.admit-requires-clause-tied
+admit-requires-clause-tied g c κs within =
+    let freed = c.join_ended.ensures in
     ap (λ v. v.items) freed.ticks ∙ (c.loop.invariant.tied ∙ ap (λ l. ticks_of l) (sym freed.links))
 
 pub returns-in-Some-clause-links : goal.returns-in-Some-clause-links
 returns-in-Some-clause-links g c =
     let read_half = g.L.In.Source.half in let write_half = g.L.Out.Sink.half in let given = g.L.Ticks.Clock.given in
-    let next = c.admit-next.result.0 in
+    let next = c.admit.new.self in
     let was = c.loop.invariant in
-    let before = links_of (shown_all read_half write_half given c.loop.accepting.started.items) in
+    let before = links_of (shown_all read_half write_half given c.loop.acceptor.started.items) in
     let told = (g.L.Listener.listening c.args.listener.now).accepted in
     let link = accepted_as read_half write_half given c.in-Ok.link in
-    let freed = c.join_ended-accepted.result in
-    let here : links_of (shown_all read_half write_half given next.started.items) ≡ links_of (shown_all read_half write_half given freed.started.items) = rw c.in-Some.is at c.admit-next.ensures.links in
-    let same : links_of (shown_all read_half write_half given next.started.items) ≡ before = here ∙ ap (λ l. links_of l) c.join_ended-accepted.ensures.links in
-    let count : vec_len next.started ≡ vec_len freed.started = rw c.in-Some.is at c.admit-next.ensures.count in
-    let count2 = c.join_ended-accepted.ensures.count in
+    let freed = c.join_ended.new.self in
+    let here : links_of (shown_all read_half write_half given next.started.items) ≡ links_of (shown_all read_half write_half given freed.started.items) = rw c.in-Some.is at c.admit.ensures.links in
+    let same : links_of (shown_all read_half write_half given next.started.items) ≡ before = here ∙ ap (λ l. links_of l) c.join_ended.ensures.links in
+    let count : vec_len next.started ≡ vec_len freed.started = rw c.in-Some.is at c.admit.ensures.count in
+    let count2 = c.join_ended.ensures.count in
     let counter = was.count in
     let test = c.loop-test.true in (
       link ∷ [],
       one_more told (g.L.Listener.listening c.loop.listener).accepted (g.L.Listener.listening c.next_link.new.listener).accepted before link was.links c.in-Ok.ensures.accepts.0 ∙ ap (λ l. with_all told (l ++ link ∷ [])) (sym same),
       (omega (arith, count, count2, counter, test), refl),
-      rw c.in-Some.is at c.admit-next.ensures.lost,
+      rw c.in-Some.is at c.admit.ensures.lost,
     )
 
 pub loop-preserved : goal.loop-preserved
 loop-preserved g c =
     let read_half = g.L.In.Source.half in let write_half = g.L.Out.Sink.half in let given = g.L.Ticks.Clock.given in
-    let next = c.admit-next.result.0 in
+    let next = c.admit.new.self in
     let was = c.loop.invariant in
-    let before = links_of (shown_all read_half write_half given c.loop.accepting.started.items) in
+    let before = links_of (shown_all read_half write_half given c.loop.acceptor.started.items) in
     let told = (g.L.Listener.listening c.args.listener.now).accepted in
     let link = accepted_as read_half write_half given c.in-Ok.link in
-    let freed = c.join_ended-accepted.result in
-    let here : links_of (shown_all read_half write_half given next.started.items) ≡ links_of (shown_all read_half write_half given freed.started.items) ++ link ∷ [] = rw c.in-None.is at c.admit-next.ensures.links in
-    let longer : links_of (shown_all read_half write_half given next.started.items) ≡ before ++ link ∷ [] = here ∙ ap (λ l. links_of l ++ link ∷ []) c.join_ended-accepted.ensures.links in
-    let count : vec_len next.started ≡ vec_len freed.started + 1 = rw c.in-None.is at c.admit-next.ensures.count in
-    let count2 = c.join_ended-accepted.ensures.count in
+    let freed = c.join_ended.new.self in
+    let here : links_of (shown_all read_half write_half given next.started.items) ≡ links_of (shown_all read_half write_half given freed.started.items) ++ link ∷ [] = rw c.in-None.is at c.admit.ensures.links in
+    let longer : links_of (shown_all read_half write_half given next.started.items) ≡ before ++ link ∷ [] = here ∙ ap (λ l. links_of l ++ link ∷ []) c.join_ended.ensures.links in
+    let count : vec_len next.started ≡ vec_len freed.started + 1 = rw c.in-None.is at c.admit.ensures.count in
+    let count2 = c.join_ended.ensures.count in
     let counter = was.count in
     let faults = was.faults in
     let faults2 = c.in-Ok.ensures.accepts.1 in
     record {
-      is = c.admit-next.ensures.accepting;
+      is = c.admit.ensures.accepting;
       count = omega (arith, count, count2, counter);
-      tied = c.admit-next.ensures.tied;
+      tied = c.admit.ensures.tied;
       links = one_more told (g.L.Listener.listening c.loop.listener).accepted (g.L.Listener.listening c.next_link.new.listener).accepted before link was.links c.in-Ok.ensures.accepts.0 ∙ ap (with_all told) (sym longer);
       faults = omega (arith, faults, faults2);
       ports = c.in-Ok.ensures.ports ∙ was.ports;

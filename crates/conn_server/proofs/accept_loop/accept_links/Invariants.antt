@@ -7,12 +7,12 @@ use Rattle.conn_server.proofs.accept_loop.accept_links.Given as goal
 abbrev pub invariant-loop : goal.invariant-loop
 invariant-loop g l = record {
   is : IsAccepting
-      (TalksOver g.L.In.Source.half g.L.Out.Sink.half g.L.Ticks.Clock.given g.G.Hand.Worker.shown g.G.Hand.Worker.may g.G.Hand.Worker.moves l.book)
-      (IsMadeFor g.L.In.Source.half g.L.Out.Sink.half g.L.Ticks.Clock.given g.G.Hand.Worker.shown g.G.Hand.Worker.moves l.plan)
-      g.G.Hand.Worker.shown l.lock l.book l.accepting;
-  count : vec_len l.accepting.started ≡ l.counter;
-  tied : l.accepting.ticks.items ≡ ticks_of (shown_all g.L.In.Source.half g.L.Out.Sink.half g.L.Ticks.Clock.given l.accepting.started.items);
-  links : (g.L.Listener.listening l.listener).accepted ≡ with_all (g.L.Listener.listening l.fn.listener).accepted (links_of (shown_all g.L.In.Source.half g.L.Out.Sink.half g.L.Ticks.Clock.given l.accepting.started.items));
+      (TalksOver g.L.In.Source.half g.L.Out.Sink.half g.L.Ticks.Clock.given g.G.Hand.Worker.shown g.G.Hand.Worker.may g.G.Hand.Worker.moves l.shared.book.now)
+      (IsMadeFor g.L.In.Source.half g.L.Out.Sink.half g.L.Ticks.Clock.given g.G.Hand.Worker.shown g.G.Hand.Worker.moves l.shared.plan.now)
+      g.G.Hand.Worker.shown l.shared.lock.now l.shared.book.now l.acceptor;
+  count : vec_len l.acceptor.started ≡ l.counter;
+  tied : l.acceptor.ticks.items ≡ ticks_of (shown_all g.L.In.Source.half g.L.Out.Sink.half g.L.Ticks.Clock.given l.acceptor.started.items);
+  links : (g.L.Listener.listening l.listener).accepted ≡ with_all (g.L.Listener.listening l.fn.listener).accepted (links_of (shown_all g.L.In.Source.half g.L.Out.Sink.half g.L.Ticks.Clock.given l.acceptor.started.items));
   faults : (g.L.Listener.listening l.fn.listener).faults ≤ (g.L.Listener.listening l.listener).faults;
   ports : (g.L.Listener.listening l.listener).ports ≡ (g.L.Listener.listening l.fn.listener).ports;
 }

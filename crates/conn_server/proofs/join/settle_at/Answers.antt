@@ -8,13 +8,13 @@ use Rattle.conn_server.proofs.join.settle_at.Goals as goal
 pub settle-requires-clause-begun : goal.settle-requires-clause-begun
 settle-requires-clause-begun g c =
     let all = c.args.all.now in
-    link_state_at _ _ _ c.args.lock.now c.args.book.now (view_of c.args.root.now.pass) c.args.place all.items _ c.index_mut.result.now c.requires.links (subst (λ n. c.args.place < n) all.ok.0 c.requires.there) c.index_mut.ensures.value
+    link_state_at _ _ _ c.args.shared.now.lock.now c.args.shared.now.book.now (view_of c.args.root.now.pass) c.args.place all.items _ c.index_mut.result.now c.requires.links (subst (λ n. c.args.place < n) all.ok.0 c.requires.there) c.index_mut.ensures.value
 
 pub returns-clause-links : goal.returns-clause-links
 returns-clause-links g c =
     let all = c.args.all.now in
     let s = c.settle.ensures in
-    settled_at _ _ _ c.args.lock.now c.args.book.now (view_of c.args.root.now.pass) (view_of c.settle.new.root.pass) c.args.place all.items _ c.settle.new.started s.grown c.requires.links
+    settled_at _ _ _ c.args.shared.now.lock.now c.args.shared.now.book.now (view_of c.args.root.now.pass) (view_of c.settle.new.root.pass) c.args.place all.items _ c.settle.new.started s.grown c.requires.links
     (subst (λ n. c.args.place < n) all.ok.0 c.requires.there) (s.task ∙ ap (λ x. task_of x) c.index_mut.ensures.value) s.begun
 
 pub returns-clause-tasks : goal.returns-clause-tasks

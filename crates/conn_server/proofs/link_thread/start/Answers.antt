@@ -4,8 +4,8 @@ use Rattle.std.proofs.Crossing.{send}
 use Rattle.conn_server.proofs.Crossing.{book_sync, ended_sync, lock_sync, task_send, six_send}
 use Rattle.conn_server.proofs.link_thread.start.Goals as goal
 
--- The closure has the handle, the allocator, the lock, the book, the list of links that ended, and the task.
+-- The closure has the task, the handle, the allocator, the lock, the book, and the list of links that ended.
 pub spawn_with-spawned-requires-send-F : goal.spawn_with-spawned-requires-send-F
 spawn_with-spawned-requires-send-F g c κs within =
     let b = c.type_bounds in
-    six_send no _ (shr_send _ _ _ b.sync-R) send (shr_send _ _ _ lock_sync) (shr_send _ _ _ book_sync) (shr_send _ _ _ ended_sync) (task_send _ _ _ _ b.send-I b.send-O b.send-T b.send-H)
+    six_send no _ (task_send _ _ _ _ b.send-I b.send-O b.send-T b.send-H) (shr_send _ _ _ b.sync-R) send (shr_send _ _ _ lock_sync) (shr_send _ _ _ book_sync) (shr_send _ _ _ ended_sync)

@@ -1,5 +1,6 @@
-use Rattle.std.proofs.Common.{refl}
+use Rattle.std.proofs.Common.{None, refl}
 use Rattle.rmi_cli.proofs.Answering.{answered, answers_asked}
+use Rattle.rmi_cli.proofs.Asking.{asks_causes, asks_named, known_told, link_told, sink_told}
 use Rattle.rmi_cli.proofs.Named.{drills_named, exactly_asked, prints_named, serving_asked}
 use Rattle.rmi_cli.proofs.Drilling.{drills_exactly}
 use Rattle.rmi_cli.proofs.Exactly.{told_settles}
@@ -11,7 +12,8 @@ use Rattle.rmi_cli.proofs.program.obey.Goals as goal
 
 pub returns-in-Answer-clause-answer : goal.returns-in-Answer-clause-answer
 returns-in-Answer-clause-answer g c options is =
-    answers_asked _ _ _ _ _ _ _ _ _ c.in-Answer.is is (answered _ _ _ _ _ _ _ _ c.answer_input-end.ensures.serves c.report_end.ensures.told)
+    answers_asked _ _ _ _ _ _ _ _ _ _ _ c.in-Answer.is is
+    (answered _ _ _ _ _ _ _ _ _ _ c.answer_input-end.ensures.serves c.answer_input-end.ensures.read_fault c.answer_input-end.ensures.write_fault c.report_end.ensures.told)
 
 pub returns-in-Answer-clause-exact : goal.returns-in-Answer-clause-exact
 returns-in-Answer-clause-exact g c options is =
@@ -22,15 +24,67 @@ returns-in-Serve-clause-serves g c serve is =
     serving_asked g.L.In.Source.half g.L.Out.Sink.half g.L.Ticks.Clock.given _ _ _ _ _ _ _ _ _ _ _ c.serve_input-served.result.report c.serve_input-served.result.end c.in-Serve.is is
     c.serve_input-served.ensures.served c.serve_input-served.ensures.alone c.serve_input-served.ensures.ends c.report_end-in-Serve.ensures.told refl
 
+pub returns-in-Client-clause-asks : goal.returns-in-Client-clause-asks
+returns-in-Client-clause-asks g c asked given is =
+    asks_named _ c.in-Client.asked asked _ _ _ _ _ _ c.in-Client.is is (c.ask_server-end.ensures.asks given) c.report_end-in-Client.ensures.told
+
+pub returns-in-Client-clause-known : goal.returns-in-Client-clause-known
+returns-in-Client-clause-known g c = known_told _ _ _ _ (asks_causes _ _ _ _ _ _ (c.ask_server-end.ensures.asks None)) c.report_end-in-Client.ensures.status
+
+pub returns-in-Client-clause-link_fault : goal.returns-in-Client-clause-link_fault
+returns-in-Client-clause-link_fault g c asked is = link_told _ _ _ _ (asks_causes _ _ _ _ _ _ (c.ask_server-end.ensures.asks None)) c.report_end-in-Client.ensures.status
+
+pub returns-in-Client-clause-sink_fault : goal.returns-in-Client-clause-sink_fault
+returns-in-Client-clause-sink_fault g c asked is = sink_told _ _ _ _ (asks_causes _ _ _ _ _ _ (c.ask_server-end.ensures.asks None)) c.report_end-in-Client.ensures.status
+
+pub returns-in-Replay-clause-replay : goal.returns-in-Replay-clause-replay
+returns-in-Replay-clause-replay g c is = record {
+  end = c.replay_input-end.result;
+  holds = c.replay_input-end.ensures.ends;
+  read_fault = c.replay_input-end.ensures.read_fault;
+  write_fault = c.replay_input-end.ensures.write_fault;
+  tells = c.report_end-in-Replay.ensures.told;
+}
+
 pub returns-in-Replay-clause-replay_exact : goal.returns-in-Replay-clause-replay_exact
 returns-in-Replay-clause-replay_exact g c is = replays_exactly _ _ _ _ c.replay_input-end.ensures.ends c.report_end-in-Replay.ensures.told
+
+pub returns-in-Show-clause-show : goal.returns-in-Show-clause-show
+returns-in-Show-clause-show g c is = record {
+  end = c.show_input-end.result;
+  holds = c.show_input-end.ensures.ends;
+  read_fault = c.show_input-end.ensures.read_fault;
+  write_fault = c.show_input-end.ensures.write_fault;
+  tells = c.report_end-in-Show.ensures.told;
+}
 
 pub returns-in-Show-clause-show_exact : goal.returns-in-Show-clause-show_exact
 returns-in-Show-clause-show_exact g c is = shows_exactly _ _ _ _ c.show_input-end.ensures.exact c.report_end-in-Show.ensures.told
 
+pub returns-in-Drill-clause-drill : goal.returns-in-Drill-clause-drill
+returns-in-Drill-clause-drill g c text seed rounds is = record {
+  ran = record {
+    end = c.write_drill-end.result;
+    holds = drills_named _ _ _ _ _ _ _ _ _ _ c.in-Drill.is is c.write_drill-end.ensures.ends;
+    read_fault = λ same. absurd (c.write_drill-end.ensures.unread same);
+    write_fault = c.write_drill-end.ensures.write_fault;
+    tells = c.report_end-in-Drill.ensures.told;
+  };
+  unread = refl;
+}
+
 pub returns-in-Drill-clause-drill_exact : goal.returns-in-Drill-clause-drill_exact
 returns-in-Drill-clause-drill_exact g c text seed rounds is =
-    drills_exactly text seed rounds _ _ _ (drills_named _ _ _ _ _ _ _ _ _ _ c.in-Drill.is is (c.write_drill-end.result, c.write_drill-end.ensures.ends, c.report_end-in-Drill.ensures.told, refl))
+    drills_exactly text seed rounds _ _ _ c.write_drill-end.result (drills_named _ _ _ _ _ _ _ _ _ _ c.in-Drill.is is c.write_drill-end.ensures.ends) c.report_end-in-Drill.ensures.told
+
+pub returns-in-World-clause-world : goal.returns-in-World-clause-world
+returns-in-World-clause-world g c is = record {
+  end = c.print_world-end.result;
+  holds = c.print_world-end.ensures.ends;
+  read_fault = c.print_world-end.ensures.read_fault;
+  write_fault = c.print_world-end.ensures.write_fault;
+  tells = c.report_end-in-World.ensures.told;
+}
 
 pub returns-in-World-clause-world_exact : goal.returns-in-World-clause-world_exact
 returns-in-World-clause-world_exact g c is = makes_exactly _ _ _ _ c.print_world-end.ensures.ends c.report_end-in-World.ensures.told

@@ -5,10 +5,10 @@ use Rattle.rmi_cli.proofs.program.report_end.Goals as goal
 
 pub returns-in-Ok-clause-told : goal.returns-in-Ok-clause-told
 returns-in-Ok-clause-told g c =
-    told_so (told_by g.E.Sink.half c.args.errors.now c.put_all.new.sink c.status-in-Ok.result) c.args.end c.as_bytes.result.now (λ same. true≢false (sym (c.if-is_silent.ensures.1 same))) (c.as_bytes.ensures.value ∙ (c.in-Ok.ensures {u = tt}).ok) c.status-in-Ok.ensures
+    told_so (told_by g.E.Sink.half c.args.errors.now c.put_all.new.sink c.status-in-Ok.result) c.args.end c.as_bytes.result.now (λ same. true≢false (sym (c.if-is_silent.ensures.1 same))) (c.as_bytes.ensures.value ∙ c.in-Ok.ensures) c.status-in-Ok.ensures
     (took c.put_all.result (told_by g.E.Sink.half c.args.errors.now c.put_all.new.sink c.status-in-Ok.result) c.as_bytes.result.now c.put_all.ensures.ok c.put_all.ensures.sent c.put_all.ensures.fault)
 
-pub returns-in-Err-clause-told : goal.returns-in-Err-clause-told
-returns-in-Err-clause-told g c =
+pub returns-clause-told : goal.returns-clause-told
+returns-clause-told g c =
     told_wanting (told_by g.E.Sink.half c.args.errors.now c.put_all-in-Err.new.sink c.status-in-Err.result) c.args.end (λ same. true≢false (sym (c.if-is_silent.ensures.1 same))) c.status-in-Err.ensures
     (took c.put_all-in-Err.result (told_by g.E.Sink.half c.args.errors.now c.put_all-in-Err.new.sink c.status-in-Err.result) _ c.put_all-in-Err.ensures.ok c.put_all-in-Err.ensures.sent c.put_all-in-Err.ensures.fault)

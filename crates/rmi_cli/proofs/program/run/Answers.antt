@@ -1,9 +1,14 @@
-use Rattle.std.proofs.Common.{subst}
+use Rattle.std.proofs.Common.{◌≡◌, subst, sym, ◌∙◌, inr, arith}
+use Rattle.rmi_cli.proofs.Asking.{asks_none}
 use Rattle.rmi_cli.proofs.Named.{asked_fits}
 use Rattle.rmi_words.proofs.Asked.{asked_once}
 use Rattle.rmi_words.specs.Command.{AskFor}
-use Rattle.rmi_words.specs.declared.command.Command.TheVariants.{Answer, Serve, Replay, Show, Drill, World, Class, Help}
+use Rattle.rmi_words.specs.declared.client.ClientCommand.{ClientCommand}
+use Rattle.rmi_words.specs.declared.command.Command.{Command}
+use Rattle.rmi_words.specs.declared.options.ServeWords.{ServeWords}
+use Rattle.rmi_words.specs.declared.command.Command.TheVariants.{Answer, Serve, Client, Replay, Show, Drill, World, Class, Help}
 use Rattle.rmi_cli.proofs.Wanting.{answers_none, answers_none_exactly, drills_none, drills_none_exactly, helps_none, none_told, prints_none, prints_none_exactly, replays_none, replays_none_exactly, serves_none, shows_none, shows_none_exactly, wanted, worlds_none, worlds_none_exactly}
+use Rattle.rmi_cli.proofs.Settled.{serving_settles}
 use Rattle.rmi_cli.proofs.WorldOnce.{keeps_promise}
 use Rattle.rmi_cli.proofs.program.run.Goals as goal
 
@@ -18,6 +23,27 @@ returns-in-Ok-clause-exact g c options is = c.obey.ensures.exact options (asked_
 
 pub returns-in-Ok-clause-serves : goal.returns-in-Ok-clause-serves
 returns-in-Ok-clause-serves g c serve is = c.obey.ensures.serves serve (asked_once _ _ (Serve serve) c.in-Ok.ensures.asked is)
+
+pub returns-in-Ok-clause-asks : goal.returns-in-Ok-clause-asks
+returns-in-Ok-clause-asks g c asked given is = c.obey.ensures.asks asked given (asked_once _ _ (Client asked) c.in-Ok.ensures.asked is)
+
+pub returns-in-Ok-clause-unread : goal.returns-in-Ok-clause-unread
+returns-in-Ok-clause-unread g c asked is = c.obey.ensures.unread asked (asked_once _ _ (Client asked) c.in-Ok.ensures.asked is)
+
+pub returns-in-Ok-clause-dialing : goal.returns-in-Ok-clause-dialing
+returns-in-Ok-clause-dialing g c not = c.obey.ensures.dialing (λ asked is. not asked (subst (AskFor _) is c.in-Ok.ensures.asked))
+
+pub returns-in-Ok-clause-link_fault : goal.returns-in-Ok-clause-link_fault
+returns-in-Ok-clause-link_fault g c asked is = c.obey.ensures.link_fault asked (asked_once _ _ (Client asked) c.in-Ok.ensures.asked is)
+
+pub returns-in-Ok-clause-sink_fault : goal.returns-in-Ok-clause-sink_fault
+returns-in-Ok-clause-sink_fault g c asked is = c.obey.ensures.sink_fault asked (asked_once _ _ (Client asked) c.in-Ok.ensures.asked is)
+
+pub returns-in-Ok-clause-write_fault : goal.returns-in-Ok-clause-write_fault
+returns-in-Ok-clause-write_fault g c not = c.obey.ensures.write_fault (λ asked is. not asked (subst (AskFor _) is c.in-Ok.ensures.asked))
+
+pub returns-in-Err-clause-asks : goal.returns-in-Err-clause-asks
+returns-in-Err-clause-asks g c asked given is = asks_none asked _ _ _ (wanted _ _ _ c.in-Err.ensures.refused (Client asked) is c.report_words.ensures.told)
 
 pub returns-in-Ok-clause-replay : goal.returns-in-Ok-clause-replay
 returns-in-Ok-clause-replay g c is = c.obey.ensures.replay (asked_once _ _ Replay c.in-Ok.ensures.asked is)
@@ -44,7 +70,7 @@ pub returns-in-Ok-clause-world_exact : goal.returns-in-Ok-clause-world_exact
 returns-in-Ok-clause-world_exact g c is = c.obey.ensures.world_exact (asked_once _ _ World c.in-Ok.ensures.asked is)
 
 pub returns-in-Ok-clause-promise : goal.returns-in-Ok-clause-promise
-returns-in-Ok-clause-promise g c is = keeps_promise _ _ _ (c.obey.ensures.world (asked_once _ _ World c.in-Ok.ensures.asked is))
+returns-in-Ok-clause-promise g c is = let ran = c.obey.ensures.world (asked_once _ _ World c.in-Ok.ensures.asked is) in keeps_promise _ _ _ ran.end ran.holds ran.tells
 
 pub returns-in-Ok-clause-class : goal.returns-in-Ok-clause-class
 returns-in-Ok-clause-class g c output is = c.obey.ensures.class output (asked_once _ _ (Class output) c.in-Ok.ensures.asked is)
@@ -70,53 +96,71 @@ returns-in-Ok-clause-clock g c not = c.obey.ensures.clock (λ options is. not op
 pub returns-in-Ok-clause-network : goal.returns-in-Ok-clause-network
 returns-in-Ok-clause-network g c not = c.obey.ensures.network (λ serve is. not serve (subst (AskFor _) is c.in-Ok.ensures.asked))
 
+pub returns-in-Ok-clause-served : goal.returns-in-Ok-clause-served
+returns-in-Ok-clause-served g c not = c.obey.ensures.served (λ serve is. not serve (subst (AskFor _) is c.in-Ok.ensures.asked))
+
 pub returns-in-Ok-clause-read_fault : goal.returns-in-Ok-clause-read_fault
-returns-in-Ok-clause-read_fault g c not = c.obey.ensures.read_fault (λ serve is. not serve (subst (AskFor _) is c.in-Ok.ensures.asked))
+returns-in-Ok-clause-read_fault g c not no_client =
+    c.obey.ensures.read_fault (λ serve is. not serve (subst (AskFor _) is c.in-Ok.ensures.asked)) (λ asked is. no_client asked (subst (AskFor _) is c.in-Ok.ensures.asked))
 
 pub returns-in-Err-clause-no_command : goal.returns-in-Err-clause-no_command
-returns-in-Err-clause-no_command g c none = none_told _ _ c.report_words.ensures
+returns-in-Err-clause-no_command g c none = none_told _ _ c.report_words.ensures.told
 
 pub returns-in-Err-clause-answer : goal.returns-in-Err-clause-answer
-returns-in-Err-clause-answer g c options is = answers_none _ options _ _ _ (wanted _ _ _ c.in-Err.ensures.refused (Answer options) is c.report_words.ensures)
+returns-in-Err-clause-answer g c options is = answers_none _ options _ _ _ _ (wanted _ _ _ c.in-Err.ensures.refused (Answer options) is c.report_words.ensures.told)
 
 pub returns-in-Err-clause-exact : goal.returns-in-Err-clause-exact
-returns-in-Err-clause-exact g c options is = answers_none_exactly _ options _ _ (wanted _ _ _ c.in-Err.ensures.refused (Answer options) is c.report_words.ensures)
+returns-in-Err-clause-exact g c options is = answers_none_exactly _ options _ _ (wanted _ _ _ c.in-Err.ensures.refused (Answer options) is c.report_words.ensures.told)
 
 pub returns-in-Err-clause-serves : goal.returns-in-Err-clause-serves
-returns-in-Err-clause-serves g c serve is = serves_none _ _ _ serve _ _ _ _ (wanted _ _ _ c.in-Err.ensures.refused (Serve serve) is c.report_words.ensures)
+returns-in-Err-clause-serves g c serve is = serves_none _ _ _ serve _ _ _ _ (wanted _ _ _ c.in-Err.ensures.refused (Serve serve) is c.report_words.ensures.told)
 
 pub returns-in-Err-clause-replay : goal.returns-in-Err-clause-replay
-returns-in-Err-clause-replay g c is = replays_none _ _ (wanted _ _ _ c.in-Err.ensures.refused (Replay) is c.report_words.ensures)
+returns-in-Err-clause-replay g c is = replays_none _ _ _ (wanted _ _ _ c.in-Err.ensures.refused (Replay) is c.report_words.ensures.told)
 
 pub returns-in-Err-clause-replay_exact : goal.returns-in-Err-clause-replay_exact
-returns-in-Err-clause-replay_exact g c is = replays_none_exactly _ _ (wanted _ _ _ c.in-Err.ensures.refused (Replay) is c.report_words.ensures)
+returns-in-Err-clause-replay_exact g c is = replays_none_exactly _ _ (wanted _ _ _ c.in-Err.ensures.refused (Replay) is c.report_words.ensures.told)
 
 pub returns-in-Err-clause-show : goal.returns-in-Err-clause-show
-returns-in-Err-clause-show g c is = shows_none _ _ (wanted _ _ _ c.in-Err.ensures.refused (Show) is c.report_words.ensures)
+returns-in-Err-clause-show g c is = shows_none _ _ _ (wanted _ _ _ c.in-Err.ensures.refused (Show) is c.report_words.ensures.told)
 
 pub returns-in-Err-clause-show_exact : goal.returns-in-Err-clause-show_exact
-returns-in-Err-clause-show_exact g c is = shows_none_exactly _ _ (wanted _ _ _ c.in-Err.ensures.refused (Show) is c.report_words.ensures)
+returns-in-Err-clause-show_exact g c is = shows_none_exactly _ _ (wanted _ _ _ c.in-Err.ensures.refused (Show) is c.report_words.ensures.told)
 
 pub returns-in-Err-clause-drill : goal.returns-in-Err-clause-drill
-returns-in-Err-clause-drill g c text seed rounds is = drills_none text seed rounds _ _ (wanted _ _ _ c.in-Err.ensures.refused (Drill text seed rounds) is c.report_words.ensures)
+returns-in-Err-clause-drill g c text seed rounds is = drills_none text seed rounds _ _ _ (wanted _ _ _ c.in-Err.ensures.refused (Drill text seed rounds) is c.report_words.ensures.told)
 
 pub returns-in-Err-clause-drill_exact : goal.returns-in-Err-clause-drill_exact
-returns-in-Err-clause-drill_exact g c text seed rounds is = drills_none_exactly text seed rounds _ _ (wanted _ _ _ c.in-Err.ensures.refused (Drill text seed rounds) is c.report_words.ensures)
+returns-in-Err-clause-drill_exact g c text seed rounds is = drills_none_exactly text seed rounds _ _ (wanted _ _ _ c.in-Err.ensures.refused (Drill text seed rounds) is c.report_words.ensures.told)
 
 pub returns-in-Err-clause-world : goal.returns-in-Err-clause-world
-returns-in-Err-clause-world g c is = worlds_none _ _ (wanted _ _ _ c.in-Err.ensures.refused (World) is c.report_words.ensures)
+returns-in-Err-clause-world g c is = worlds_none _ _ _ (wanted _ _ _ c.in-Err.ensures.refused (World) is c.report_words.ensures.told)
 
 pub returns-in-Err-clause-world_exact : goal.returns-in-Err-clause-world_exact
-returns-in-Err-clause-world_exact g c is = worlds_none_exactly _ _ (wanted _ _ _ c.in-Err.ensures.refused (World) is c.report_words.ensures)
+returns-in-Err-clause-world_exact g c is = worlds_none_exactly _ _ (wanted _ _ _ c.in-Err.ensures.refused (World) is c.report_words.ensures.told)
 
 pub returns-in-Err-clause-promise : goal.returns-in-Err-clause-promise
-returns-in-Err-clause-promise g c is = keeps_promise _ _ _ (worlds_none _ _ (wanted _ _ _ c.in-Err.ensures.refused (World) is c.report_words.ensures))
+returns-in-Err-clause-promise g c is ended =
+    let lacks = wanted _ _ _ c.in-Err.ensures.refused (World) is c.report_words.ensures.told in
+    absurd (omega (arith, lacks.0, ended))
 
 pub returns-in-Err-clause-class : goal.returns-in-Err-clause-class
-returns-in-Err-clause-class g c output is = prints_none output _ _ _ (wanted _ _ _ c.in-Err.ensures.refused (Class output) is c.report_words.ensures)
+returns-in-Err-clause-class g c output is = prints_none output _ _ _ (wanted _ _ _ c.in-Err.ensures.refused (Class output) is c.report_words.ensures.told)
 
 pub returns-in-Err-clause-class_exact : goal.returns-in-Err-clause-class_exact
-returns-in-Err-clause-class_exact g c output is = prints_none_exactly output _ _ (wanted _ _ _ c.in-Err.ensures.refused (Class output) is c.report_words.ensures)
+returns-in-Err-clause-class_exact g c output is = prints_none_exactly output _ _ (wanted _ _ _ c.in-Err.ensures.refused (Class output) is c.report_words.ensures.told)
 
 pub returns-in-Err-clause-help : goal.returns-in-Err-clause-help
-returns-in-Err-clause-help g c topic is = helps_none topic _ _ _ (wanted _ _ _ c.in-Err.ensures.refused (Help topic) is c.report_words.ensures)
+returns-in-Err-clause-help g c topic is = helps_none topic _ _ _ (wanted _ _ _ c.in-Err.ensures.refused (Help topic) is c.report_words.ensures.told)
+
+-- One command isn't another.
+apart : {c : Command} (serve : ServeWords) → Serve serve ≡ c → (asked : ClientCommand) → c ≡ Client asked → ⊥
+apart serve is asked is2 = let same : Serve serve ≡ Client asked = is ∙ is2 in cc
+
+pub returns-in-Ok-clause-settled : goal.returns-in-Ok-clause-settled
+returns-in-Ok-clause-settled g c serve is heard written =
+    let asked = asked_once _ _ (Serve serve) c.in-Ok.ensures.asked is in
+    serving_settles _ _ _ _ _ _ _ _ _ _ _ _ (c.obey.ensures.serves serve asked) (λ s. heard (c.obey.ensures.network_fault serve asked s)) (λ s. written (c.obey.ensures.write_fault (apart serve (sym asked)) s))
+
+pub returns-in-Err-clause-settled : goal.returns-in-Err-clause-settled
+returns-in-Err-clause-settled g c serve is heard written = inr (wanted _ _ _ c.in-Err.ensures.refused (Serve serve) is c.report_words.ensures.told).0

@@ -1,5 +1,6 @@
 use Rattle.std.proofs.Common.{rules, refl}
-use Rattle.rmi_words.specs.Values.{AreOptionsOf, IsServeOf, IsSmallOf}
+use Rattle.rmi_words.specs.Options.{IsSmallOf}
+use Rattle.rmi_words.specs.Values.{AreOptionsOf, IsServeOf}
 use Rattle.rmi_words.proofs.NotFound.{not_found}
 use Rattle.rmi_words.proofs.options.read_serve.Goals as goal
 

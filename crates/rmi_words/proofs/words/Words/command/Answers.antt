@@ -1,5 +1,5 @@
-use Rattle.std.proofs.Common.{◌∙◌, None, Some, ap, map, string_bytes, rules, sym}
-use Rattle.rmi_words.proofs.Asking.{any_map, option_refused, taken_asked, wrong_refused}
+use Rattle.std.proofs.Common.{◌∙◌, ap, map, string_bytes, rules, sym}
+use Rattle.rmi_words.proofs.Asking.{any_map, asked_by, option_refused, refused_by, taken_asked, wrong_refused}
 use Rattle.rmi_words.proofs.words.Words.command.Goals as goal
 
 pub returns-then-has_option-clause-refused : goal.returns-then-has_option-clause-refused
@@ -12,12 +12,14 @@ returns-in_err-matches-clause-refused c usage =
     wrong_refused c.args.self.now (map string_bytes c.as_slice-words.result.now) (sym c.self.view_is ∙ ap (λ xs. map string_bytes xs) (sym c.as_slice-words.ensures.value))
     (c.in_err-matches.ensures.refused (search rules))
 
-pub returns-in-Some-clause-asked : goal.returns-in-Some-clause-asked
-returns-in-Some-clause-asked c =
-    taken_asked c.args.self.now (map string_bytes c.as_slice-words.result.now) c.has_option.result (Some c.in-Some.command) _ (sym c.self.view_is ∙ ap (λ xs. map string_bytes xs) (sym c.as_slice-words.ensures.value))
-    (c.has_option.ensures ∙ any_map string_bytes c.as_slice-words.result.now) c.if-has_option.false c.in_ok-matches.ensures.taken.0 c.in_ok-matches.ensures.taken.1 c.in-Some.ensures
+pub returns-clause-asked : goal.returns-clause-asked
+returns-clause-asked c =
+    asked_by c.args.self.now c.command_of.result
+    (taken_asked c.args.self.now (map string_bytes c.as_slice-words.result.now) c.has_option.result c.command_of.result _ (sym c.self.view_is ∙ ap (λ xs. map string_bytes xs) (sym c.as_slice-words.ensures.value))
+    (c.has_option.ensures ∙ any_map string_bytes c.as_slice-words.result.now) c.if-has_option.false c.in_ok-matches.ensures.taken.0 c.in_ok-matches.ensures.taken.1 c.command_of.ensures)
 
 pub returns-clause-refused : goal.returns-clause-refused
 returns-clause-refused c usage =
-    taken_asked c.args.self.now (map string_bytes c.as_slice-words.result.now) c.has_option.result None _ (sym c.self.view_is ∙ ap (λ xs. map string_bytes xs) (sym c.as_slice-words.ensures.value))
-    (c.has_option.ensures ∙ any_map string_bytes c.as_slice-words.result.now) c.if-has_option.false c.in_ok-matches.ensures.taken.0 c.in_ok-matches.ensures.taken.1 c.in-None.ensures
+    refused_by c.args.self.now c.command_of.result
+    (taken_asked c.args.self.now (map string_bytes c.as_slice-words.result.now) c.has_option.result c.command_of.result _ (sym c.self.view_is ∙ ap (λ xs. map string_bytes xs) (sym c.as_slice-words.ensures.value))
+    (c.has_option.ensures ∙ any_map string_bytes c.as_slice-words.result.now) c.if-has_option.false c.in_ok-matches.ensures.taken.0 c.in_ok-matches.ensures.taken.1 c.command_of.ensures) usage

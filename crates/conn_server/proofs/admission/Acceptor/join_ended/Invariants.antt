@@ -1,0 +1,16 @@
+use Rattle.std.specs.Prelude.{◌≡◌, vec_len}
+use Rattle.conn_server.specs.Accepts.{IsAccepting, shown_all}
+use Rattle.conn_server.specs.Made.{IsMadeFor}
+use Rattle.conn_server.specs.Talks.{TalksOver}
+use Rattle.conn_server.proofs.admission.Acceptor.join_ended.Given as goal
+
+abbrev pub invariant-loop : goal.invariant-loop
+invariant-loop g l = record {
+  is : IsAccepting
+      (TalksOver g.I.Source.half g.O.Sink.half g.T.Clock.given g.H.Worker.shown g.H.Worker.may g.H.Worker.moves l.shared.book.now)
+      (IsMadeFor g.I.Source.half g.O.Sink.half g.T.Clock.given g.H.Worker.shown g.H.Worker.moves l.shared.plan.now)
+      g.H.Worker.shown l.shared.lock.now l.shared.book.now l.self;
+  ticks : l.self.ticks ≡ l.fn.self.ticks;
+  links : shown_all g.I.Source.half g.O.Sink.half g.T.Clock.given l.self.started.items ≡ shown_all g.I.Source.half g.O.Sink.half g.T.Clock.given l.fn.self.started.items;
+  count : vec_len l.self.started ≡ vec_len l.fn.self.started;
+}

@@ -1,0 +1,39 @@
+use Rattle.std.proofs.Common.{◌∙◌, ◌+◌, ◌∷◌, [], ap, subst, sym, refl, arith}
+use Rattle.std.specs.Prelude.{vec_len, vec_capacity}
+use Rattle.wire_io.specs.Wire.{Gave}
+use Rattle.conn_server.proofs.Losing.{lost_link}
+use Rattle.conn_server.proofs.Making.{made_for}
+use Rattle.conn_server.proofs.admission.Acceptor.prepare_link.Goals as goal
+
+pub returns-clause-next : goal.returns-clause-next
+returns-clause-next g c =
+    let t = c.with_tick-entry.ensures in
+    let ready = c.requires.ready in
+    let hand = c.args.ready.hand in
+    let count = ap vec_len t.links.0 in
+    let held = ap vec_capacity t.links.0 in
+    let kept = ap vec_capacity t.links.1 in
+    let few = c.requires.few in
+    let room = c.requires.room.started in
+    let room2 = c.requires.room.reports in
+    record {
+      accepting = t.accepting;
+      few = omega (arith, count, few);
+      can = record { told = t.calls ∙ ready.told; peer_host = ready.peer_host; host = ready.host; time = ready.time; drawn = ready.drawn };
+      made = made_for g.I.Source.half g.O.Sink.half g.T.Clock.given g.H.Worker.shown g.H.Worker.moves c.args.shared.now.plan.now _ _ c.args.link _ c.of-first.ensures
+          (ap (λ n. n + 1) (sym count)) refl refl c.requires.halves ready.terms
+          (rw c.in-Some.is at t.asked) (rw c.in-Some.is at t.end) (rw c.in-Some.is at t.given)
+          (t.number ∙ ready.hand)
+          ((g.H.Worker.shown hand).seen, (g.H.Worker.shown hand).state, ready.untold, ready.uncounted, rw c.in-Some.is at t.seen, rw c.in-Some.is at t.state);
+      after_tick = rw c.in-Some.is at t.place;
+      started = omega (arith, count, held, room);
+      reports = omega (arith, count, kept, room2);
+    }
+
+pub returns-in_default-clause-lost : goal.returns-in_default-clause-lost
+returns-in_default-clause-lost g c =
+    let given = g.T.Clock.given in
+    let s = c.shut_link.ensures in
+    let (moment, gave) = c.with_tick-entry.ensures.moment in
+    lost_link g.I.Source.half g.O.Sink.half given c.args.link c.shut_link.result (moment ∷ []) c.requires.halves s.source s.sink (omega arith)
+    (subst (λ t. Gave (given c.args.link.clock) (given t) (moment ∷ [])) (sym s.clock) gave)

@@ -1,0 +1,612 @@
+"""Checks of the commands that call servers: the JDK's own server and registry, `PROGRAM serve`, and peers that send odd bytes or none."""
+import contextlib
+import functools
+import os
+import re
+import resource
+import socket
+import struct
+import subprocess
+import threading
+import time
+
+from harness import HOST, JDK_FLAGS, LEASE, PATIENCE, check, free_port, listens, say, until, want
+
+# How long a peer may be silent before it is given up, in seconds.
+SILENCE = 60
+# How long the server's methods rest that are to be slow, in milliseconds.
+REST = 1500
+# The most memory that a client has where its peer lies about a length, in bytes, and the most that it may use where a peer never ends, in kB: a message has 16 MB at most,
+# and a list that grows has its old room and the new one, which is twice that.
+SCANT, AMPLE = 1 << 26, 60_000
+
+# Servers.
+
+
+class KindsServer:
+    """A Java server with every kind of parameter, result and exception, and the lines that it has said. It has a registry of its own, or uses one that is there."""
+
+    def __init__(self, java, host=HOST, registry=None, flags=()):
+        self.host, self.port, self.lines = host, registry or free_port(), []
+        words = java.words("KindsServer", host, self.port, *(["outside"] if registry else []), flags=flags)
+        self.process = subprocess.Popen(words, stdin=subprocess.PIPE, stdout=subprocess.PIPE, stderr=subprocess.STDOUT)
+        threading.Thread(target=self.read, daemon=True).start()
+
+    def __enter__(self):
+        return self
+
+    def __exit__(self, *_):
+        self.process.kill()
+        self.process.wait()
+
+    def read(self):
+        for line in self.process.stdout:
+            self.lines.append(line.decode(errors="replace").strip())
+
+    def is_ready(self):
+        want(f"the server ended: {self.lines}", self.process.poll() is None)
+        return "ready" in self.lines
+
+    def await_ready(self):
+        until(PATIENCE, self.is_ready)
+        self.lines.clear()
+
+    def has_said(self, *lines):
+        """Waits until it has said these lines, in whatever order."""
+        until(PATIENCE, lambda: len(self.lines) >= len(lines))
+        want(f"said {self.lines}", sorted(self.lines) == sorted(lines))
+
+    def awaits_lines(self, *lines):
+        self.has_said(*lines)
+        self.lines.clear()
+
+
+@contextlib.contextmanager
+def registry_of(java):
+    """A registry in a process of its own, as the JDK brings it: its port."""
+    port = free_port()
+    words = ["rmiregistry", f"-J-Djava.class.path={java.folder}", str(port)]
+    process = subprocess.Popen(words, stdin=subprocess.DEVNULL, stdout=subprocess.DEVNULL, stderr=subprocess.DEVNULL)
+    try:
+        until(PATIENCE, lambda: listens(port))
+        yield port
+    finally:
+        process.kill()
+        process.wait()
+
+
+# Runs of the program.
+
+
+def ran(program, *words, limited=None, patience=PATIENCE):
+    """The status, the output and the errors of a run."""
+    it = subprocess.run([program, *map(str, words)], stdin=subprocess.DEVNULL, stdout=subprocess.PIPE, stderr=subprocess.PIPE, timeout=patience, check=False, preexec_fn=limited)
+    return it.returncode, it.stdout.decode(), it.stderr.decode()
+
+
+@functools.cache
+def knows(program, command):
+    """Whether the program has the command."""
+    return ran(program, "help", command)[0] == 0
+
+
+def check_run(name, wanted, program, *words, **limits):
+    """A run ends with this status, this output and these errors."""
+    if not knows(program, words[0]):
+        return
+    with check(name):
+        seen = ran(program, *words, **limits)
+        want(f"seen {seen}, wanted {wanted}", seen == wanted)
+
+
+def check_pattern(name, status, output, errors, program, *words):
+    """A run ends with this status, and its output and errors are of these patterns."""
+    if not knows(program, words[0]):
+        return
+    with check(name):
+        seen = ran(program, *words)
+        want(f"seen {seen}", seen[0] == status and re.fullmatch(output, seen[1]) and re.fullmatch(errors, seen[2]))
+
+
+# What is called: an object, its method and the arguments; and what is printed.
+LINES = [
+    ("kinds", "shown(ZBSIJCLjava/lang/String;)Ljava/lang/String;", ["true", "~128", "~32768", "~2147483648", "~9223372036854775808", "65535", "é"], r'"true,-128,-32768,-2147483648,-9223372036854775808,65535,\u00e9"'),
+    ("kinds", "shown(ZBSIJCLjava/lang/String;)Ljava/lang/String;", ["false", "127", "32767", "2147483647", "9223372036854775807", "0", ""], '"false,127,32767,2147483647,9223372036854775807,0,"'),
+    ("kinds", "units(Ljava/lang/String;)Ljava/lang/String;", ['a"\\ é€😀'], '"00610022005c002000e920acd83dde00"'),
+    ("kinds", "text(Ljava/lang/String;)Ljava/lang/String;", ["d83d00000022005c0020fffe0041de00"], r'"\ud83d\u0000\u0022\u005c\u0020\ufffeA\ude00"'),
+    ("kinds", "text(Ljava/lang/String;)Ljava/lang/String;", ["20ac" * 30_000], '"' + r"\u20ac" * 30_000 + '"'),
+    ("kinds", "same(Z)Z", ["true"], "true"),
+    ("kinds", "same(Z)Z", ["false"], "false"),
+    ("kinds", "same(B)B", ["~128"], "-128"),
+    ("kinds", "same(S)S", ["~32768"], "-32768"),
+    ("kinds", "same(I)I", ["~2147483648"], "-2147483648"),
+    ("kinds", "same(J)J", ["9223372036854775807"], "9223372036854775807"),
+    ("kinds", "same(C)C", ["65535"], "65535"),
+    ("kinds", "same(Ljava/lang/Object;)Ljava/lang/Object;", ["a"], '"a"'),
+    ("kinds", "same(Ljava/lang/Object;)Ljava/lang/Object;", [""], '""'),
+    ("kinds", "nothing()V", [], "void"),
+    ("kinds", "noText()Ljava/lang/String;", [], "null"),
+    ("kinds", "noObject()Ljava/lang/Object;", [], "null"),
+    ("kinds", "noReference()Lkinds/Kinds;", [], "null"),
+]
+
+# The same where graphs are printed.
+GRAPHS = [
+    (
+        "boxed()Ljava/lang/Object;",
+        """#0 desc "java.lang.Integer" 12e2a0a4f7818738 02 I:"value" note null super #1
+#1 desc "java.lang.Number" 86ac951d0b94e08b 02 - note null super null
+#2 object #0 (- -) (5 -)
+item #2""",
+    ),
+    (
+        "numbers()[I",
+        """#0 desc "[I" 4dba602676eab2a5 02 - note null super null
+#1 array #0 3 1,-1,2147483647
+item #1""",
+    ),
+    (
+        "texts()[Ljava/lang/String;",
+        """#0 desc "[Ljava.lang.String;" add256e7e91d7b47 02 - note null super null
+#1 array #0 4 #2,null,#2,#3
+#2 text "a"
+#3 text ""
+item #1""",
+    ),
+    (
+        "ring()Lkinds/Node;",
+        """#0 desc "kinds.Node" 0000000000000001 02 I:"number",L:"next":#1 note null super null
+#1 text "Lkinds/Node;"
+#2 object #0 (7,#3 -)
+#3 object #0 (8,#2 -)
+item #2""",
+    ),
+    (
+        "fields()Lkinds/Fields;",
+        """#0 desc "kinds.Fields" 0000000000000002 02 S:"few",J:"many",F:"part",D:"share",C:"sign",B:"small",I:"some",Z:"truth" note null super null
+#1 object #0 (-32768,-9223372036854775808,x:3fc00000,x:8000000000000000,65535,-128,-2147483648,true -)
+item #1""",
+    ),
+    (
+        "constant()Ljava/lang/Thread$State;",
+        """#0 desc "java.lang.Thread$State" 0000000000000000 12 - note null super #1
+#1 desc "java.lang.Enum" 0000000000000000 12 - note null super null
+#2 enum #0 #3
+#3 text "NEW"
+item #2""",
+    ),
+    (
+        "type()Ljava/lang/Class;",
+        """#0 desc "[I" 4dba602676eab2a5 02 - note null super null
+#1 class #0
+item #1""",
+    ),
+]
+
+# What ends with an exception of the server's, and what is told of it.
+FAULTS = [
+    ("faults", "refuse(Ljava/lang/String;)V", ["no room"], "kinds.Refusal: no room"),
+    ("faults", "fail(Ljava/lang/String;)I", ["00e920acd83dde00"], "java.lang.IllegalStateException: é€😀"),
+    ("faults", "fail(Ljava/lang/String;)I", [""], "java.lang.IllegalStateException: "),
+    ("faults", "failSilently()Ljava/lang/String;", [], "java.lang.UnsupportedOperationException"),
+    ("faults", "failFor(I)V", ["50"], "java.lang.IllegalArgumentException: the last one"),
+    ("faults", "exhaust()V", [], "java.rmi.ServerError: Error occurred in server thread"),
+    ("faults", "refuseRemotely(Ljava/lang/String;)V", ["x"], "java.rmi.ServerException: RemoteException occurred in server thread"),
+    ("gone", "refuse(Ljava/lang/String;)V", ["no room"], "java.rmi.NoSuchObjectException: no such object in table"),
+]
+
+# Words that are no call.
+NO_CALLS = [
+    ("a result of the type double", ["kinds", "real()D"]),
+    ("a parameter of the type float", ["kinds", "realOf(F)F", "1"]),
+    ("an array as a parameter", ["kinds", "sorted([I)V", "1"]),
+    ("too few arguments", ["kinds", "same(I)I"]),
+    ("too many arguments", ["kinds", "nothing()V", "1"]),
+    ("a number past its type", ["kinds", "same(B)B", "128"]),
+    ("a method's name alone", ["kinds", "nothing"]),
+]
+
+
+def check_answers(program, server):
+    """Each kind of parameter and of result, and each kind of exception."""
+    to = ["call", server.host, server.port]
+    for name, method, arguments, line in LINES:
+        said = [it if len(it) < 60 else f"of {len(it)} characters" for it in arguments]
+        check_run(" ".join(["call", name, method, *said]), (0, f"{line}\n", ""), program, *to, name, method, *arguments)
+    for method, lines in GRAPHS:
+        check_run(f"call kinds {method}", (0, f"{lines}\n", ""), program, *to, "kinds", method)
+    for name, method, arguments, fault in FAULTS:
+        check_run(" ".join(["call", name, method, *arguments]), (7, "", f"remote fault {fault}\n"), program, *to, name, method, *arguments)
+    for what, words in NO_CALLS:
+        check_run(what, (1, "", "usage\n"), program, *to, *words)
+
+
+def check_limits(program, server):
+    """What a Java server may answer and the program does not take."""
+    to = ["call", server.host, server.port]
+    check_run("a message of half a pair", (7, "", "remote fault java.lang.IllegalStateException: \ufffd\n"), program, *to, "faults", "fail(Ljava/lang/String;)I", "d83d")
+    check_pattern("a method that is none", 7, "", "remote fault java[.]rmi[.]ServerException: .*\n", program, *to, "kinds", "none()V")
+    check_pattern("an externalizable value", 2, "", r"bad reply at \d+\n", program, *to, "kinds", "duration()Ljava/lang/Object;")
+    check_pattern("a value that can't be serialized", 2, "", r"bad reply at \d+\n", program, *to, "kinds", "broken()Ljava/lang/Object;")
+    check_pattern("a list of 150 nodes", 0, r"(#\d+ .*\n){152}item #2\n", "", program, *to, "kinds", "chain(I)Lkinds/Node;", 150)
+    check_pattern("a list of 250 nodes", 6, "", r"too large depth at \d+\n", program, *to, "kinds", "chain(I)Lkinds/Node;", 250)
+
+
+REFERENCE = r"-?\d+:-?\d+/-?\d+/-?\d+"
+
+
+def check_names(program, server):
+    """Each command of the registry."""
+    at = [server.host, server.port]
+    names = {"faults", "gone", "keeper", "kinds"}
+
+    def listed():
+        status, output, errors = ran(program, "list", *at)
+        want(f"status {status} and errors {errors!r}", (status, errors) == (0, ""))
+        return set(output.splitlines())
+
+    with check("list"):
+        want("other names", listed() == names)
+    check_pattern("lookup", 0, rf"{server.host} \d+ {REFERENCE}\n", "", program, "lookup", *at, "kinds")
+    for name in ("copy", "é€😀 \\"):
+        check_run(f"bind {name}", (0, "ok\n", ""), program, "bind", *at, name, "kinds")
+        check_run(f"bind {name} once more", (7, "", f"remote fault java.rmi.AlreadyBoundException: {name}\n"), program, "bind", *at, name, "kinds")
+        with check(f"list, with {name}"):
+            want("other names", listed() == names | {name})
+        with check(f"lookup of {name} and of what it was bound to"):
+            want("other references", ran(program, "lookup", *at, name) == ran(program, "lookup", *at, "kinds"))
+        check_run(f"call of {name}", (0, "5\n", ""), program, "call", *at, name, "same(I)I", 5)
+        check_run(f"unbind {name}", (0, "ok\n", ""), program, "unbind", *at, name)
+    unknown = (7, "", "remote fault java.rmi.NotBoundException: copy\n")
+    for words in (["lookup", *at, "copy"], ["unbind", *at, "copy"], ["bind", *at, "other", "copy"], ["call", *at, "copy", "same(I)I", 5]):
+        check_run(f"{words[0]} of a name that is not bound", unknown, program, *words)
+    with check("list, at last"):
+        want("other names", listed() == names)
+
+
+def check_leases(program, server):
+    """An object is told that no client is left once the client has given it up, and not before. The server's leases are long."""
+    to = ["call", server.host, server.port, "keeper"]
+    server.lines.clear()
+    with check("a slow call: its object is kept, and given up after it"):
+        want("another answer", ran(program, *to, "rest(J)I", REST) == (0, "0\n", ""))
+        server.has_said("rests", "rested", "unreferenced keeper")
+        want(f"another order: {server.lines}", server.lines.pop() == "unreferenced keeper")
+        server.lines.clear()
+    with check("an object that a call makes is given up, too"):
+        status, output, errors = ran(program, *to, "make()Lkinds/Keeper;")
+        want(f"seen {status, output, errors}", (status, errors) == (0, "") and re.fullmatch(rf"ref {server.host} \d+ {REFERENCE}\n", output))
+        server.awaits_lines("unreferenced keeper", "unreferenced keeper.1")
+    with check("objects in an array are given up"):
+        status, output, errors = ran(program, *to, "several()[Lkinds/Keeper;")
+        want(f"seen {status, output, errors}", (status, errors) == (0, "") and re.search(r'(?s)^#0 desc "\[Lkinds.Keeper;" .*\n#1 array #0 3 (#\d+),#\d+,\1\n.*\nitem #1\n$', output))
+        server.awaits_lines("unreferenced keeper", "unreferenced keeper.2", "unreferenced keeper.3")
+
+
+def check_killed(program, server):
+    """A client that is killed gives nothing up: its object is kept until its lease has run out. The server's leases are short."""
+    server.lines.clear()
+    with check("a client that is killed in a call keeps its object until its lease ends"):
+        words = [program, "call", server.host, str(server.port), "keeper", "rest(J)I", "1"]
+        client = subprocess.Popen([*words[:-1], str(PATIENCE * 1000)], stdin=subprocess.DEVNULL, stdout=subprocess.DEVNULL, stderr=subprocess.DEVNULL)
+        until(PATIENCE, lambda: server.lines)
+        client.kill()
+        client.wait()
+        took = until(4 * LEASE, lambda: "unreferenced keeper" in server.lines)
+        want(f"given up after {took:.1f} s", took > LEASE / 4)
+
+
+def check_dying(program, server):
+    """A server that ends in a call, and leaves its names in a registry that goes on."""
+    at = [server.host, server.port]
+    check_pattern("a server that ends in a call", 2, "", r"truncated at \d+\n", program, "call", *at, "keeper", "halt()I")
+    check_pattern("lookup of an object of a server that has ended", 0, rf"{server.host} \d+ {REFERENCE}\n", "", program, "lookup", *at, "keeper")
+    check_run("call of an object of a server that has ended", (3, "", "dial fault\n"), program, "call", *at, "kinds", "nothing()V")
+
+
+def check_nobody(program):
+    """Places where no server is."""
+    port = free_port()
+    for words in (["list"], ["lookup", "a"], ["bind", "a", "b"], ["unbind", "a"], ["call", "a", "get()J"]):
+        check_run(f"{words[0]} where nobody listens", (3, "", "dial fault\n"), program, words[0], HOST, port, *words[1:])
+    check_run("list at a host that is none", (3, "", "dial fault\n"), program, "list", "no..host", port)
+
+
+# Peers of odd bytes.
+
+
+def wire(words):
+    """The bytes that words spell: hexadecimal digits, or a text behind `=` and its length."""
+    return b"".join(len(it[1:]).to_bytes(2, "big") + it[1:].encode() if it[0] == "=" else bytes.fromhex(it) for it in words.split())
+
+
+UID = "00000006 0000000000000006 8000"
+ACK = wire("4E =127.0.0.1 000004D2")
+NORMAL = ACK + wire(f"51 ACED0005 77 0F 01 {UID}")
+STRINGS = wire("75 72 =[Ljava.lang.String; ADD256E7E91D7B47 02 0000 70 78 70")
+BYTES = wire("75 72 =[B ACF317F8060854E0 02 0000 70 78 70")
+GRANTED = wire(f"51 ACED0005 77 0F 01 {UID} 73 72 =java.rmi.dgc.Lease B0B5E2660C4ADC34 02 0002 4A =value 4C =vmid 74 =Ljava/rmi/dgc/VMID; 70 78 70 00000000000927C0 70")
+
+
+def found(port):
+    """What a registry answers that finds an object at this port."""
+    return NORMAL + wire(
+        f"""73 7D 00000001 =java.rmi.Remote 70 78
+        72 =java.lang.reflect.Proxy E127DA20CC1043CB 02 0001 4C =h 74 =Ljava/lang/reflect/InvocationHandler; 70 78 70
+        73 72 =java.rmi.server.RemoteObjectInvocationHandler 0000000000000002 02 0000 70 78
+        72 =java.rmi.server.RemoteObject D361B4910C61331E 03 0000 70 78 70
+        77 32 =UnicastRef =127.0.0.1 {port:08X} 0000000000000010 00000007 0000000000000009 0000 01 78"""
+    )
+
+
+# What a peer sends in place of names before it closes the link, the status of `list`, and its errors.
+ODD_LISTS = [
+    ("nothing", b"", 2, "truncated at 0"),
+    ("half an acknowledgement", ACK[:5], 2, "truncated at 5"),
+    ("a refusal", b"O", 2, "nack"),
+    ("a web page", b"HTTP/1.1 400 Bad Request\r\n\r\n", 2, "bad reply at 0"),
+    ("an acknowledgement alone", ACK, 2, "truncated at 16"),
+    ("the answer to a ping", ACK + b"S", 2, "bad reply at 16"),
+    ("a Return that is no stream", ACK + wire("51 ACED0105"), 2, "bad reply at 19"),
+    ("a Return of no kind", ACK + wire(f"51 ACED0005 77 0F 03 {UID}"), 2, "bad reply at 23"),
+    ("an exception that is none", ACK + wire(f"51 ACED0005 77 0F 02 {UID} 70"), 2, "bad reply at 39"),
+    ("a text", NORMAL + wire("74 =hi"), 2, "bad reply at 43"),
+    ("a name that is null", NORMAL + STRINGS + wire("00000001 70"), 2, f"bad reply at {len(NORMAL + STRINGS) + 5}"),
+    ("-1 names", NORMAL + STRINGS + wire("FFFFFFFF"), 2, f"bad reply at {len(NORMAL + STRINGS)}"),
+    ("a text of -1 bytes", NORMAL + wire("7C FFFFFFFFFFFFFFFF"), 2, "bad reply at 39"),
+]
+
+# Lengths of which nothing comes.
+LIES = [
+    ("2^31 - 1 names", NORMAL + STRINGS + wire("7FFFFFFF")),
+    ("2^31 - 1 bytes", NORMAL + BYTES + wire("7FFFFFFF")),
+    ("a text of 2^40 bytes", NORMAL + wire("7C 0000010000000000") + b"a" * 1000),
+    ("a class of 32767 fields", NORMAL + wire("73 72 =A 0000000000000001 02 7FFF")),
+    ("a class with 2^31 - 1 bytes beside it", NORMAL + wire("73 72 =A 0000000000000001 02 0000 7A 7FFFFFFF")),
+    ("a proxy of 2^31 - 1 interfaces", NORMAL + wire("73 7D 7FFFFFFF")),
+]
+
+
+def drain(link):
+    """Takes what comes until the client closes the link."""
+    with contextlib.suppress(OSError):
+        while link.recv(65536):
+            continue
+
+
+def closes(link, data):
+    """Sends bytes, and then the end."""
+    link.sendall(data)
+    link.shutdown(socket.SHUT_WR)
+    drain(link)
+
+
+def stays(link, data):
+    """Sends bytes, and then nothing more."""
+    link.sendall(data)
+    drain(link)
+
+
+def trickles(link, data):
+    """Sends bytes one by one."""
+    for at in range(len(data)):
+        link.sendall(data[at : at + 1])
+        time.sleep(0.01)
+    closes(link, b"")
+
+
+def floods(link, data):
+    """Sends bytes, and zeros for ever."""
+    link.sendall(data)
+    while True:
+        link.sendall(bytes(65536))
+
+
+def resets(link, data):
+    """Sends bytes, and resets the link once a client has asked for names."""
+    link.sendall(data)
+    left = 7 + 15 + 41
+    while left > 0:
+        left -= len(link.recv(left))
+    link.setsockopt(socket.SOL_SOCKET, socket.SO_LINGER, struct.pack("ii", 1, 0))
+
+
+class Peer:
+    """Plays to each link that it accepts what it is told to: the first one to the first link, and so on."""
+
+    def __init__(self):
+        self.listener = socket.create_server((HOST, 0))
+        self.port = self.listener.getsockname()[1]
+
+    def play(self, *parts):
+        threading.Thread(target=self.accept, args=(parts,), daemon=True).start()
+        return self
+
+    def accept(self, parts):
+        for how, data in parts:
+            link, _ = self.listener.accept()
+            link.settimeout(2 * PATIENCE)
+            threading.Thread(target=self.answer, args=(link, how, data), daemon=True).start()
+        self.listener.close()
+
+    @staticmethod
+    def answer(link, how, data):
+        with link, contextlib.suppress(OSError):
+            how(link, data)
+
+
+def scant():
+    """Leaves a process little memory."""
+    resource.setrlimit(resource.RLIMIT_AS, (SCANT, SCANT))
+
+
+def check_peers(program):
+    """Peers that are no server, or a bad one."""
+    for what, data, status, errors in ODD_LISTS:
+        check_run(f"list where there comes {what}", (status, "", f"{errors}\n"), program, "list", HOST, Peer().play((closes, data)).port)
+    for what, data in LIES:
+        wanted = (2, "", f"truncated at {len(data)}\n")
+        check_run(f"list with little memory, where there are said to be {what}", wanted, program, "list", HOST, Peer().play((closes, data)).port, limited=scant)
+    check_run("list where the names come byte by byte", (0, "a\nb\n", ""), program, "list", HOST, Peer().play((trickles, NORMAL + STRINGS + wire("00000002 74 =a 74 =b"))).port)
+    check_run("list where the link is reset", (3, "", "read fault\n"), program, "list", HOST, Peer().play((resets, ACK)).port)
+    with check("list where there is no end, and its memory"):
+        client = subprocess.Popen([program, "list", HOST, str(Peer().play((floods, NORMAL + BYTES + wire("7FFFFFFF"))).port)], stdin=subprocess.DEVNULL, stdout=subprocess.DEVNULL, stderr=subprocess.PIPE)
+        errors = client.stderr.read()
+        _, status, used = os.wait4(client.pid, 0)
+        client.returncode = os.waitstatus_to_exitcode(status)
+        want(f"status {client.returncode} and errors {errors}", (client.returncode, errors) == (6, b"too large bytes at %d\n" % (16 + (1 << 24))))
+        want(f"{used.ru_maxrss} kB", used.ru_maxrss < AMPLE)
+
+
+# What an object's server sends on its link, the status of a call, and its errors.
+ODD_CALLS = [
+    ("says nothing", b"", 2, "truncated at 0"),
+    ("refuses", b"O", 2, "nack"),
+    ("grants no lease", NORMAL + wire("70"), 2, "bad reply at 39"),
+    ("grants a lease and says no more", ACK + GRANTED, 2, f"truncated at {len(ACK + GRANTED)}"),
+    ("answers a part of a number", ACK + GRANTED + wire(f"51 ACED0005 77 17 01 {UID} 0000"), 2, f"truncated at {len(ACK + GRANTED) + 24}"),
+    ("answers a text in place of a number", ACK + GRANTED + wire(f"51 ACED0005 77 0F 01 {UID} 74 =hi"), 2, f"bad reply at {len(ACK + GRANTED) + 22}"),
+]
+
+
+def check_object_peers(program):
+    """Registries that name an object of a bad server."""
+    for what, data, status, errors in ODD_CALLS:
+        peer = Peer()
+        peer.play((closes, found(peer.port)), (closes, data))
+        check_run(f"call where the object's server {what}", (status, "", f"{errors}\n"), program, "call", HOST, peer.port, "a", "get()J")
+    check_run("call where the object's server does not listen", (3, "", "dial fault\n"), program, "call", HOST, Peer().play((closes, found(free_port()))).port, "a", "get()J")
+
+
+@contextlib.contextmanager
+def silent_peers(program):
+    """Runs whose peers say nothing, beside all other checks: each is given up after a while."""
+
+    def check_silence(name, parts, *words):
+        with check(name):
+            start = time.monotonic()
+            peer = Peer()
+            peer.play(*parts(peer.port))
+            seen = ran(program, words[0], HOST, peer.port, *words[1:], patience=SILENCE + PATIENCE)
+            took = time.monotonic() - start
+            want(f"seen {seen} after {took:.1f} s", seen == (3, "", "read fault\n") and SILENCE - 1 < took)
+
+    runs = [
+        ("list where nothing comes, for ever", lambda port: [(stays, b"")], "list"),
+        ("call where no answer of the object comes, for ever", lambda port: [(stays, found(port)), (stays, ACK + GRANTED)], "call", "a", "get()J"),
+    ]
+    threads = [threading.Thread(target=check_silence, args=it) for it in runs if knows(program, it[2])]
+    for it in threads:
+        it.start()
+    try:
+        yield
+    finally:
+        for it in threads:
+            it.join()
+
+
+# The program's own server.
+
+
+def outline_of(process):
+    """The lines that a server prints at its end."""
+    output, errors = process.communicate(timeout=PATIENCE)
+    want(f"status {process.returncode} and errors {errors}", (process.returncode, errors) == (0, b""))
+    return output.decode().splitlines()
+
+
+def check_two_programs(program):
+    """The program calls the program: one call, and what the server has of it."""
+    port = free_port()
+    server = subprocess.Popen([program, "serve", str(port), "2"], stdin=subprocess.DEVNULL, stdout=subprocess.PIPE, stderr=subprocess.PIPE)
+    try:
+        with check("call of the program's own server"):
+            answers = []
+
+            def is_answered():
+                answers.append(ran(program, "call", HOST, port, "counter", "add(J)J", 5))
+                return answers[-1] != (3, "", "dial fault\n")
+
+            until(PATIENCE, is_answered)
+            want(f"seen {answers[-1]}", answers[-1] == (0, "5\n", ""))
+        with check("its outline: the six events of a call, and the client's lease"):
+            lines = outline_of(server)
+            want(f"other lines: {lines}", len(lines) == 8 and re.fullmatch(r"events 14 units 16 now \d+", lines[0]) and re.fullmatch(r"lease \w{16}@\S+ until \d+", lines[4]))
+            want(f"other objects: {lines}", all(re.fullmatch(rf"object {16 + at} kind {at} pinned running 0 awaiting 0 held 0 names 1", lines[1 + at]) for at in range(3)))
+    finally:
+        server.kill()
+        server.wait()
+
+
+def check_full(program, *words):
+    """A run whose output finds no room says so, after it has asked the server."""
+    with check(f"{words[0]} to a full disk"), open("/dev/full", "wb", buffering=0) as out:
+        run = subprocess.run([program, *map(str, words)], stdin=subprocess.DEVNULL, stdout=out, stderr=subprocess.PIPE, timeout=PATIENCE, check=False)
+        seen = run.returncode, run.stderr
+        want(f"status and errors {seen}", seen == (4, b"write fault\n"))
+
+
+def check_own_server(program):
+    """Each command against the program's own server."""
+    port = free_port()
+    server = subprocess.Popen([program, "serve", str(port), "100", "open"], stdin=subprocess.DEVNULL, stdout=subprocess.PIPE, stderr=subprocess.PIPE)
+    at = [HOST, port]
+    try:
+        until(PATIENCE, lambda: listens(port))
+        check_run("list of the program's own server", (0, "echo\ncounter\nmaker\n", ""), program, "list", *at)
+        check_pattern("lookup there", 0, rf"{HOST} {port} 16:-?\d+/\d+/0\n", "", program, "lookup", *at, "echo")
+        check_run("bind there", (0, "ok\n", ""), program, "bind", *at, "other", "counter")
+        check_run("call of what was bound there", (0, "-7\n", ""), program, "call", *at, "other", "add(J)J", "~7")
+        check_run("unbind there", (0, "ok\n", ""), program, "unbind", *at, "other")
+        check_run("echo there", (0, '"a"\n', ""), program, "call", *at, "echo", "echo(Ljava/lang/Object;)Ljava/lang/Object;", "a")
+        check_pattern("make there", 0, rf"ref {HOST} {port} 19:-?\d+/\d+/0\n", "", program, "call", *at, "maker", "make()Lsample/Counter;")
+        check_pattern("a sum past the ends of a long there", 7, "", "remote fault java.rmi.RemoteException: java.lang.ArithmeticException: overflow\n", program, "call", *at, "counter", "add(J)J", "~9223372036854775808")
+        for words in (["list", *at], ["lookup", *at, "echo"], ["bind", *at, "other", "echo"], ["unbind", *at, "other"], ["call", *at, "counter", "get()J"]):
+            if knows(program, words[0]):
+                check_full(program, *words)
+        check_run("unbind of an unknown name there", (7, "", "remote fault java.rmi.RemoteException: java.rmi.NotBoundException: other\n"), program, "unbind", *at, "other")
+    finally:
+        server.kill()
+        server.wait()
+
+
+# All of it.
+
+
+def check_client(java, program):
+    """All checks of the commands that call servers."""
+    check_nobody(program)
+    check_peers(program)
+    calls = knows(program, "call")
+    if calls:
+        check_object_peers(program)
+        check_two_programs(program)
+    else:
+        say("left out: calls of objects, since the program has no command for them")
+    check_own_server(program)
+    with registry_of(java) as port, KindsServer(java) as own, KindsServer(java, flags=JDK_FLAGS) as brief, KindsServer(java, host="localhost", registry=port) as outside:
+        for it in (own, brief, outside):
+            it.await_ready()
+        if calls:
+            check_leases(program, own)
+            check_answers(program, own)
+            check_limits(program, own)
+        for it in (own, outside):
+            check_names(program, it)
+        if calls:
+            check_killed(program, brief)
+            check_dying(program, outside)
+
+
+def check_java_client(java):
+    """Java's own client makes the calls that have one line as an answer, and sees what the table says."""
+    with KindsServer(java) as server:
+        server.await_ready()
+        wanted = [line for *_, line in LINES] + [f"remote fault {fault}" for *_, fault in FAULTS]
+        asked = ["\t".join([name, method, *arguments]).replace("\n", "") for name, method, arguments, _ in LINES + FAULTS]
+        words = java.words("KindsClient", server.host, server.port)
+        run = subprocess.run(words, input="\n".join(asked).encode(), stdout=subprocess.PIPE, stderr=subprocess.STDOUT, timeout=2 * PATIENCE, check=False)
+        seen = run.stdout.decode(errors="replace").splitlines()
+        for call, line, answer in zip(asked, wanted, seen + len(wanted) * ["no line"]):
+            with check("Java's client: " + call.replace("\t", " ")[:100]):
+                want(f"seen {answer}, wanted {line}", answer == line)
