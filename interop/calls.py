@@ -1,6 +1,5 @@
 """Checks of the commands that call servers: the JDK's own server and registry, `PROGRAM serve`, and peers that send odd bytes or none."""
 import contextlib
-import functools
 import os
 import re
 import resource
@@ -10,7 +9,7 @@ import subprocess
 import threading
 import time
 
-from harness import HOST, JDK_FLAGS, LEASE, PATIENCE, check, free_port, listens, say, until, want
+from harness import HOST, JDK_FLAGS, LEASE, PATIENCE, check, free_port, listens, until, want
 
 # How long a peer may be silent before it is given up, in seconds.
 SILENCE = 60
@@ -27,7 +26,7 @@ class KindsServer:
     """A Java server with every kind of parameter, result and exception, and the lines that it has said. It has a registry of its own, or uses one that is there."""
 
     def __init__(self, java, host=HOST, registry=None, flags=()):
-        self.host, self.port, self.lines = host, registry or free_port(), []
+        self.host, self.port, self.lines, self.is_outside = host, registry or free_port(), [], registry is not None
         words = java.words("KindsServer", host, self.port, *(["outside"] if registry else []), flags=flags)
         self.process = subprocess.Popen(words, stdin=subprocess.PIPE, stdout=subprocess.PIPE, stderr=subprocess.STDOUT)
         threading.Thread(target=self.read, daemon=True).start()
@@ -84,16 +83,8 @@ def ran(program, *words, limited=None, patience=PATIENCE):
     return it.returncode, it.stdout.decode(), it.stderr.decode()
 
 
-@functools.cache
-def knows(program, command):
-    """Whether the program has the command."""
-    return ran(program, "help", command)[0] == 0
-
-
 def check_run(name, wanted, program, *words, **limits):
     """A run ends with this status, this output and these errors."""
-    if not knows(program, words[0]):
-        return
     with check(name):
         seen = ran(program, *words, **limits)
         want(f"seen {seen}, wanted {wanted}", seen == wanted)
@@ -101,8 +92,6 @@ def check_run(name, wanted, program, *words, **limits):
 
 def check_pattern(name, status, output, errors, program, *words):
     """A run ends with this status, and its output and errors are of these patterns."""
-    if not knows(program, words[0]):
-        return
     with check(name):
         seen = ran(program, *words)
         want(f"seen {seen}", seen[0] == status and re.fullmatch(output, seen[1]) and re.fullmatch(errors, seen[2]))
@@ -115,12 +104,19 @@ LINES = [
     ("kinds", "units(Ljava/lang/String;)Ljava/lang/String;", ['a"\\ é€😀'], '"00610022005c002000e920acd83dde00"'),
     ("kinds", "text(Ljava/lang/String;)Ljava/lang/String;", ["d83d00000022005c0020fffe0041de00"], r'"\ud83d\u0000\u0022\u005c\u0020\ufffeA\ude00"'),
     ("kinds", "text(Ljava/lang/String;)Ljava/lang/String;", ["20ac" * 30_000], '"' + r"\u20ac" * 30_000 + '"'),
+    ("kinds", "mixed(Ljava/lang/String;ILjava/lang/String;JZLjava/lang/String;)Ljava/lang/String;", ["a", "~5", "", "7", "true", "b"], '"a,-5,,7,true,b"'),
+    ("kinds", f"sum({'J' * 26}I)J", [*map(str, range(1, 27)), "~1"], "350"),
     ("kinds", "same(Z)Z", ["true"], "true"),
     ("kinds", "same(Z)Z", ["false"], "false"),
     ("kinds", "same(B)B", ["~128"], "-128"),
+    ("kinds", "same(B)B", ["127"], "127"),
     ("kinds", "same(S)S", ["~32768"], "-32768"),
+    ("kinds", "same(S)S", ["32767"], "32767"),
     ("kinds", "same(I)I", ["~2147483648"], "-2147483648"),
+    ("kinds", "same(I)I", ["2147483647"], "2147483647"),
+    ("kinds", "same(J)J", ["~9223372036854775808"], "-9223372036854775808"),
     ("kinds", "same(J)J", ["9223372036854775807"], "9223372036854775807"),
+    ("kinds", "same(C)C", ["0"], "0"),
     ("kinds", "same(C)C", ["65535"], "65535"),
     ("kinds", "same(Ljava/lang/Object;)Ljava/lang/Object;", ["a"], '"a"'),
     ("kinds", "same(Ljava/lang/Object;)Ljava/lang/Object;", [""], '""'),
@@ -144,6 +140,38 @@ item #2""",
         """#0 desc "[I" 4dba602676eab2a5 02 - note null super null
 #1 array #0 3 1,-1,2147483647
 item #1""",
+    ),
+    (
+        "bytes()[B",
+        """#0 desc "[B" acf317f8060854e0 02 - note null super null
+#1 array #0 3 -128,0,127
+item #1""",
+    ),
+    (
+        "table()[[Z",
+        """#0 desc "[[Z" 631f1721cb9a1c15 02 - note null super null
+#1 array #0 2 #3,#4
+#2 desc "[Z" 578f203914b85de2 02 - note null super null
+#3 array #2 2 true,false
+#4 array #2 0 -
+item #1""",
+    ),
+    (
+        "list()Ljava/util/List;",
+        """#0 desc "java.util.ArrayList" 7881d21d99c7619d 03 I:"size" note null super null
+#1 object #0 (2 x:00000002,#2,null)
+#2 text "a"
+item #1""",
+    ),
+    (
+        "proxy()Ljava/lang/Object;",
+        """#0 proxy "java.lang.Runnable","java.lang.Comparable" note null super #1
+#1 desc "java.lang.reflect.Proxy" e127da20cc1043cb 02 L:"h":#2 note null super null
+#2 text "Ljava/lang/reflect/InvocationHandler;"
+#3 object #0 (#5 -) (- -)
+#4 desc "kinds.Unused" 0000000000000004 02 - note null super null
+#5 object #4 (- -)
+item #3""",
     ),
     (
         "texts()[Ljava/lang/String;",
@@ -202,8 +230,21 @@ NO_CALLS = [
     ("an array as a parameter", ["kinds", "sorted([I)V", "1"]),
     ("too few arguments", ["kinds", "same(I)I"]),
     ("too many arguments", ["kinds", "nothing()V", "1"]),
-    ("a number past its type", ["kinds", "same(B)B", "128"]),
+    ("a byte of 128", ["kinds", "same(B)B", "128"]),
+    ("a byte of -129", ["kinds", "same(B)B", "~129"]),
+    ("a short of 32768", ["kinds", "same(S)S", "32768"]),
+    ("an int of 2^31", ["kinds", "same(I)I", "2147483648"]),
+    ("a long of 2^63", ["kinds", "same(J)J", "9223372036854775808"]),
+    ("a char of 65536", ["kinds", "same(C)C", "65536"]),
+    ("a char of -1", ["kinds", "same(C)C", "~1"]),
+    ("a number with a needless zero", ["kinds", "same(I)I", "05"]),
+    ("a number behind a minus", ["kinds", "same(I)I", "-5"]),
+    ("a truth value that is none", ["kinds", "same(Z)Z", "1"]),
+    ("a string that begins with a minus", ["kinds", "same(Ljava/lang/Object;)Ljava/lang/Object;", "-a"]),
     ("a method's name alone", ["kinds", "nothing"]),
+    ("a method without a result", ["kinds", "nothing()"]),
+    ("no method", ["kinds"]),
+    ("a name of 256 units", ["k" * 256, "nothing()V"]),
 ]
 
 
@@ -225,6 +266,7 @@ def check_limits(program, server):
     """What a Java server may answer and the program does not take."""
     to = ["call", server.host, server.port]
     check_run("a message of half a pair", (7, "", "remote fault java.lang.IllegalStateException: \ufffd\n"), program, *to, "faults", "fail(Ljava/lang/String;)I", "d83d")
+    check_run("a reference to an object of another port", (0, f"ref {'127.0.0.1' if server.is_outside else server.host} {server.port} 0:0/0/0\n", ""), program, *to, "kinds", "registry()Ljava/rmi/registry/Registry;")
     check_pattern("a method that is none", 7, "", "remote fault java[.]rmi[.]ServerException: .*\n", program, *to, "kinds", "none()V")
     check_pattern("an externalizable value", 2, "", r"bad reply at \d+\n", program, *to, "kinds", "duration()Ljava/lang/Object;")
     check_pattern("a value that can't be serialized", 2, "", r"bad reply at \d+\n", program, *to, "kinds", "broken()Ljava/lang/Object;")
@@ -281,19 +323,34 @@ def check_leases(program, server):
         status, output, errors = ran(program, *to, "several()[Lkinds/Keeper;")
         want(f"seen {status, output, errors}", (status, errors) == (0, "") and re.search(r'(?s)^#0 desc "\[Lkinds.Keeper;" .*\n#1 array #0 3 (#\d+),#\d+,\1\n.*\nitem #1\n$', output))
         server.awaits_lines("unreferenced keeper", "unreferenced keeper.2", "unreferenced keeper.3")
+    with check("an object that a call of its own returns is held and given up once"):
+        status, output, errors = ran(program, *to, "self()Ljava/lang/Object;")
+        want(f"seen {status, output, errors}", (status, errors) == (0, "") and output == f"ref {ran(program, 'lookup', *to[1:])[1]}")
+        server.awaits_lines("unreferenced keeper")
+
+
+def check_left(server):
+    """The keeper is told that no client is left, and not before a part of its lease is over."""
+    took = until(4 * LEASE, lambda: "unreferenced keeper" in server.lines)
+    want(f"given up after {took:.1f} s", took > LEASE / 4)
 
 
 def check_killed(program, server):
-    """A client that is killed gives nothing up: its object is kept until its lease has run out. The server's leases are short."""
+    """A client that is killed, or whose call ends with an exception, gives nothing up: its object is kept until its lease has run out. The server's leases are short."""
+    to = ["call", server.host, server.port, "keeper"]
     server.lines.clear()
     with check("a client that is killed in a call keeps its object until its lease ends"):
-        words = [program, "call", server.host, str(server.port), "keeper", "rest(J)I", "1"]
-        client = subprocess.Popen([*words[:-1], str(PATIENCE * 1000)], stdin=subprocess.DEVNULL, stdout=subprocess.DEVNULL, stderr=subprocess.DEVNULL)
+        words = [program, *map(str, to), "rest(J)I", str(PATIENCE * 1000)]
+        client = subprocess.Popen(words, stdin=subprocess.DEVNULL, stdout=subprocess.DEVNULL, stderr=subprocess.DEVNULL)
         until(PATIENCE, lambda: server.lines)
         client.kill()
         client.wait()
-        took = until(4 * LEASE, lambda: "unreferenced keeper" in server.lines)
-        want(f"given up after {took:.1f} s", took > LEASE / 4)
+        check_left(server)
+    server.lines.clear()
+    with check("a call that ends with an exception keeps its object until its lease ends"):
+        seen = ran(program, *to, "none()V")
+        want(f"seen {seen}", seen[:2] == (7, "") and seen[2].startswith("remote fault java.rmi.ServerException: "))
+        check_left(server)
 
 
 def check_dying(program, server):
@@ -310,6 +367,7 @@ def check_nobody(program):
     for words in (["list"], ["lookup", "a"], ["bind", "a", "b"], ["unbind", "a"], ["call", "a", "get()J"]):
         check_run(f"{words[0]} where nobody listens", (3, "", "dial fault\n"), program, words[0], HOST, port, *words[1:])
     check_run("list at a host that is none", (3, "", "dial fault\n"), program, "list", "no..host", port)
+    check_run("call at a host that is none", (3, "", "dial fault\n"), program, "call", "no..host", port, "a", "get()J")
 
 
 # Peers of odd bytes.
@@ -325,6 +383,7 @@ ACK = wire("4E =127.0.0.1 000004D2")
 NORMAL = ACK + wire(f"51 ACED0005 77 0F 01 {UID}")
 STRINGS = wire("75 72 =[Ljava.lang.String; ADD256E7E91D7B47 02 0000 70 78 70")
 BYTES = wire("75 72 =[B ACF317F8060854E0 02 0000 70 78 70")
+FAULT = wire(f"51 ACED0005 77 0F 02 {UID} 73 72 =java.lang.Throwable D5C635273977B8CB 03 0001 4C =detailMessage 74 =Ljava/lang/String; 70 78 70 74 =gone 78")
 GRANTED = wire(f"51 ACED0005 77 0F 01 {UID} 73 72 =java.rmi.dgc.Lease B0B5E2660C4ADC34 02 0002 4A =value 4C =vmid 74 =Ljava/rmi/dgc/VMID; 70 78 70 00000000000927C0 70")
 
 
@@ -374,10 +433,15 @@ def drain(link):
             continue
 
 
-def closes(link, data):
+def closes_half(link, data):
     """Sends bytes, and then the end."""
     link.sendall(data)
     link.shutdown(socket.SHUT_WR)
+
+
+def closes(link, data):
+    """Sends bytes, and then the end, and takes what comes."""
+    closes_half(link, data)
     drain(link)
 
 
@@ -458,24 +522,118 @@ def check_peers(program):
         want(f"{used.ru_maxrss} kB", used.ru_maxrss < AMPLE)
 
 
+# What a registry sends that is asked for an object.
+NO_OBJECTS = [
+    ("nothing", b"", 2, "truncated at 0"),
+    ("null", NORMAL + wire("70"), 2, "bad reply at 39"),
+    ("a text", NORMAL + wire("74 =hi"), 2, "bad reply at 43"),
+    ("an exception", ACK + FAULT, 7, "remote fault java.lang.Throwable: gone"),
+]
+
 # What an object's server sends on its link, the status of a call, and its errors.
+HELD = ACK + GRANTED
+FIVE = wire(f"51 ACED0005 77 17 01 {UID} 0000000000000005")
+VOID = wire(f"51 ACED0005 77 0F 01 {UID}")
 ODD_CALLS = [
     ("says nothing", b"", 2, "truncated at 0"),
     ("refuses", b"O", 2, "nack"),
+    ("is a web server", b"HTTP/1.1 400 Bad Request\r\n\r\n", 2, "bad reply at 0"),
     ("grants no lease", NORMAL + wire("70"), 2, "bad reply at 39"),
-    ("grants a lease and says no more", ACK + GRANTED, 2, f"truncated at {len(ACK + GRANTED)}"),
-    ("answers a part of a number", ACK + GRANTED + wire(f"51 ACED0005 77 17 01 {UID} 0000"), 2, f"truncated at {len(ACK + GRANTED) + 24}"),
-    ("answers a text in place of a number", ACK + GRANTED + wire(f"51 ACED0005 77 0F 01 {UID} 74 =hi"), 2, f"bad reply at {len(ACK + GRANTED) + 22}"),
+    ("answers the dirty call with an exception", ACK + FAULT, 7, "remote fault java.lang.Throwable: gone"),
+    ("grants a lease and says no more", HELD, 2, f"truncated at {len(HELD)}"),
+    ("answers the call with nonsense", HELD + b"HTTP", 2, f"bad reply at {len(HELD)}"),
+    ("answers a Return of no kind", HELD + wire(f"51 ACED0005 77 17 03 {UID} 0000000000000005"), 2, f"bad reply at {len(HELD) + 7}"),
+    ("answers a part of a number", HELD + FIVE[:24], 2, f"truncated at {len(HELD) + 24}"),
+    ("answers a text in place of a number", HELD + VOID + wire("74 =hi"), 2, f"bad reply at {len(HELD) + 22}"),
+    ("answers an exception", HELD + FAULT, 7, "remote fault java.lang.Throwable: gone"),
+    ("answers an exception that is none", HELD + wire(f"51 ACED0005 77 0F 02 {UID} 70"), 2, f"bad reply at {len(HELD) + 23}"),
+    ("does not answer the clean call", HELD + FIVE, 2, f"truncated at {len(HELD + FIVE)}"),
+    ("answers the clean call with nonsense", HELD + FIVE + b"\xff", 2, f"bad reply at {len(HELD + FIVE)}"),
+    ("answers the clean call with an exception", HELD + FIVE + FAULT, 7, "remote fault java.lang.Throwable: gone"),
 ]
 
 
 def check_object_peers(program):
-    """Registries that name an object of a bad server."""
-    for what, data, status, errors in ODD_CALLS:
+    """Registries that name an object of a bad server, or none."""
+
+    def check_call(name, wanted, *parts):
         peer = Peer()
-        peer.play((closes, found(peer.port)), (closes, data))
-        check_run(f"call where the object's server {what}", (status, "", f"{errors}\n"), program, "call", HOST, peer.port, "a", "get()J")
+        peer.play(*((how, data(peer.port) if callable(data) else data) for how, data in parts))
+        check_run(name, wanted, program, "call", HOST, peer.port, "a", "get()J")
+
+    for what, data, status, errors in NO_OBJECTS:
+        check_call(f"call where the registry answers {what}", (status, "", f"{errors}\n"), (closes, data))
+    for what, data, status, errors in ODD_CALLS:
+        check_call(f"call where the object's server {what}", (status, "", f"{errors}\n"), (closes, found), (closes, data))
+    check_call("call where the answers come byte by byte", (0, "5\n", ""), (trickles, found), (trickles, HELD + FIVE + VOID))
+    check_call("call where the object's server resets the link", (3, "", "read fault\n"), (closes, found), (resets, ACK))
     check_run("call where the object's server does not listen", (3, "", "dial fault\n"), program, "call", HOST, Peer().play((closes, found(free_port()))).port, "a", "get()J")
+    check_sent(program)
+
+
+# What a call sends: the protocol's opening, and the messages' beginnings and ends.
+OPENING = b"JRMI\0\2K" + wire("=127.0.0.1 00000000")
+MESSAGE = wire("50 ACED0005 77")
+OBJECT = wire("0000000000000010 00000007 0000000000000009 0000")
+COLLECTOR = wire("22 0000000000000002 0000000000000000000000000000")
+DIRTY, CLEAN = (COLLECTOR + wire(f"{operation} F6B6898D8BF28643") for operation in ("00000001", "00000000"))
+LOOKUP_A = MESSAGE + wire("22 0000000000000000 0000000000000000000000000000 00000002 44154DC9D4E63BDF 74 =a")
+ADD_5 = wire("2A") + OBJECT + wire("FFFFFFFF DE3EC51A3025A10E 0000000000000005")
+# The number of the first lease call, and the duration that it asks for; the number of the next one, and its end, which is weak.
+FIRST_DIRTY = wire("77 08 8000000000000000"), wire("00000000000927C0")
+FIRST_CLEAN = wire("77 08 8000000000000001"), wire("77 01 00")
+ADDRESS = wire("75 72 =[B ACF317F8060854E0 02 0000 70 78 70 00000008")
+
+
+def address_of(message):
+    """The address of the client that a lease call names."""
+    return message.partition(ADDRESS)[2][:8]
+
+
+class Sent:
+    """What a call sends on the registry's link and on that of the object's server, and what the first had taken when the lease was granted."""
+
+    def __init__(self):
+        self.first, self.second, self.early = b"", b"", None
+        self.open_links = 2
+
+    def registry(self, link, data):
+        """Answers the lookup, and keeps what comes."""
+        closes_half(link, data)
+        while more := link.recv(65536):
+            self.first += more
+        self.open_links -= 1
+
+    def server(self, link, data):
+        """Grants the lease late and answers the rest, and keeps what comes."""
+        link.sendall(ACK)
+        while FIRST_DIRTY[1] not in self.second:
+            self.second += link.recv(65536)
+        time.sleep(0.3)
+        self.early = self.first
+        closes_half(link, data)
+        while more := link.recv(65536):
+            self.second += more
+        self.open_links -= 1
+
+
+def check_sent(program):
+    """The bytes of a call, link by link: the lookup is acknowledged once the lease is granted, and the object given up at the end."""
+    with check("what a call sends on both links"):
+        sent, peer = Sent(), Peer()
+        peer.play((sent.registry, found(peer.port)), (sent.server, GRANTED + FIVE + VOID))
+        seen = ran(program, "call", HOST, peer.port, "a", "add(J)J", 5)
+        want(f"seen {seen}", seen == (0, "5\n", ""))
+        until(PATIENCE, lambda: sent.open_links == 0)
+        want(f"sent to the registry before the lease was granted: {sent.early}", sent.early == OPENING + LOOKUP_A)
+        want(f"sent to the registry: {sent.first}", sent.first == OPENING + LOOKUP_A + b"\x54" + wire(UID))
+        begin, *messages = sent.second.split(MESSAGE)
+        want(f"sent to the object's server: {sent.second}", begin == OPENING and len(messages) == 3)
+        dirty, call, clean = messages
+        want(f"another dirty call: {dirty}", dirty.startswith(DIRTY) and all(it in dirty for it in FIRST_DIRTY))
+        want(f"another call: {call}", call == ADD_5)
+        want(f"another clean call: {clean}", clean.startswith(CLEAN) and FIRST_CLEAN[0] in clean and clean.endswith(FIRST_CLEAN[1]))
+        want("another client gives it up", len(address_of(dirty)) == 8 and address_of(dirty) == address_of(clean))
 
 
 @contextlib.contextmanager
@@ -495,7 +653,7 @@ def silent_peers(program):
         ("list where nothing comes, for ever", lambda port: [(stays, b"")], "list"),
         ("call where no answer of the object comes, for ever", lambda port: [(stays, found(port)), (stays, ACK + GRANTED)], "call", "a", "get()J"),
     ]
-    threads = [threading.Thread(target=check_silence, args=it) for it in runs if knows(program, it[2])]
+    threads = [threading.Thread(target=check_silence, args=it) for it in runs]
     for it in threads:
         it.start()
     try:
@@ -515,27 +673,40 @@ def outline_of(process):
     return output.decode().splitlines()
 
 
-def check_two_programs(program):
-    """The program calls the program: one call, and what the server has of it."""
-    port = free_port()
+@contextlib.contextmanager
+def two_programs(program, *words):
+    """What a call of the program's own server, which serves its two links alone, gave, and the lines that the server prints at its end."""
+    port, answers, lines = free_port(), [], []
     server = subprocess.Popen([program, "serve", str(port), "2"], stdin=subprocess.DEVNULL, stdout=subprocess.PIPE, stderr=subprocess.PIPE)
+
+    def is_answered():
+        answers.append(ran(program, "call", HOST, port, *words))
+        return answers[-1] != (3, "", "dial fault\n")
+
     try:
-        with check("call of the program's own server"):
-            answers = []
-
-            def is_answered():
-                answers.append(ran(program, "call", HOST, port, "counter", "add(J)J", 5))
-                return answers[-1] != (3, "", "dial fault\n")
-
+        with check(f"call of the program's own server: {' '.join(map(str, words))}"):
             until(PATIENCE, is_answered)
-            want(f"seen {answers[-1]}", answers[-1] == (0, "5\n", ""))
-        with check("its outline: the six events of a call, and the client's lease"):
-            lines = outline_of(server)
-            want(f"other lines: {lines}", len(lines) == 8 and re.fullmatch(r"events 14 units 16 now \d+", lines[0]) and re.fullmatch(r"lease \w{16}@\S+ until \d+", lines[4]))
-            want(f"other objects: {lines}", all(re.fullmatch(rf"object {16 + at} kind {at} pinned running 0 awaiting 0 held 0 names 1", lines[1 + at]) for at in range(3)))
+            lines += outline_of(server)
+        yield port, answers[-1:], lines
     finally:
         server.kill()
         server.wait()
+
+
+# The sample's objects, in the outline of a server in which no call runs and no client holds any.
+SAMPLE = [f"object {16 + kind} kind {kind} pinned running 0 awaiting 0 held 0 names 1" for kind in range(3)]
+
+
+def check_two_programs(program):
+    """The program calls the program: one call each, and what the server has of it."""
+    with two_programs(program, "counter", "add(J)J", 5) as (_, seen, lines), check("its outline: the six events of a call, and the client's lease"):
+        want(f"seen {seen}", seen == [(0, "5\n", "")])
+        want(f"other lines: {lines}", len(lines) == 8 and re.fullmatch(r"events 14 units 16 now \d+", lines[0]) and re.fullmatch(r"lease \w{16}@\S+ until \d+", lines[4]))
+        want(f"other objects: {lines}", lines[1:4] == SAMPLE)
+    with two_programs(program, "maker", "make()Lsample/Counter;") as (port, seen, lines), check("its outline: the object that was made is withdrawn"):
+        want(f"seen {seen}", len(seen) == 1 and seen[0][0] == 0 and re.fullmatch(rf"ref {HOST} {port} 19:-?\d+/\d+/0\n", seen[0][1]))
+        want(f"other objects: {lines}", [it for it in lines if it.startswith("object ")] == SAMPLE)
+        want(f"other withdrawals: {lines}", [it.split()[:3] for it in lines if it.startswith("withdrawn ")] == [["withdrawn", "19", "place"]])
 
 
 def check_full(program, *words):
@@ -562,8 +733,7 @@ def check_own_server(program):
         check_pattern("make there", 0, rf"ref {HOST} {port} 19:-?\d+/\d+/0\n", "", program, "call", *at, "maker", "make()Lsample/Counter;")
         check_pattern("a sum past the ends of a long there", 7, "", "remote fault java.rmi.RemoteException: java.lang.ArithmeticException: overflow\n", program, "call", *at, "counter", "add(J)J", "~9223372036854775808")
         for words in (["list", *at], ["lookup", *at, "echo"], ["bind", *at, "other", "echo"], ["unbind", *at, "other"], ["call", *at, "counter", "get()J"]):
-            if knows(program, words[0]):
-                check_full(program, *words)
+            check_full(program, *words)
         check_run("unbind of an unknown name there", (7, "", "remote fault java.rmi.RemoteException: java.rmi.NotBoundException: other\n"), program, "unbind", *at, "other")
     finally:
         server.kill()
@@ -577,25 +747,19 @@ def check_client(java, program):
     """All checks of the commands that call servers."""
     check_nobody(program)
     check_peers(program)
-    calls = knows(program, "call")
-    if calls:
-        check_object_peers(program)
-        check_two_programs(program)
-    else:
-        say("left out: calls of objects, since the program has no command for them")
+    check_object_peers(program)
+    check_two_programs(program)
     check_own_server(program)
     with registry_of(java) as port, KindsServer(java) as own, KindsServer(java, flags=JDK_FLAGS) as brief, KindsServer(java, host="localhost", registry=port) as outside:
         for it in (own, brief, outside):
             it.await_ready()
-        if calls:
-            check_leases(program, own)
-            check_answers(program, own)
-            check_limits(program, own)
+        check_leases(program, own)
+        check_answers(program, own)
+        check_limits(program, own)
         for it in (own, outside):
             check_names(program, it)
-        if calls:
-            check_killed(program, brief)
-            check_dying(program, outside)
+        check_killed(program, brief)
+        check_dying(program, outside)
 
 
 def check_java_client(java):

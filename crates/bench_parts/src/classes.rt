@@ -7,7 +7,7 @@ use suid_calc::{describe, parse_outline, suid};
 use wire_io::std_io::StdSource;
 use wire_io::whole::take_whole;
 
-/// How many bytes are read at most.
+/// The most bytes that are read.
 const MOST_BYTES: usize = 0x1000_0000;
 
 /// Reads the input as a class outline, after it stands whole in memory, and computes the class's number and description. Standard

@@ -15,7 +15,7 @@ const MOST_THREADS: u32 = 64;
 
 const MOST_TURNS: u64 = 100_000;
 
-/// How many threads, and how many turns of each, where the words are two such numbers.
+/// Returns the number of threads and the number of turns of each, where the words are two such numbers.
 fn asked(words: &[String]) -> Option<(u32, u64)>
     ensures { IfSome result (λ p. p.1 ≤ 100000) }
 {
@@ -36,7 +36,8 @@ fn bounded(threads: u32, turns: u64) -> Option<(u32, u64)>
     }
 }
 
-/// How many events came of so many threads that took so many turns each, and in how many microseconds; none where there is no memory.
+/// Measures so many threads that take so many turns each. Returns the number of events that came of it, and its
+/// microseconds, or none where there is no memory.
 fn measured<R: Threads + Wait + Sync + Clock>(
     rt: &R,
     alloc: Global,

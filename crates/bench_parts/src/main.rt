@@ -1,3 +1,4 @@
+// SPDX-License-Identifier: Apache-2.0 OR MIT
 //! Times a part of the product, which the first word names: `graphs`, `streams`, `suid`, `lock` or `client`. The other words say how much of it.
 #![tactic(auto)]
 

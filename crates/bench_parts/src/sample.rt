@@ -12,7 +12,7 @@ use sequence::{ByteList, Units};
 use ser_values::{BuildFault, Builder, Part, PartList, Value, ValueList, Values};
 use std::alloc::{AllocError, Global};
 
-/// How many nodes stand before the objects.
+/// The number of nodes before the objects.
 const FIXED: u32 = 4;
 
 /// The description of the class `Node`, whose one field is a `Node`.

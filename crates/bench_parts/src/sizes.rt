@@ -1,14 +1,14 @@
-//! What the program is asked for.
+//! The sizes that the program is asked for.
 ghost use Rattle.std.specs.Prelude.{ℕ, IfSome, IfNone};
 ghost use Rattle.bench_parts.specs.Sizes.{Spells};
 ghost use Rattle.bench_parts.specs.declared.sizes.Sizes.{Sizes as Asked};
 
-/// How large a graph is to be.
+/// The sizes of a graph.
 #[derive(Clone, Copy, Debug)]
 pub struct Sizes {
-    /// How many nodes it is to have.
+    /// The number of nodes that it is to have.
     pub nodes: u32,
-    /// How many bytes its byte array is to have.
+    /// The number of bytes that its byte array is to have.
     pub bytes: u32,
 }
 

@@ -10,7 +10,7 @@ use wire_io::pull::Pull;
 use wire_io::std_io::StdSource;
 use wire_io::whole::take_whole;
 
-/// How many bytes are read at most.
+/// The most bytes that are read.
 const MOST_BYTES: usize = 0x1000_0000;
 
 /// Reads the input as a serialization stream, after it stands whole in memory. Standard output has how many nodes and

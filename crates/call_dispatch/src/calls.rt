@@ -1,4 +1,4 @@
-//! What a Call is answered.
+//! The answers to Calls.
 ghost use Rattle.std.specs.Prelude.{◌≡◌, ◌≤◌, ◌<◌, ◌+◌, ◌^◌, ◌∷◌, pos, ◌<ℤ◌, List, length, IfOk, IfSome, IfNone, OnOk, None, Some, []};
 ghost use Rattle.history.specs.declared.replies.Reply.TheVariants.{Finished};
 ghost use Rattle.wire_io.specs.Pulled.{PullState, pull_state};
@@ -49,7 +49,7 @@ pub fn fault_answer(
     Ok(Answer { bytes, close })
 }
 
-/// What a call is answered whose Finish was refused.
+/// Returns the answer to a call whose Finish was refused.
 fn denied(alloc: Global, uid: Uid, refused: Refused) -> Result<Answer, ConnEnd>
     ensures denied { IsDenied uid refused result }
     ensures short { IfOk result (λ answer. length answer.bytes ≤ RETURN_BYTES) }
@@ -61,7 +61,7 @@ fn denied(alloc: Global, uid: Uid, refused: Refused) -> Result<Answer, ConnEnd>
     }
 }
 
-/// What a Call is answered that ends the connection. The answer takes the next identifier of the draw.
+/// Returns the answer to a Call that ends the connection. The answer takes the next identifier of the draw.
 pub fn refuse(
     alloc: Global,
     setup: &mut Setup,

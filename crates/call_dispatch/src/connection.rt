@@ -1,15 +1,15 @@
-//! What a connection is served with.
+//! The parts that serve a connection.
 use system_objects::{Book, Setup};
 use wire_io::Pull;
 
-/// What a connection is served with: all of it is lent, and it owns no memory.
+/// The parts that serve a connection. All of them are lent, and the record owns no memory.
 #[derive(Drop)]
 pub struct Connection<'s, 'k, 'c, 'p, 'w, 'u, 'b, S, K, C, P, W> {
     /// Where the client's bytes come from.
     pub pull: Pull<'s, S>,
     /// Where the answers go.
     pub sink: &'k mut K,
-    /// What gives the moments of turns.
+    /// The clock that gives the moments of turns.
     pub clock: &'c mut C,
     /// Where turns are made.
     pub port: &'p mut P,
@@ -17,6 +17,6 @@ pub struct Connection<'s, 'k, 'c, 'p, 'w, 'u, 'b, S, K, C, P, W> {
     pub worker: &'w mut W,
     /// The kinds of objects that can be called.
     pub book: &'b Book,
-    /// What the connection is told beforehand, and how many identifiers were drawn.
+    /// The connection's settings, and the number of identifiers that were drawn.
     pub setup: &'u mut Setup,
 }

@@ -1,4 +1,4 @@
-//! How a connection ends.
+//! The end of a connection.
 ghost use Rattle.std.specs.Prelude.{◌≡◌};
 ghost use Rattle.call_dispatch.specs.Progress.{end_from};
 
@@ -7,7 +7,7 @@ use object_ids::ObjId;
 use ser_read::{Large, StreamFault, StreamKind};
 use std::alloc::AllocError;
 
-/// How a connection ended. Positions count bytes from 0 at the connection's first byte.
+/// The end of a connection. Positions count bytes from 0 at the connection's first byte.
 #[derive(Clone, Copy, Debug, PartialEq, Eq)]
 pub enum ConnEnd {
     /// The input ended where a message could begin, or the one message of single-op was served.

@@ -1,3 +1,4 @@
+// SPDX-License-Identifier: Apache-2.0 OR MIT
 //! Serving one connection of the Java Remote Method Protocol, from its first byte to its end.
 #![tactic(auto)]
 

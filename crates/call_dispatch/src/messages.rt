@@ -28,7 +28,7 @@ use ser_values::limits::MESSAGE_BYTES;
 use std::alloc::Global;
 use wire_io::{Clock, Sink, Source};
 
-// How many bytes a message has at most, and how many messages a connection, is what the README says.
+// The most bytes of a message, and the most messages of a connection, are those of the README.
 const _: () = prove!(MESSAGE_BYTES == 16_777_216);
 
 const _: () = prove!(MAX_MESSAGES == 72_057_594_037_927_936);

@@ -20,12 +20,12 @@ use std::alloc::{AllocError, Global};
 use system_objects::Setup;
 use wire_io::{Clock, Sink, Source};
 
-/// How a connection was opened.
+/// The outcome of a connection's opening.
 #[derive(Clone, Copy)]
 pub struct Opened {
-    /// What the client asked for.
+    /// The protocol that the client asked for.
     pub protocol: Protocol,
-    /// How many bytes were written.
+    /// The number of bytes that were written.
     pub sent: u64,
 }
 

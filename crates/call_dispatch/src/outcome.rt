@@ -1,4 +1,4 @@
-//! What a worker is asked to do, and how that comes out.
+//! The calls that a worker gets, and their outcomes.
 ghost use Rattle.std.specs.Prelude.{◌≡◌, IfOk};
 
 use jrmp_frames::Arguments;
@@ -16,7 +16,7 @@ pub struct Invocation {
     pub kind: u32,
     /// The method, a place in the list of the kind's methods.
     pub method: u32,
-    /// What it is called with.
+    /// The arguments of the call.
     pub arguments: Arguments,
 }
 
@@ -48,7 +48,7 @@ impl Invocation {
     }
 }
 
-/// How an invocation came out.
+/// The outcome of an invocation.
 #[derive(Debug, Drop)]
 pub enum Outcome {
     /// The method has no result.

@@ -25,9 +25,9 @@ pub struct RecordingWorker {
     /// The outcomes that are left, the next one first.
     outcomes: Vec<Outcome>,
     recorded: Vec<Recorded>,
-    /// Whether every call was kept.
+    /// True where every call was kept.
     whole: bool,
-    /// How many invocations it was given.
+    /// The number of invocations that the worker was given.
     pub calls: u64,
     /// The number of the connection that it was made for, 0 where for none.
     number: u32,
@@ -94,8 +94,8 @@ impl RecordingWorker {
         }
     }
 
-    /// What an invocation answers: the next outcome, `Void` past their end, and both are kept; or `OutOfMemory` where there is no memory to
-    /// keep them. In either case the outcome is used up.
+    /// Returns the next outcome, or `Void` past their end, and keeps the call with it. Where there is no memory to
+    /// keep both, it returns `OutOfMemory`. In either case the outcome is used up.
     pub fn answer(&mut self, call: Invocation) -> Outcome
         requires few { self.old.calls < 2 ^ 62 }
         ensures next { (result ≡ head_or Outcome.Void self.old.outcomes.items) ⊎ ((result ≡ Outcome.OutOfMemory) × (self.new.whole ≡ false)) }

@@ -13,7 +13,7 @@ use std::alloc::{AllocError, Global};
 use system_objects::Book;
 use system_objects::returns::graph_return;
 
-/// What is sent once a call was finished.
+/// The Return that is sent once a call was finished.
 #[derive(Drop)]
 pub enum Sent {
     /// The normal Return with these bytes.
@@ -22,14 +22,14 @@ pub enum Sent {
     New(Units),
 }
 
-/// What is to be done for an outcome that fits its method.
+/// The work that is left for an outcome that fits its method.
 #[derive(Drop)]
 pub struct Pending {
     /// The kinds of the objects that the Return makes.
     pub made: Kinds,
     /// The server's own objects to which the Return refers.
     pub listed: ObjIds,
-    /// What is sent.
+    /// The Return that is sent.
     pub sent: Sent,
 }
 

@@ -1,4 +1,4 @@
-//! What calls are answered.
+//! The Returns that answer calls.
 ghost use Rattle.std.specs.Prelude.{◌≡◌, ◌+◌, ◌<◌, ◌^◌, pos, ◌<ℤ◌, true, false, List, Option, codes, IfOk};
 ghost use Rattle.object_ids.specs.Draw.{uid_drawn};
 ghost use Rattle.class_desc.specs.declared.field.TypeCode.{TypeCode};
@@ -73,7 +73,7 @@ fn wrong_outcome(alloc: Global, uid: Uid) -> Result<Prepared, AllocError>
     Ok(Prepared::Exceptional(bytes))
 }
 
-/// Whether the value is of this primitive type.
+/// Returns whether the value is of this primitive type.
 fn is_of(code: TypeCode, value: Value) -> bool
     ensures { result ≡ is_of code value }
 {
@@ -90,7 +90,7 @@ fn is_of(code: TypeCode, value: Value) -> bool
     }
 }
 
-/// Whether the items are one reference and nothing else.
+/// Returns whether the items are one reference and nothing else.
 fn is_one_reference(items: &[Item]) -> bool
     ensures { result ≡ is_one_reference items.now }
 {
@@ -100,7 +100,7 @@ fn is_one_reference(items: &[Item]) -> bool
     }
 }
 
-/// Whether a method with this result returns nothing.
+/// Returns whether a method with this result returns nothing.
 fn returns_nothing(result_type: Option<TypeCode>) -> bool
     ensures { (kinds : List Kind) → result ≡ suits kinds result_type Outcome.Void }
 {
@@ -110,7 +110,7 @@ fn returns_nothing(result_type: Option<TypeCode>) -> bool
     }
 }
 
-/// Whether a method with this result can return the value.
+/// Returns whether a method with this result can return the value.
 fn returns_value(result_type: Option<TypeCode>, value: Value) -> bool
     ensures { (kinds : List Kind) → result ≡ suits kinds result_type (Outcome.Prim value) }
 {
@@ -120,7 +120,7 @@ fn returns_value(result_type: Option<TypeCode>, value: Value) -> bool
     }
 }
 
-/// Whether a method with this result can return the graph: as one reference.
+/// Returns whether a method with this result can return the graph. It must be one reference.
 fn returns_graph(result_type: Option<TypeCode>, graph: &Graph) -> bool
     ensures { (kinds : List Kind) → result ≡ suits kinds result_type (Outcome.Tree graph.now) }
 {
@@ -279,8 +279,8 @@ fn prepare_fault(alloc: Global, uid: Uid, message: &Units) -> Result<Prepared, A
     Ok(Prepared::Exceptional(bytes))
 }
 
-/// What is sent for an outcome of a method with this result, and what its Finish lists. It is refused for want of memory, and where the worker
-/// had none.
+/// Prepares the Return for an outcome of a method with this result, and the objects that its Finish lists. It fails
+/// where there is no memory, and where the worker had none.
 pub fn prepare(
     alloc: Global,
     setup: &Setup,

@@ -47,8 +47,8 @@ pub fn serve_connection<S: Source, K: Sink, C: Clock, P: Port, W: Worker>(
     requires peer_host { length (utf setup.old.peer_host) ≤ MAX_HOST_BYTES }
     requires can { CanServe (P.ready port.old) (P.shown port.old) (W.shown worker.old) setup.old }
 
-    // What was taken, done, drawn and written is a dialogue with the end, and the only one of the input and of what the outside
-    // answered, unless something outside failed.
+    // All that was taken, done, drawn and written is a dialogue with the end, and the only one of the input and of
+    // what the outside answered, unless something outside failed.
     ensures dialogue { IsServedFrom W.may W.moves (terms_of book.now setup.old)
         (state_of (S.half source.old) (K.half sink.old) (C.given clock.old)
         (P.shown port.old) (W.shown worker.old) setup.old)

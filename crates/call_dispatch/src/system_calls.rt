@@ -33,7 +33,7 @@ use system_objects::request::{ReplyContext, SystemRequest, request_for};
 use system_objects::system_return::system_return;
 use wire_io::{Clock, Sink, Source};
 
-/// Whether there was no memory for a turn.
+/// Returns whether there was no memory for a turn.
 fn is_lost(answer: &Result<Turn, Refused>) -> bool
     ensures lost { result ≡ true → answer.now ≡ Err OutOfMemory }
     ensures other { result ≡ false → answer.now ≢ Err OutOfMemory }

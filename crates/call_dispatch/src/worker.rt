@@ -9,14 +9,15 @@ use object_ids::ObjId;
 
 /// Does what calls ask for.
 pub trait Worker {
-    // How many invocations it was given; its calls, in their order, where it tells them, which it may cease to do; the numbers that it
-    // keeps of objects, where it tells them; and the number of the connection that it was made for.
+    // The number of invocations that it was given; its calls, in their order, where it tells them, which it may
+    // cease to do; the numbers that it keeps of objects, where it tells them; and the number of the connection that
+    // it was made for.
     ghost shown: { Self → WorkerState };
 
     // Which outcomes an invocation may have, whatever the worker's state.
     ghost may: { Invocation → Outcome → Type 0 };
 
-    // How a call changes the numbers.
+    // The change that a call makes to the numbers.
     ghost moves: { States → Call → States → Type 0 };
 
     /// Does what a call asks for.

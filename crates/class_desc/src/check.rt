@@ -40,7 +40,7 @@ pub fn lacks_flag(flags: u8, flag: u8) -> bool
     flags & flag == 0
 }
 
-/// Whether a description's flags agree with each other, with its fields and with its serialVersionUID.
+/// Returns whether a description's flags agree with each other, with its fields and with its serialVersionUID.
 #[tactic(auto, unfolding(crate::specs::ClassDesc::fit_flags))]
 fn fit_flags(desc: &ClassDesc) -> bool
     ensures { result ≡ fit_flags desc.now }
@@ -57,7 +57,7 @@ fn fit_flags(desc: &ClassDesc) -> bool
                 && desc.suid == 0))
 }
 
-/// Whether a name is below another, unit by unit.
+/// Returns whether a name is below another, unit by unit.
 fn is_below(name: &[u16], other: &[u16]) -> bool
     ensures { result ≡ is_lt (slice_cmp nat_cmp name.now other.now) }
 {
@@ -68,7 +68,7 @@ fn is_below(name: &[u16], other: &[u16]) -> bool
     }
 }
 
-/// Whether a field may stand directly before another.
+/// Returns whether a field may come directly before another.
 fn comes_before(field: &FieldDesc, next: &FieldDesc) -> bool
     ensures { result ≡ comes_before field.now next.now }
 {
@@ -85,7 +85,7 @@ fn comes_before(field: &FieldDesc, next: &FieldDesc) -> bool
     }
 }
 
-/// Whether each field may stand directly before the next one.
+/// Returns whether each field may come directly before the next one.
 #[tactic(auto, unfolding(crate::specs::ClassDesc::are_ordered), using(crate::proofs::Fields::ordered_end))]
 fn are_ordered(fields: &[FieldDesc]) -> bool
     ensures { result ≡ are_ordered fields.now }

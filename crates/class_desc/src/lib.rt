@@ -1,3 +1,4 @@
+// SPDX-License-Identifier: Apache-2.0 OR MIT
 //! Class descriptions of Java's serialization stream, and the rules on their flags, fields and type texts
 //! (Java Object Serialization Specification, chapters 4 and 6).
 #![tactic(auto)]

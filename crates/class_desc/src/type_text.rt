@@ -7,7 +7,7 @@ ghost use Rattle.class_desc.specs.declared.field.TypeCode.{TypeCode};
 use crate::field::TypeCode;
 use sequence::Units;
 
-/// Whether a text ends in a semicolon.
+/// Returns whether a text ends in a semicolon.
 #[tactic(auto, unfolding(crate::specs::TypeText::ends_class), using(crate::proofs::TypeTexts::ends_last))]
 fn ends_class(text: &[u16]) -> bool
     ensures { result ≡ ends_class text.now }
@@ -18,7 +18,7 @@ fn ends_class(text: &[u16]) -> bool
     }
 }
 
-/// Whether a text is `L`, at least one unit, and a semicolon.
+/// Returns whether a text is `L`, at least one unit, and a semicolon.
 fn is_class_text(text: &[u16]) -> bool
     ensures { result ≡ is_class_text text.now }
 {
@@ -28,7 +28,7 @@ fn is_class_text(text: &[u16]) -> bool
     }
 }
 
-/// Whether a unit is the letter of a primitive type.
+/// Returns whether a unit is the letter of a primitive type.
 fn is_letter(unit: u16) -> bool
     ensures { result ≡ is_letter unit }
 {
@@ -42,7 +42,7 @@ fn is_letter(unit: u16) -> bool
         || unit == 0x5A
 }
 
-/// Whether a text is one or more brackets and then a letter or a class's text.
+/// Returns whether a text is one or more brackets and then a letter or a class's text.
 #[tactic(auto, unfolding(crate::specs::TypeText::is_array_text, crate::specs::TypeText::is_component_text))]
 fn is_array_text(text: &[u16]) -> bool
     ensures { result ≡ is_array_text text.now }
@@ -114,7 +114,7 @@ pub fn element_code(name: &Units) -> Option<TypeCode>
     element_of(name.as_slice())
 }
 
-/// Whether a text is a type text of the code. A primitive code has none.
+/// Returns whether a text is a type text of the code. A primitive code has none.
 pub(crate) fn fits_text(code: TypeCode, text: &[u16]) -> bool
     ensures { result ≡ fits_text code text.now }
 {

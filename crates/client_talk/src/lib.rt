@@ -1,3 +1,4 @@
+// SPDX-License-Identifier: Apache-2.0 OR MIT
 //! The commands of a client, as talks over links that it dials.
 #![tactic(auto)]
 

@@ -13,7 +13,7 @@ use sequence::Units;
 use std::alloc::Global;
 use wire_io::{Dialer, Halves, Link, Sink, Source};
 
-/// Whether there is room for so many further items. It is made where there is memory.
+/// Returns whether there is room for so many further items. It makes the room where there is memory.
 pub(crate) fn has_room<X>(items: &mut Vec<X>, more: usize) -> bool
     ensures room { MatchBool result
         (vec_len items.new + more ≤ vec_capacity items.new) (Unit {0}) }

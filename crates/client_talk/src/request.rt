@@ -1,4 +1,4 @@
-//! What a client calls.
+//! The calls that a client makes.
 use crate::place::Place;
 use class_desc::TypeCode;
 use history::Name;

@@ -17,7 +17,7 @@ use Rattle.conn_server.specs.declared.link_task.AdmittedLink.{AdmittedLink}
 use Rattle.conn_server.specs.declared.link_task.LinkTask.{LinkTask}
 use Rattle.conn_server.specs.declared.link_task.LinkReport.{LinkReport}
 use Rattle.conn_server.specs.declared.link_thread.LinkState.{LinkState}
-use Rattle.conn_server.specs.declared.link_thread.LinkState.TheVariants.{Running, ServedHere, Ended, Joining}
+use Rattle.conn_server.specs.declared.link_thread.LinkState.TheVariants.{Running, ServedHere, Ended}
 use Rattle.conn_server.proofs.Histories.{starts_self, starts_on, went_events}
 
 pub grows_joined : (v w q : View) → w ≡ joined_of v q → StartsWith w.seen v.seen → Grows v w
@@ -97,5 +97,4 @@ module _ {I O T H : Type 0} (Talked : AdmittedLink I O T H → LinkReport I O T 
   pub under_later : (lock : TurnLock) (kinds : List Kind) (v w : View) (task : LinkTask I O T H) (link_state : LinkState I O T H) → Learns v w → IsUnder Talked lock kinds v task link_state → IsUnder Talked lock kinds w task link_state
   under_later lock kinds v w task (Running child) learns is = is
   under_later lock kinds v w task (ServedHere done) learns is = is
-  under_later lock kinds v w task (Ended report) learns is = ends_later v w task report learns is
-  under_later lock kinds v w task Joining learns is = is
+  under_later lock kinds v w task (Ended report) learns is = ends_later v w task report.value learns is

@@ -1,4 +1,6 @@
 pub mod Rows
+pub mod Live
+pub mod Ordering
 pub mod Histories
 pub mod Ticks
 pub mod Listening
@@ -9,5 +11,7 @@ pub mod Making
 pub mod Linking
 pub mod Stopping
 pub mod Losing
+pub mod Quiet
+pub mod Hosting
 pub mod Closing
 pub mod Crossing

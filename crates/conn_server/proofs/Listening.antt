@@ -4,7 +4,7 @@ use Rattle.std.proofs.lemmas.List.{map_push}
 use Rattle.std.specs.Prelude.{Option, Some, None}
 use Rattle.wire_io.specs.Links.{Accepted, with_next}
 use Rattle.space.specs.declared.asked.Asked.{Asked}
-use Rattle.conn_server.specs.Accepts.{links_of, ticks_of, with_all}
+use Rattle.conn_server.specs.Accepts.{TicksOn, links_of, ticks_of, with_all}
 
 pub with_none : {A : Type 0} (told : Option (List A)) → with_all told [] ≡ told
 with_none None = refl
@@ -26,5 +26,9 @@ no_more first before after xs is same = same ∙ (is ∙ ap (with_all first) (sy
 pub links_on : (shown after : List (Accepted × Asked)) (p : Accepted × Asked) (links : List Accepted) (link : Accepted) → after ≡ shown ++ p ∷ [] → links_of shown ≡ links → p.0 ≡ link → links_of after ≡ links ++ link ∷ []
 links_on shown after p links link is were named = ap links_of is ∙ (map_push (λ (q : Accepted × Asked). q.0) shown p ∙ (λ i. were i ++ named i ∷ []))
 
-pub ticks_on : (shown after : List (Accepted × Asked)) (p : Accepted × Asked) (ticks more : List Asked) → after ≡ shown ++ p ∷ [] → ticks ≡ ticks_of shown → more ≡ ticks ++ p.1 ∷ [] → more ≡ ticks_of after
-ticks_on shown after p ticks more is tied then = then ∙ (ap (λ l. l ++ p.1 ∷ []) tied ∙ (sym (map_push (λ (q : Accepted × Asked). q.1) shown p) ∙ ap ticks_of (sym is)))
+pub ticks_on : (shown after : List (Accepted × Asked)) (p : Accepted × Asked) (before ticks more : List Asked) → after ≡ shown ++ p ∷ [] → ticks_of shown ≡ before → more ≡ ticks ++ p.1 ∷ [] → TicksOn ticks more before (ticks_of after)
+ticks_on shown after p before ticks more is was then = (p.1, then, ap ticks_of is ∙ (map_push (λ (q : Accepted × Asked). q.1) shown p ∙ ap (λ l. l ++ p.1 ∷ []) was))
+
+-- The Ticks are those before the links, and one more of each was made.
+pub ticks_same : (ticks ticks_after shown shown_after : List Asked) → ticks ≡ shown → TicksOn ticks ticks_after shown shown_after → ticks_after ≡ shown_after
+ticks_same ticks ticks_after shown shown_after tied (tick, one, other) = one ∙ (ap (λ l. l ++ tick ∷ []) tied ∙ sym other)

@@ -57,3 +57,27 @@ none_left n (x ∷ xs) is none = absurd (omega (arith, is, none))
 pub one_left : {A : Type 0} (n m : ℕ) (xs more : List A) (x : A) → n ≡ length xs → xs ≡ x ∷ more → m + 1 ≡ n → m ≡ length more
 one_left {A = A} n m xs more x is took less =
     let l : length xs ≡ suc (length more) = ap (λ (l : List A). length l) took in omega (arith, is, l, less)
+
+-- An element amid others.
+pub each_amid : {A : Type 0} (P : ℕ → A → Type 0) (n : ℕ) (before : List A) (x : A) (after : List A) → EachAt P n (before ++ x ∷ after) → P (length before + n) x
+each_amid P n [] x after a = subst (λ (k : ℕ). P k x) (omega arith) a.0
+each_amid P n (b ∷ before) x after a = subst (λ (k : ℕ). P k x) (omega arith) (each_amid P (suc n) before x after a.1)
+
+pub each_instead : {A : Type 0} (P : ℕ → A → Type 0) (n : ℕ) (before : List A) (x y : A) (after : List A) → EachAt P n (before ++ x ∷ after) → P (length before + n) y → EachAt P n (before ++ y ∷ after)
+each_instead P n [] x y after a p = (subst (λ (k : ℕ). P k y) (omega arith) p, a.1)
+each_instead P n (b ∷ before) x y after a p = (a.0, each_instead P (suc n) before x y after a.1 (subst (λ (k : ℕ). P k y) (omega arith) p))
+
+pub set_amid : {A : Type 0} (before : List A) (x y : A) (after : List A) → set (before ++ x ∷ after) (length before) y ≡ before ++ y ∷ after
+set_amid [] x y after = refl
+set_amid (b ∷ before) x y after = ap (λ l. b ∷ l) (set_amid before x y after)
+
+pub map_instead : {A B : Type 0} (f : A → B) (before : List A) (x y : A) (after : List A) → f y ≡ f x → map f (before ++ y ∷ after) ≡ map f (before ++ x ∷ after)
+map_instead f [] x y after same = ap (λ z. z ∷ map f after) same
+map_instead f (b ∷ before) x y after same = ap (λ l. f b ∷ l) (map_instead f before x y after same)
+
+-- What a pair says of its second element, each second element has.
+pub paired_second : {A B : Type 0} (R : ℕ → A → B → Type 0) (P : ℕ → B → Type 0) → ((k : ℕ) (x : A) (y : B) → R k x y → P k y) → (n : ℕ) (xs : List A) (ys : List B) → Paired R n xs ys → EachAt P n ys
+paired_second R P f n [] [] p = tt
+paired_second R P f n (x ∷ xs) (y ∷ ys) p = (f n x y p.0, paired_second R P f (suc n) xs ys p.1)
+paired_second R P f n [] (y ∷ ys) p = absurd p
+paired_second R P f n (x ∷ xs) [] p = absurd p

@@ -9,13 +9,13 @@ use Rattle.history.specs.declared.replies.Refused.{Refused}
 use Rattle.history.specs.declared.replies.Refused.TheVariants.{HistoryFull, Full, OutOfMemory}
 use Rattle.history.specs.declared.replies.Turn.{Turn}
 use Rattle.space.specs.Acts.{event_of}
-use Rattle.space.specs.Entries.{entry_of}
+use Rattle.space.specs.Entries.{end_of, entry_of}
 use Rattle.space.proofs.NotedLaws.{taken-turn}
 use Rattle.turn_lock.specs.Rule.{TurnedWithEntry}
 use Rattle.turn_lock.specs.declared.view.View.{View}
 use Rattle.ports.specs.Ports.{entries_of}
 use Rattle.space.specs.declared.asked.Asked.{Asked}
-use Rattle.conn_server.specs.Made.{IsTakenBelow, IsTickEnd}
+use Rattle.conn_server.specs.Made.{IsTakenBelow, IsTickEnd, gone_with, told_of}
 use Rattle.call_dispatch.specs.Acts.{calls, unreferenced, tells_of}
 
 pub calls_told : (gone : List ObjId) → flat_map calls (tells_of gone) ≡ map unreferenced gone
@@ -74,3 +74,13 @@ pub kept_there : {K : Type 0} (value : K → Asked) (before after : List Asked) 
     → MatchOption r (after ≡ before) (λ k. after ≡ before ++ value k ∷ [])
 kept_there value before after entry None is items = items ∙ (ap (λ e. before ++ option_to_list e) is ∙ append-nil before)
 kept_there value before after entry (Some k) is items = items ∙ ap (λ e. before ++ option_to_list e) is
+
+-- What the entry of a Tick tells is what the Tick's answer tells, and nothing where there is no entry.
+pub told_there : (m : ℕ) (answer : Result Turn Refused) (r : Option Asked) → option_to_list r ≡ entries_of m Tick answer → flat_map told_of (option_to_list r) ≡ map unreferenced (gone_with (end_of answer))
+told_there m answer r is = ap (flat_map told_of) is ∙ of_answer answer
+  where
+    of_answer : (answer : Result Turn Refused) → flat_map told_of (entries_of m Tick answer) ≡ map unreferenced (gone_with (end_of answer))
+    of_answer (Ok turn) = append-nil (map unreferenced turn.gone)
+    of_answer (Err HistoryFull) = refl
+    of_answer (Err (Full kind)) = refl
+    of_answer (Err OutOfMemory) = refl

@@ -1,6 +1,6 @@
 -- What holds while links are accepted.
 use Rattle.wire_io.specs.Wire.{ReadHalf, WriteHalf}
-use Rattle.std.specs.Prelude.{◌≡◌, ℕ, ◌+◌, ◌<◌, ◌≤◌, List, [], ◌++◌, length, map, sum_by, vec_len, vec_capacity, Option, Some, None}
+use Rattle.std.specs.Prelude.{◌≡◌, ℕ, ◌+◌, ◌<◌, ◌≤◌, List, [], ◌∷◌, ◌++◌, length, map, sum_by, vec_len, vec_capacity, Option, Some, None}
 use Rattle.wire_io.specs.Links.{Accepted}
 use Rattle.space.specs.declared.asked.Asked.{Asked}
 use Rattle.turn_lock.specs.Handles.{IsRootOf, view_of}
@@ -8,17 +8,19 @@ use Rattle.turn_lock.specs.declared.handles.TurnLock.{TurnLock}
 use Rattle.turn_lock.specs.declared.view.View.{View}
 use Rattle.call_dispatch.specs.Acts.{WorkerState}
 use Rattle.system_objects.specs.declared.book.Kind.{Kind}
+use Rattle.std.specs.List.Sorted.{IsPermutation}
+use Rattle.conn_server.specs.Collects.{Collected, SameReports}
 use Rattle.conn_server.specs.Made.{IsTakenBelow, shown_admitted}
 use Rattle.conn_server.specs.Rows.{EachAt}
 use Rattle.conn_server.specs.Serves.{IsAdmittedLink, IsLinkTask}
-use Rattle.conn_server.specs.Starts.{IsUnder, task_of, open_in}
+use Rattle.conn_server.specs.Starts.{IsUnder, task_of, open_in, live_in, report_in}
 use Rattle.conn_server.specs.Views.{IsTicking}
 use Rattle.conn_server.specs.declared.admission.Acceptor.{Acceptor}
 use Rattle.conn_server.specs.declared.link_task.AdmittedLink.{AdmittedLink}
 use Rattle.conn_server.specs.declared.link_task.LinkTask.{LinkTask}
 use Rattle.conn_server.specs.declared.link_task.LinkReport.{LinkReport}
 use Rattle.conn_server.specs.declared.link_thread.StartedLink.{StartedLink}
-use Rattle.conn_server.specs.declared.plan.TheConstants.{MAX_LINKS}
+use Rattle.conn_server.specs.declared.plan.TheConstants.{LAST_NUMBER}
 
 -- What was told, and then these, where it is told.
 abbrev pub with_all : {A : Type 0} → Option (List A) → List A → Option (List A)
@@ -37,6 +39,7 @@ pub record IsTaskOf {I O T H : Type 0} (Made : ℕ → AdmittedLink I O T H → 
 
 -- The link of connection k was begun at the lock, and maybe a root with the view v has taken its pass back.
 pub record IsBegun {I O T H : Type 0} (Talked : AdmittedLink I O T H → LinkReport I O T H → Type 0) (Made : ℕ → AdmittedLink I O T H → Type 0) (shown : H → WorkerState) (lock : TurnLock) (kinds : List Kind) (v : View) (k : ℕ) (started : StartedLink I O T H) : Type 0 where
+  pub number : started.by ≡ k
   pub task : IsTaskOf Made shown lock k (task_of started)
   pub link_state : IsUnder Talked lock kinds v (task_of started) started.link_state
 
@@ -52,41 +55,73 @@ links_of all = map (λ p. p.0) all
 abbrev pub ticks_of : List (Accepted × Asked) → List Asked
 ticks_of all = map (λ p. p.1) all
 
+-- One more Tick was made, and it is the one before one more link.
+abbrev pub TicksOn : List Asked → List Asked → List Asked → List Asked → Type 0
+TicksOn ticks ticks_after shown shown_after = (tick : Asked) × (ticks_after ≡ ticks ++ tick ∷ []) × (shown_after ≡ shown ++ tick ∷ [])
+
 -- How many passes these links have that the root didn't get back.
 abbrev pub open_all : {I O T H : Type 0} → List (StartedLink I O T H) → ℕ
 open_all all = sum_by (λ s. open_in s.link_state) all
 
--- Every link was begun with its pass and has its place in the report, and the root made these turns of its own.
-pub record IsAccepting {I O T H : Type 0} (Talked : AdmittedLink I O T H → LinkReport I O T H → Type 0) (Made : ℕ → AdmittedLink I O T H → Type 0) (shown : H → WorkerState) (lock : TurnLock) (kinds : List Kind) (a : Acceptor I O T H) : Type 0 where
+-- Those of these links that haven't ended, in order.
+abbrev pub live_of : {I O T H : Type 0} → List (StartedLink I O T H) → List (StartedLink I O T H)
+live_of [] = []
+live_of (s ∷ all) = live_in s s.link_state ++ live_of all
+
+-- The reports of those that have ended, in order.
+abbrev pub reports_of : {I O T H : Type 0} → List (StartedLink I O T H) → List (LinkReport I O T H)
+reports_of [] = []
+reports_of (s ∷ all) = report_in s.link_state ++ reports_of all
+
+-- The collector may be given the report of each link that was made so and served so.
+abbrev pub ExpectsAll : {I O T H C : Type 0} → (AdmittedLink I O T H → LinkReport I O T H → Type 0) → (ℕ → AdmittedLink I O T H → Type 0) → (C → LinkReport I O T H → Type 0) → C → Type 0
+ExpectsAll {I = I} {O = O} {T = T} {H = H} Talked Made expects c = (k : ℕ) (admitted : AdmittedLink I O T H) (report : LinkReport I O T H) → Made k admitted → Talked admitted report → report.by ≡ k → expects c report
+
+-- Every link was begun with its pass; those that haven't ended are kept, and the reports of the others were handed on, each once; there is room for
+-- the reports to come; and the root made these turns of its own.
+pub record IsAccepting {I O T H C : Type 0} (Talked : AdmittedLink I O T H → LinkReport I O T H → Type 0) (Made : ℕ → AdmittedLink I O T H → Type 0) (shown : H → WorkerState)
+    (collected : C → Collected (LinkReport I O T H)) (expects : C → LinkReport I O T H → Type 0) (lock : TurnLock) (kinds : List Kind) (a : Acceptor I O T H C) : Type 0 where
   pub own : IsRootOf lock a.root
-  pub out : a.root.out ≡ open_all a.started.items
-  pub made : a.root.made ≡ vec_len a.started
-  pub ticked : IsTicking (view_of a.root.pass) a.ticks.items
-  pub empty : a.reports.items ≡ []
-  pub room : vec_len a.started ≤ vec_capacity a.reports
-  pub links : EachAt (IsBegun Talked Made shown lock kinds (view_of a.root.pass)) 1 a.started.items
+  pub out : a.root.out ≡ open_all a.all
+  pub made : a.root.made ≡ length a.all
+  pub begun : a.begun ≡ length a.all
+  pub ticked : IsTicking (view_of a.root.pass) (collected a.collector).ticks
+  pub live_are : a.live.items ≡ live_of a.all
+  pub given : IsPermutation (reports_of a.all) (collected a.collector).reports
+  pub room : length (collected a.collector).reports + open_all a.all ≤ (collected a.collector).report_limit
+  pub expected : ExpectsAll Talked Made expects a.collector
+  pub links : EachAt (IsBegun Talked Made shown lock kinds (view_of a.root.pass)) 1 a.all
 
 -- There is more room, and all else is the same.
-pub record IsSame {I O T H : Type 0} (a b : Acceptor I O T H) : Type 0 where
+pub record IsSame {I O T H C : Type 0} (collected : C → Collected (LinkReport I O T H)) (expects : C → LinkReport I O T H → Type 0) (a b : Acceptor I O T H C) : Type 0 where
   pub root : b.root ≡ a.root
-  pub started : b.started.items ≡ a.started.items
-  pub count : vec_len b.started ≡ vec_len a.started
-  pub ticks : b.ticks.items ≡ a.ticks.items
-  pub reports : b.reports.items ≡ a.reports.items
-  pub room : vec_capacity a.reports ≤ vec_capacity b.reports
+  pub begun : b.begun ≡ a.begun
+  pub live_are : b.live.items ≡ a.live.items
+  pub all : b.all ≡ a.all
+  pub ticks : (collected b.collector).ticks ≡ (collected a.collector).ticks
+  pub reports : SameReports collected expects a.collector b.collector
+
+-- The links are the same, and there is no less room for their reports.
+pub record HasSameLinks {I O T H C : Type 0} (collected : C → Collected (LinkReport I O T H)) (a b : Acceptor I O T H C) : Type 0 where
+  pub begun : b.begun ≡ a.begun
+  pub live_are : b.live ≡ a.live
+  pub all : b.all ≡ a.all
+  pub reports : (collected b.collector).reports ≡ (collected a.collector).reports
+  pub room : (collected a.collector).report_limit ≤ (collected b.collector).report_limit
 
 -- There is room for one more of each.
-pub record HasRoom {I O T H : Type 0} (a : Acceptor I O T H) : Type 0 where
-  pub ticks : vec_len a.ticks < vec_capacity a.ticks
-  pub started : vec_len a.started < vec_capacity a.started
-  pub reports : vec_len a.started < vec_capacity a.reports
+pub record HasRoom {I O T H C : Type 0} (collected : C → Collected (LinkReport I O T H)) (a : Acceptor I O T H C) : Type 0 where
+  pub ticks : length (collected a.collector).ticks < (collected a.collector).tick_limit
+  pub live_room : vec_len a.live < vec_capacity a.live
+  pub reports : length (collected a.collector).reports + vec_len a.live < (collected a.collector).report_limit
 
 -- The admitted link is the next one, there is room for the link, and the root has seen the turn before it.
-pub record IsNext {I O T H : Type 0} (Talked : AdmittedLink I O T H → LinkReport I O T H → Type 0) (Made : ℕ → AdmittedLink I O T H → Type 0) (shown : H → WorkerState) (lock : TurnLock) (kinds : List Kind) (a : Acceptor I O T H) (admitted : AdmittedLink I O T H) : Type 0 where
-  pub accepting : IsAccepting Talked Made shown lock kinds a
-  pub few : vec_len a.started < MAX_LINKS
+pub record IsNext {I O T H C : Type 0} (Talked : AdmittedLink I O T H → LinkReport I O T H → Type 0) (Made : ℕ → AdmittedLink I O T H → Type 0) (shown : H → WorkerState)
+    (collected : C → Collected (LinkReport I O T H)) (expects : C → LinkReport I O T H → Type 0) (lock : TurnLock) (kinds : List Kind) (a : Acceptor I O T H C) (admitted : AdmittedLink I O T H) : Type 0 where
+  pub accepting : IsAccepting Talked Made shown collected expects lock kinds a
+  pub few : a.begun < LAST_NUMBER
   pub can : IsAdmittedLink shown admitted
-  pub made : Made (vec_len a.started + 1) admitted
+  pub made : Made (a.begun + 1) admitted
   pub after_tick : IsTakenBelow (length (view_of a.root.pass).seen) admitted.tick.value.end
-  pub started : vec_len a.started < vec_capacity a.started
-  pub reports : vec_len a.started < vec_capacity a.reports
+  pub live_room : vec_len a.live < vec_capacity a.live
+  pub reports : length (collected a.collector).reports + vec_len a.live < (collected a.collector).report_limit

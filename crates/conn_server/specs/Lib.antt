@@ -5,7 +5,10 @@ pub mod Rows
 pub mod Views
 pub mod Made
 pub mod Starts
+pub mod Collects
+pub mod Quiet
 pub mod Accepts
 pub mod Stops
 pub mod Joins
 pub mod Reports
+pub mod Hosts

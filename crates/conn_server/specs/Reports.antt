@@ -35,6 +35,10 @@ use Rattle.conn_server.specs.declared.link_task.LinkReport.{LinkReport}
 use Rattle.conn_server.specs.declared.plan.ServePlan.{ServePlan}
 use Rattle.conn_server.specs.declared.server.AllJoined.{AllJoined}
 use Rattle.conn_server.specs.declared.server.Report.{Report}
+use Rattle.conn_server.specs.declared.server.Served.{Served}
+use Rattle.turn_lock.specs.declared.handles.Root.{Root}
+use Rattle.conn_server.specs.Collects.{Collected}
+use Rattle.std.specs.List.Sorted.{IsPermutation}
 
 -- The events of connection k after the opening ones.
 abbrev pub events_after : SpaceHistory → ℕ → SpaceHistory → Events
@@ -94,14 +98,27 @@ pub record IsKnown {I O T H : Type 0} (IsLink : ℕ → Accepted × Asked → Li
   pub went : WentAmong s.configuration k s.events report.asked last
   pub seen : StartsWith v.seen last
 
--- All threads were joined: the root is the lock's and knows the turns of each link and its own.
-pub record IsAllJoined {I O T H : Type 0} (IsLink : ℕ → Accepted × Asked → LinkReport I O T H → Type 0) (lock : TurnLock) (served : List (Accepted × Asked)) (o : AllJoined I O T H) : Type 0 where
-  pub own : IsRootOf lock o.root
-  pub out : o.root.out ≡ 0
-  pub made : o.root.made ≡ length o.links.items
-  pub ticked : IsTicked (view_of o.root.pass) o.ticks.items
-  pub tied : o.ticks.items ≡ ticks_of served
-  pub links : Paired (IsKnown IsLink (opening_of lock) (view_of o.root.pass)) 1 served o.links.items
+-- All threads were joined: the root is the lock's and knows the turns of each link, whose reports these are, and its own, whose entries those are.
+pub record IsAllJoined {I O T H : Type 0} (IsLink : ℕ → Accepted × Asked → LinkReport I O T H → Type 0) (lock : TurnLock) (served : List (Accepted × Asked))
+    (root : Root) (links : List (LinkReport I O T H)) (ticks : List Asked) : Type 0 where
+  pub own : IsRootOf lock root
+  pub out : root.out ≡ 0
+  pub made : root.made ≡ length links
+  pub ticked : IsTicked (view_of root.pass) ticks
+  pub known : Paired (IsKnown IsLink (opening_of lock) (view_of root.pass)) 1 served links
+
+-- So many links were to be accepted, those that were served were joined, and the collector was given the report of each once.
+pub record IsServed {I O T H C : Type 0} (IsLink : ℕ → Accepted × Asked → LinkReport I O T H → Type 0) (IsLost : Accepted → LostLink I O T → Type 0)
+    (collected : C → Collected (LinkReport I O T H)) (lock : TurnLock) (count : ℕ) (accepted accepted_after : Option (List Accepted)) (o : AllJoined I O T C) : Type 0 where
+  pub served : List (Accepted × Asked)
+  pub links : List (LinkReport I O T H)
+  pub missed : List Accepted
+  pub joined : IsAllJoined IsLink lock served o.root links (collected o.collector).ticks
+  pub tied : (collected o.collector).ticks ≡ ticks_of served
+  pub given : IsPermutation links (collected o.collector).reports
+  pub told : accepted_after ≡ with_all accepted (links_of served ++ missed)
+  pub stopped : Stopped o.stop count (length links) missed
+  pub back : AreGivenBack IsLost missed o.lost
 
 -- Links were served over a space that was opened so, of which the listener tells these before and after. The one history that is left is legal and
 -- goes on from the opening. The rows of the space that is left are what the collector made of none: at each event it kept what there was a reason to
@@ -120,3 +137,14 @@ pub record ServesLinks {I O T H : Type 0} (IsLink : ℕ → Accepted × Asked �
       × AreGivenBack IsLost lost report.lost
   pub ticks : AreTurnsOf opening 0 report.ticks report.space
   pub others : (n : ℕ) → length report.links < n → events_after opening n report.space ≡ []
+
+-- The report of what was served, with these reports of links and these entries.
+abbrev pub report_with : {I O T H C : Type 0} → List (LinkReport I O T H) → List Asked → Served I O T C → Report I O T H
+report_with links ticks s = record { links = links; ticks = ticks; stop = s.stop; lost = s.lost; space = s.space }
+
+-- Links were served as above, and a collector was given the report of each link once, as the link had ended, and the entries of the server's own turns.
+pub record GivesReports {I O T H C : Type 0} (IsLink : ℕ → Accepted × Asked → LinkReport I O T H → Type 0) (IsLost : Accepted → LostLink I O T → Type 0)
+    (collected : C → Collected (LinkReport I O T H)) (opening : SpaceHistory) (count : ℕ) (accepted accepted_after : Option (List Accepted)) (s : Served I O T C) : Type 0 where
+  pub links : List (LinkReport I O T H)
+  pub given : IsPermutation links (collected s.collector).reports
+  pub serves : ServesLinks IsLink IsLost opening count accepted accepted_after (report_with links (collected s.collector).ticks s)

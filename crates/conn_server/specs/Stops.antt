@@ -1,17 +1,26 @@
 -- Why the accepting stopped.
-use Rattle.std.specs.Prelude.{◌≡◌, ◌<◌, ◌≤◌, ℕ, List, [], ◌∷◌, length, Option, Some, None}
+use Rattle.std.specs.Prelude.{◌≡◌, ◌<◌, ◌≤◌, ℕ, Bool, true, List, [], ◌∷◌, length, Option, Some, None}
 use Rattle.wire_io.specs.Links.{Accepted}
 use Rattle.wire_io.specs.Wire.{ReadHalf, WriteHalf, Gave}
 use Rattle.conn_server.specs.declared.admission.LostLink.{LostLink}
 use Rattle.conn_server.specs.declared.accept_loop.Stop.{Stop}
-use Rattle.conn_server.specs.declared.accept_loop.Stop.TheVariants.{All, AcceptFault, OutOfMemory}
+use Rattle.conn_server.specs.declared.accept_loop.Stop.TheVariants.{All, AcceptFault, Told, OutOfMemory}
 
 -- Of so many links that were to be accepted so many were served, and these were accepted and not served: one, where there was no memory for it, and
 -- else none. As many as were to be were served exactly where that is why the accepting stopped.
+-- It isn't stopped by being told to.
 abbrev pub Stopped : Stop → ℕ → ℕ → List Accepted → Type 0
 Stopped All count served lost = (served ≡ count) × (lost ≡ [])
 Stopped AcceptFault count served lost = (served < count) × (lost ≡ [])
 Stopped OutOfMemory count served lost = (served < count) × (length lost ≡ 1)
+Stopped Told count served lost = ⊥
+
+-- The same of a server that stops where its listener was told to, too. Then none was accepted and not served.
+abbrev pub HostStopped : Stop → Bool → ℕ → ℕ → List Accepted → Type 0
+HostStopped Told told count served lost = (told ≡ true) × (served ≤ count) × (lost ≡ [])
+HostStopped All told count served lost = Stopped All count served lost
+HostStopped AcceptFault told count served lost = Stopped AcceptFault count served lost
+HostStopped OutOfMemory told count served lost = Stopped OutOfMemory count served lost
 
 -- A link that the listener tells so is given back as it was accepted, but that each half was shut: no byte of it was taken or written, and its clock
 -- gave one moment at most.

@@ -1,34 +1,28 @@
-//! Accepting links, and joining their threads.
-ghost use Rattle.std.specs.Prelude.{◌≡◌, ◌≤◌, List, [], ◌++◌, length, vec_len, IfOk};
+//! Accepting links.
+ghost use Rattle.std.specs.Prelude.{◌≡◌, ◌≤◌, List, [], ◌++◌, length, IfOk};
 ghost use Rattle.mod_utf.specs.Utf.{utf};
 ghost use Rattle.wire_io.specs.Links.{Accepted, Accepts, accepted_as};
 ghost use Rattle.wire_io.specs.Wire.{AreNewHalves, Rose};
 ghost use Rattle.wire_io.specs.declared.limits.TheConstants.{MAX_HOST_BYTES};
-ghost use Rattle.turn_lock.specs.Handles.{IsRootOf, view_of};
 ghost use Rattle.conn_server.specs.Accepts.{IsAccepting, shown_all, links_of, ticks_of, with_all};
-ghost use Rattle.conn_server.specs.Joins.{IsJoined};
 ghost use Rattle.conn_server.specs.Made.{IsMadeFor};
-ghost use Rattle.conn_server.specs.Rows.{Paired};
 ghost use Rattle.conn_server.specs.Stops.{Stopped, AreGivenBack, IsLostLink};
 ghost use Rattle.conn_server.specs.Talks.{TalksOver};
-ghost use Rattle.conn_server.specs.Views.{IsTicked};
 ghost use Rattle.conn_server.specs.declared.plan.TheConstants.{MAX_LINKS};
 
 use crate::admission::{Acceptor, LostLink};
+use crate::collector::Collector;
 use crate::link_task::LinkReport;
-use crate::link_thread::{StartedLink, finish};
 use crate::shared::Shared;
-use call_dispatch::{Crew, Worker};
-use space::Asked;
+use call_dispatch::Crew;
 use std::sync::Wait;
 use std::thread::{Scope, Threads};
-use turn_lock::Root;
-use wire_io::{Clock, Failed, Link, Listener, Sink, Source};
+use wire_io::{Failed, Link, Listener};
 
-/// How often a listener that fails is asked for the same link at most: for days.
+/// The most times that a failing listener is asked for the same link. So it is asked for days.
 const MAX_ACCEPT_TRIES: u32 = 10_000_000;
 
-/// How often it is asked again, after a pause each, where no link was served when it failed.
+/// The most times that it is asked again, after a pause each, where no link was served when it failed.
 const MAX_IDLE_TRIES: u32 = 4;
 
 /// Why no more links were accepted.
@@ -38,6 +32,8 @@ pub enum Stop {
     All,
     /// The listener failed, and failed again each further time that it was asked.
     AcceptFault,
+    /// The listener was told to stop.
+    Told,
     /// There was no memory for a link that was accepted. It is shut and given back, and not reported.
     OutOfMemory,
 }
@@ -72,12 +68,19 @@ fn next_link<'s, R: Wait, L: Listener>(
 
 /// Accepts so many links. A thread of the scope serves each. Before a link is admitted, threads of links that have ended are joined. The link for which
 /// there was no memory, if any, is given back.
-pub fn accept_links<'s, E, R: Threads + Wait + Sync, L: Listener, G: Crew>(
+pub fn accept_links<
+    's,
+    E,
+    R: Threads + Wait + Sync,
+    L: Listener,
+    G: Crew,
+    C: Collector<LinkReport<L::In, L::Out, L::Ticks, G::Hand>>,
+>(
     scope: &Scope<'s, E>,
     shared: &Shared<'s, R>,
     listener: &mut L,
     crew: &G,
-    acceptor: &mut Acceptor<L::In, L::Out, L::Ticks, G::Hand>,
+    acceptor: &mut Acceptor<L::In, L::Out, L::Ticks, G::Hand, C>,
 ) -> (Stop, Option<LostLink<L::In, L::Out, L::Ticks>>)
 where
     L::In: 's,
@@ -85,19 +88,19 @@ where
     L::Ticks: 's,
     G::Hand: 's,
     requires host { length (utf shared.now.plan.now.host) ≤ MAX_HOST_BYTES }
-    requires accepting { IsAccepting (TalksOver L.In.half L.Out.half L.Ticks.given G.Hand.shown G.Hand.may G.Hand.moves shared.now.book.now) (IsMadeFor L.In.half L.Out.half L.Ticks.given G.Hand.shown G.Hand.moves shared.now.plan.now) G.Hand.shown shared.now.lock.now shared.now.book.now acceptor.old }
-    requires fresh { (acceptor.old.started.items ≡ []) × (acceptor.old.ticks.items ≡ []) }
+    requires accepting { IsAccepting (TalksOver L.In.half L.Out.half L.Ticks.given G.Hand.shown G.Hand.may G.Hand.moves shared.now.book.now) (IsMadeFor L.In.half L.Out.half L.Ticks.given G.Hand.shown G.Hand.moves shared.now.plan.now) G.Hand.shown C.collected C.expects shared.now.lock.now shared.now.book.now acceptor.old }
+    requires fresh { (acceptor.old.all ≡ []) × ((C.collected acceptor.old.collector).ticks ≡ []) }
     requires few { shared.now.plan.now.count ≤ MAX_LINKS }
-    ensures accepting { IsAccepting (TalksOver L.In.half L.Out.half L.Ticks.given G.Hand.shown G.Hand.may G.Hand.moves shared.now.book.now) (IsMadeFor L.In.half L.Out.half L.Ticks.given G.Hand.shown G.Hand.moves shared.now.plan.now) G.Hand.shown shared.now.lock.now shared.now.book.now acceptor.new }
-    ensures tied { acceptor.new.ticks.items ≡ ticks_of (shown_all L.In.half L.Out.half L.Ticks.given acceptor.new.started.items) }
-    ensures links { (lost : List Accepted) × ((L.listening listener.new).accepted ≡ with_all (L.listening listener.old).accepted (links_of (shown_all L.In.half L.Out.half L.Ticks.given acceptor.new.started.items) ++ lost)) × Stopped result.0 shared.now.plan.now.count (vec_len acceptor.new.started) lost
+    ensures accepting { IsAccepting (TalksOver L.In.half L.Out.half L.Ticks.given G.Hand.shown G.Hand.may G.Hand.moves shared.now.book.now) (IsMadeFor L.In.half L.Out.half L.Ticks.given G.Hand.shown G.Hand.moves shared.now.plan.now) G.Hand.shown C.collected C.expects shared.now.lock.now shared.now.book.now acceptor.new }
+    ensures tied { (C.collected acceptor.new.collector).ticks ≡ ticks_of (shown_all L.In.half L.Out.half L.Ticks.given acceptor.new.all) }
+    ensures links { (lost : List Accepted) × ((L.listening listener.new).accepted ≡ with_all (L.listening listener.old).accepted (links_of (shown_all L.In.half L.Out.half L.Ticks.given acceptor.new.all) ++ lost)) × Stopped result.0 shared.now.plan.now.count acceptor.new.begun lost
         × AreGivenBack (IsLostLink L.In.half L.Out.half L.Ticks.given) lost result.1 }
     ensures fault { result.0 ≡ Stop.AcceptFault → Rose (L.listening listener.old).faults (L.listening listener.new).faults }
     ensures faults { (L.listening listener.old).faults ≤ (L.listening listener.new).faults }
     ensures ports { (L.listening listener.new).ports ≡ (L.listening listener.old).ports }
 {
     for _ in 0..shared.plan.count {
-        let begun = acceptor.started.len();
+        let begun = acceptor.begun as usize;
         let Ok(link) = next_link(shared, listener, begun) else {
             return (Stop::AcceptFault, None);
         };
@@ -108,31 +111,4 @@ where
         }
     }
     (Stop::All, None)
-}
-
-impl<I: Source + Drop, O: Sink + Drop, T: Clock + Drop, H: Worker + Drop> Acceptor<I, O, T, H> {
-    /// Waits for each link that wasn't joined, in order of accepting. Gives back the root, the reports and the entries of the root's own turns.
-    pub fn join_all<'s, R: Threads>(
-        self,
-        shared: &Shared<'s, R>,
-    ) -> (Root, Vec<LinkReport<I, O, T, H>>, Vec<Asked>)
-        requires { IsAccepting (TalksOver I.half O.half T.given H.shown H.may H.moves shared.now.book.now) (IsMadeFor I.half O.half T.given H.shown H.moves shared.now.plan.now) H.shown shared.now.lock.now shared.now.book.now self }
-        ensures root { IsRootOf shared.now.lock.now result.0 × (result.0.out ≡ 0) }
-        ensures made { result.0.made ≡ vec_len self.started }
-        ensures ticks { IsTicked (view_of result.0.pass) result.2.items × (result.2 ≡ self.ticks) }
-        ensures links { Paired (IsJoined (TalksOver I.half O.half T.given H.shown H.may H.moves shared.now.book.now) (IsMadeFor I.half O.half T.given H.shown H.moves shared.now.plan.now) H.shown shared.now.lock.now (view_of result.0.pass)) 1 self.started.items result.1.items }
-    {
-        let Acceptor {
-            mut root,
-            started,
-            mut reports,
-            ticks,
-        } = self;
-        for link in started {
-            let StartedLink { task, link_state } = link;
-            let report = finish(shared, &mut root, &task, link_state);
-            reports.push_reserved(report);
-        }
-        (root, reports, ticks)
-    }
 }

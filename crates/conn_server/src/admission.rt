@@ -1,5 +1,6 @@
 //! Admitting a link: a Tick before it, its hand and its setup, and its start.
 ghost use Rattle.std.specs.Prelude.{◌≡◌, ◌<◌, ◌≤◌, ◌+◌, pos, ◌<ℤ◌, List, [], ◌∷◌, ◌++◌, map, length, vec_len, vec_capacity, ℕ, MatchBool, MatchOption, IfSome, Some, None, IfOk, IfErr, OnErr, option_to_list, Option};
+ghost use Rattle.std.specs.List.{flat_map};
 ghost use Rattle.mod_utf.specs.Utf.{utf};
 ghost use Rattle.wire_io.specs.Links.{accepted_as};
 ghost use Rattle.wire_io.specs.Wire.{AreNewHalves, Gave, ShutsRead, ShutsWrite};
@@ -13,20 +14,23 @@ ghost use Rattle.system_objects.specs.declared.book.Kind.{Kind};
 ghost use Rattle.system_objects.specs.declared.setup.TheConstants.{DRAWS_BEGIN_BELOW};
 ghost use Rattle.turn_lock.specs.Handles.{IsRootOf, view_of};
 ghost use Rattle.turn_lock.specs.PassPorts.{PassWent};
-ghost use Rattle.conn_server.specs.Accepts.{HasRoom, IsAccepting, IsNext, IsSame, shown_all, links_of, ticks_of};
+ghost use Rattle.conn_server.specs.Accepts.{HasRoom, HasSameLinks, IsAccepting, IsNext, IsSame, TicksOn, shown_all, links_of, ticks_of};
+ghost use Rattle.conn_server.specs.Collects.{SameReports};
 ghost use Rattle.call_dispatch.specs.Hands.{IsUntold, IsUncounted};
 ghost use Rattle.conn_server.specs.Made.{gone_with, told_of, shown_admitted, IsMadeFor, IsHandFor, IsTakenBelow, IsTickEnd};
 ghost use Rattle.conn_server.specs.Plans.{link_terms};
 ghost use Rattle.conn_server.specs.Stops.{IsLostLink};
 ghost use Rattle.conn_server.specs.Talks.{TalksOver};
-ghost use Rattle.conn_server.specs.declared.plan.TheConstants.{MAX_LINKS};
+ghost use Rattle.conn_server.specs.declared.plan.TheConstants.{LAST_NUMBER};
 
+use crate::collector::Collector;
 use crate::link_task::{AdmittedLink, LinkReport, LinkTask};
 use crate::link_thread::{StartedLink, start};
 use crate::plan::{ServePlan, setup_for};
 use crate::shared::Shared;
 use call_dispatch::{Book, Crew, Setup, Worker, notify_unreferenced};
 use history::{Ask, Refused, Turn};
+use past::Past;
 use space::{Asked, AskedEnd};
 use std::alloc::{AllocError, Global};
 use std::snapshot::Snapshot;
@@ -35,13 +39,19 @@ use std::thread::{Scope, Threads};
 use turn_lock::Root;
 use wire_io::{Clock, Link, Sink, Source};
 
-/// Accepts links: it has those that were admitted, room for their reports, and the entries of the root's own turns.
+/// Accepts links: it has those that haven't ended, and hands the report of each on as it ends. So its memory grows with the links that are being
+/// served, and not with those that were.
 #[derive(Drop)]
-pub struct Acceptor<I: Source, O: Sink, T: Clock, H: Worker> {
+pub struct Acceptor<I: Source, O: Sink, T: Clock, H: Worker, C> {
     pub root: Root,
-    pub started: Vec<StartedLink<I, O, T, H>>,
-    pub reports: Vec<LinkReport<I, O, T, H>>,
-    pub ticks: Vec<Asked>,
+    /// The number of links that were begun.
+    pub begun: u32,
+    /// Those that haven't ended, in the order of their numbers.
+    pub live: Vec<StartedLink<I, O, T, H>>,
+    /// All that were begun, in that order. It exists in proofs alone.
+    pub all: Past<StartedLink<I, O, T, H>>,
+    /// Takes the reports of links, and the entries of the root's own turns.
+    pub collector: C,
 }
 
 /// A link that was accepted and isn't served, since there was no memory for it: its halves, which are shut, and its clock.
@@ -55,7 +65,7 @@ pub struct LostLink<I, O, T> {
     pub clock: T,
 }
 
-/// Whether there is room for so many further items. It is made where there is memory.
+/// Returns whether there is room for so many further items. It makes the room where there is memory.
 fn has_room<X>(items: &mut Vec<X>, more: usize) -> bool
     ensures room { MatchBool result (vec_len items.new + more ≤ vec_capacity items.new) (Unit {0}) }
     ensures same { items.new.items ≡ items.old.items }
@@ -102,7 +112,7 @@ fn tick_entry(moment: u64, answer: Result<Turn, Refused>) -> Option<Asked>
 
 /// Makes a Tick at the clock's moment, as connection 0, and tells the hand what is gone. Its entry is answered: none where there was no
 /// memory for it.
-fn tick<'s, R: Wait, T: Clock, H: Worker>(
+pub(crate) fn tick<'s, R: Wait, T: Clock, H: Worker>(
     shared: &Shared<'s, R>,
     root: &mut Root,
     clock: &mut T,
@@ -117,8 +127,14 @@ fn tick<'s, R: Wait, T: Clock, H: Worker>(
     ensures place { IfSome result (λ entry. IsTakenBelow (length (view_of root.new.pass).seen) entry.end) }
     ensures given { IfSome result (λ entry. Gave (T.given clock.old) (T.given clock.new) (entry.moment ∷ [])) }
     ensures moment { (moment : ℕ) × Gave (T.given clock.old) (T.given clock.new) (moment ∷ []) }
+    ensures once { (moment : ℕ) × Gave (T.given clock.old) (T.given clock.new) (moment ∷ [])
+        × IfSome result (λ entry. entry.moment ≡ moment) }
     ensures seen { IfSome result (λ entry. TellsMore (H.shown hand.old).seen (told_of entry) (H.shown hand.new).seen) }
     ensures state { IfSome result (λ entry. LeadsStates H.moves (H.shown hand.old).state (told_of entry) (H.shown hand.new).state) }
+    ensures all_seen { TellsMore (H.shown hand.old).seen
+        (flat_map told_of (option_to_list result)) (H.shown hand.new).seen }
+    ensures all_state { LeadsStates H.moves (H.shown hand.old).state
+        (flat_map told_of (option_to_list result)) (H.shown hand.new).state }
     ensures calls { (H.shown hand.new).calls ≡ (H.shown hand.old).calls }
     ensures number { (H.shown hand.new).number ≡ (H.shown hand.old).number }
 {
@@ -159,16 +175,21 @@ fn hand_and_setup<G: Crew, I, O, T>(
     Ok(HandAndSetup { hand, setup })
 }
 
-/// Keeps an entry, if there is one.
-fn keep_entry(ticks: &mut Vec<Asked>, entry: Option<Asked>) -> Option<Snapshot<Asked>>
-    requires { vec_len ticks.old < vec_capacity ticks.old }
-    ensures items { ticks.new.items ≡ ticks.old.items ++ option_to_list entry }
+/// Hands an entry on, if there is one.
+pub(crate) fn hand_entry<R, C: Collector<R>>(
+    collector: &mut C,
+    entry: Option<Asked>,
+) -> Option<Snapshot<Asked>>
+    requires { length (C.collected collector.old).ticks < (C.collected collector.old).tick_limit }
+    ensures items { (C.collected collector.new).ticks
+        ≡ (C.collected collector.old).ticks ++ option_to_list entry }
+    ensures reports { SameReports C.collected C.expects collector.old collector.new }
     ensures known { MatchOption result (entry ≡ None) (λ known. entry ≡ Some known.value) }
 {
     match entry {
         Some(entry) => {
             let known = Snapshot::of(&entry);
-            ticks.push_reserved(entry);
+            collector.ticked(entry);
             Some(known)
         }
         None => None,
@@ -209,38 +230,40 @@ fn refuse<I: Source, O: Sink, T: Clock>(link: Link<I, O, T>) -> LostLink<I, O, T
     shut_link(source, sink, clock)
 }
 
-impl<I: Source, O: Sink, T: Clock, H: Worker> Acceptor<I, O, T, H> {
+impl<I: Source, O: Sink, T: Clock, H: Worker, C: Collector<LinkReport<I, O, T, H>>> Acceptor<
+    I,
+    O,
+    T,
+    H,
+    C,
+> {
     /// It has admitted no link yet.
-    pub fn new(alloc: Global, root: Root) -> Acceptor<I, O, T, H>
+    pub fn new(alloc: Global, root: Root, collector: C) -> Acceptor<I, O, T, H, C>
         ensures root { result.root ≡ root }
-        ensures started { result.started.items ≡ [] }
-        ensures reports { result.reports.items ≡ [] }
-        ensures ticks { result.ticks.items ≡ [] }
+        ensures begun { result.begun ≡ 0 }
+        ensures live { result.live.items ≡ [] }
+        ensures all { result.all ≡ [] }
+        ensures collector { result.collector ≡ collector }
     {
         Acceptor {
             root,
-            started: Vec::new(alloc),
-            reports: Vec::new(alloc),
-            ticks: Vec::new(alloc),
+            begun: 0,
+            live: Vec::new(alloc),
+            all: Past::new(),
+            collector,
         }
     }
 
     /// Takes room for one more link, and says whether there was memory.
     fn with_room(&mut self) -> bool
-        ensures same { IsSame self.old self.new }
-        ensures room { MatchBool result (HasRoom self.new) (Unit {0}) }
+        ensures same { IsSame C.collected C.expects self.old self.new }
+        ensures room { MatchBool result (HasRoom C.collected self.new) (Unit {0}) }
     {
-        if !has_room(&mut self.ticks, 1) {
+        if !has_room(&mut self.live, 1) {
             return false;
         }
-        if !has_room(&mut self.started, 1) {
-            return false;
-        }
-        let count = self.started.len();
-        if !has_room(&mut self.reports, count + 1) {
-            return false;
-        }
-        true
+        let count = self.live.len();
+        self.collector.reserve(count + 1)
     }
 
     /// Makes a Tick, for whose entry there is room, and keeps the entry. None where there was no memory for the Tick.
@@ -250,11 +273,15 @@ impl<I: Source, O: Sink, T: Clock, H: Worker> Acceptor<I, O, T, H> {
         clock: &mut T,
         hand: &mut H,
     ) -> Option<Snapshot<Asked>>
-        requires accepting { IsAccepting (TalksOver I.half O.half T.given H.shown H.may H.moves shared.now.book.now) (IsMadeFor I.half O.half T.given H.shown H.moves shared.now.plan.now) H.shown shared.now.lock.now shared.now.book.now self.old }
-        requires room { vec_len self.old.ticks < vec_capacity self.old.ticks }
-        ensures accepting { IsAccepting (TalksOver I.half O.half T.given H.shown H.may H.moves shared.now.book.now) (IsMadeFor I.half O.half T.given H.shown H.moves shared.now.plan.now) H.shown shared.now.lock.now shared.now.book.now self.new }
-        ensures links { (self.new.started ≡ self.old.started) × (self.new.reports ≡ self.old.reports) }
-        ensures ticks { MatchOption result (self.new.ticks.items ≡ self.old.ticks.items) (λ entry. self.new.ticks.items ≡ self.old.ticks.items ++ entry.value ∷ []) }
+        requires accepting { IsAccepting (TalksOver I.half O.half T.given H.shown H.may H.moves shared.now.book.now) (IsMadeFor I.half O.half T.given H.shown H.moves shared.now.plan.now) H.shown C.collected C.expects shared.now.lock.now shared.now.book.now self.old }
+        requires room { length (C.collected self.old.collector).ticks
+            < (C.collected self.old.collector).tick_limit }
+        ensures accepting { IsAccepting (TalksOver I.half O.half T.given H.shown H.may H.moves shared.now.book.now) (IsMadeFor I.half O.half T.given H.shown H.moves shared.now.plan.now) H.shown C.collected C.expects shared.now.lock.now shared.now.book.now self.new }
+        ensures links { HasSameLinks C.collected self.old self.new }
+        ensures ticks { MatchOption result
+            ((C.collected self.new.collector).ticks ≡ (C.collected self.old.collector).ticks)
+            (λ entry. (C.collected self.new.collector).ticks
+            ≡ (C.collected self.old.collector).ticks ++ entry.value ∷ []) }
         ensures asked { IfSome result (λ entry. entry.value.ask ≡ Tick) }
         ensures end { IfSome result (λ entry. IsTickEnd entry.value.end) }
         ensures place { IfSome result (λ entry. IsTakenBelow (length (view_of self.new.root.pass).seen) entry.value.end) }
@@ -266,12 +293,17 @@ impl<I: Source, O: Sink, T: Clock, H: Worker> Acceptor<I, O, T, H> {
         ensures number { (H.shown hand.new).number ≡ (H.shown hand.old).number }
     {
         let entry = tick(shared, &mut self.root, clock, hand);
-        let known = keep_entry(&mut self.ticks, entry);
-        known
+        hand_entry(&mut self.collector, entry)
     }
 }
 
-impl<I: Source + Drop, O: Sink + Drop, T: Clock + Drop, H: Worker + Drop> Acceptor<I, O, T, H> {
+impl<
+    I: Source + Drop,
+    O: Sink + Drop,
+    T: Clock + Drop,
+    H: Worker + Drop,
+    C: Collector<LinkReport<I, O, T, H>>,
+> Acceptor<I, O, T, H, C> {
     /// Takes room for one more link, and makes what its connection begins with. None where there was no memory.
     fn reserve_link<'s, R, G: Crew<Hand = H>>(
         &mut self,
@@ -280,15 +312,15 @@ impl<I: Source + Drop, O: Sink + Drop, T: Clock + Drop, H: Worker + Drop> Accept
         link: &Link<I, O, T>,
     ) -> Option<HandAndSetup<H>>
         requires host { length (utf shared.now.plan.now.host) ≤ MAX_HOST_BYTES }
-        requires few { vec_len self.old.started < MAX_LINKS }
-        ensures same { IsSame self.old self.new }
-        ensures room { IfSome result (λ r. HasRoom self.new) }
-        ensures ready { IfSome result (λ r. IsHandFor H.shown shared.now.plan.now (vec_len self.old.started + 1) link.now.host link.now.port r) }
+        requires few { self.old.begun < LAST_NUMBER }
+        ensures same { IsSame C.collected C.expects self.old self.new }
+        ensures room { IfSome result (λ r. HasRoom C.collected self.new) }
+        ensures ready { IfSome result (λ r. IsHandFor H.shown shared.now.plan.now (self.old.begun + 1) link.now.host link.now.port r) }
     {
         if !self.with_room() {
             return None;
         }
-        let by = self.started.len() as u32 + 1;
+        let by = self.begun + 1;
         match hand_and_setup(shared.alloc, crew, shared.plan, by, link) {
             Ok(ready) => Some(ready),
             Err(_full) => None,
@@ -302,18 +334,20 @@ impl<I: Source + Drop, O: Sink + Drop, T: Clock + Drop, H: Worker + Drop> Accept
         link: Link<I, O, T>,
         ready: HandAndSetup<H>,
     ) -> Result<AdmittedLink<I, O, T, H>, LostLink<I, O, T>>
-        requires accepting { IsAccepting (TalksOver I.half O.half T.given H.shown H.may H.moves shared.now.book.now) (IsMadeFor I.half O.half T.given H.shown H.moves shared.now.plan.now) H.shown shared.now.lock.now shared.now.book.now self.old }
-        requires few { vec_len self.old.started < MAX_LINKS }
-        requires room { HasRoom self.old }
+        requires accepting { IsAccepting (TalksOver I.half O.half T.given H.shown H.may H.moves shared.now.book.now) (IsMadeFor I.half O.half T.given H.shown H.moves shared.now.plan.now) H.shown C.collected C.expects shared.now.lock.now shared.now.book.now self.old }
+        requires few { self.old.begun < LAST_NUMBER }
+        requires room { HasRoom C.collected self.old }
         requires halves { AreNewHalves (I.half link.source) (O.half link.sink) }
-        requires ready { IsHandFor H.shown shared.now.plan.now (vec_len self.old.started + 1) link.host link.port ready }
-        ensures accepting { IsAccepting (TalksOver I.half O.half T.given H.shown H.may H.moves shared.now.book.now) (IsMadeFor I.half O.half T.given H.shown H.moves shared.now.plan.now) H.shown shared.now.lock.now shared.now.book.now self.new }
-        ensures links { (self.new.started ≡ self.old.started) × (self.new.reports ≡ self.old.reports) }
-        ensures ticks { IfOk result (λ admitted. self.new.ticks.items ≡ self.old.ticks.items ++ admitted.tick.value ∷ []) }
-        ensures no_tick { OnErr result (self.new.ticks.items ≡ self.old.ticks.items) }
+        requires ready { IsHandFor H.shown shared.now.plan.now (self.old.begun + 1) link.host link.port ready }
+        ensures accepting { IsAccepting (TalksOver I.half O.half T.given H.shown H.may H.moves shared.now.book.now) (IsMadeFor I.half O.half T.given H.shown H.moves shared.now.plan.now) H.shown C.collected C.expects shared.now.lock.now shared.now.book.now self.new }
+        ensures links { HasSameLinks C.collected self.old self.new }
+        ensures ticks { IfOk result (λ admitted. (C.collected self.new.collector).ticks
+            ≡ (C.collected self.old.collector).ticks ++ admitted.tick.value ∷ []) }
+        ensures no_tick { OnErr result
+            ((C.collected self.new.collector).ticks ≡ (C.collected self.old.collector).ticks) }
         ensures lost { IfErr result (λ lost. IsLostLink I.half O.half T.given (accepted_as I.half O.half T.given link) lost) }
         ensures first { IfOk result (λ admitted. admitted.first.value ≡ link) }
-        ensures next { IfOk result (λ admitted. IsNext (TalksOver I.half O.half T.given H.shown H.may H.moves shared.now.book.now) (IsMadeFor I.half O.half T.given H.shown H.moves shared.now.plan.now) H.shown shared.now.lock.now shared.now.book.now self.new admitted) }
+        ensures next { IfOk result (λ admitted. IsNext (TalksOver I.half O.half T.given H.shown H.may H.moves shared.now.book.now) (IsMadeFor I.half O.half T.given H.shown H.moves shared.now.plan.now) H.shown C.collected C.expects shared.now.lock.now shared.now.book.now self.new admitted) }
     {
         let first = Snapshot::of(&link);
         let Link {
@@ -351,19 +385,22 @@ impl<I: Source + Drop, O: Sink + Drop, T: Clock + Drop, H: Worker + Drop> Accept
         O: Send + 's,
         T: Send + 's,
         H: Send + 's,
-        requires { IsNext (TalksOver I.half O.half T.given H.shown H.may H.moves shared.now.book.now) (IsMadeFor I.half O.half T.given H.shown H.moves shared.now.plan.now) H.shown shared.now.lock.now shared.now.book.now self.old admitted }
-        ensures accepting { IsAccepting (TalksOver I.half O.half T.given H.shown H.may H.moves shared.now.book.now) (IsMadeFor I.half O.half T.given H.shown H.moves shared.now.plan.now) H.shown shared.now.lock.now shared.now.book.now self.new }
-        ensures ticks { self.new.ticks ≡ self.old.ticks }
-        ensures links { shown_all I.half O.half T.given self.new.started.items ≡ shown_all I.half O.half T.given self.old.started.items ++ shown_admitted I.half O.half T.given admitted ∷ [] }
-        ensures count { vec_len self.new.started ≡ vec_len self.old.started + 1 }
+        requires { IsNext (TalksOver I.half O.half T.given H.shown H.may H.moves shared.now.book.now) (IsMadeFor I.half O.half T.given H.shown H.moves shared.now.plan.now) H.shown C.collected C.expects shared.now.lock.now shared.now.book.now self.old admitted }
+        ensures accepting { IsAccepting (TalksOver I.half O.half T.given H.shown H.may H.moves shared.now.book.now) (IsMadeFor I.half O.half T.given H.shown H.moves shared.now.plan.now) H.shown C.collected C.expects shared.now.lock.now shared.now.book.now self.new }
+        ensures ticks { (C.collected self.new.collector).ticks ≡ (C.collected self.old.collector).ticks }
+        ensures links { shown_all I.half O.half T.given self.new.all
+            ≡ shown_all I.half O.half T.given self.old.all ++ shown_admitted I.half O.half T.given admitted ∷ [] }
+        ensures count { self.new.begun ≡ self.old.begun + 1 }
     {
-        let by = self.started.len() as u32 + 1;
+        let by = self.begun + 1;
         let Ok(pass) = self.root.split(shared.lock) else {
             unreachable!()
         };
         let task = LinkTask { by, pass, admitted };
         let begun = start(scope, shared, task);
-        self.started.push_reserved(begun);
+        self.begun = by;
+        self.all.push(&begun);
+        self.live.push_reserved(begun);
     }
 
     /// Makes a Tick, and begins to serve the link. Gives the link back, shut, where there was no memory for it.
@@ -380,16 +417,21 @@ impl<I: Source + Drop, O: Sink + Drop, T: Clock + Drop, H: Worker + Drop> Accept
         T: Send + 's,
         H: Send + 's,
         requires host { length (utf shared.now.plan.now.host) ≤ MAX_HOST_BYTES }
-        requires accepting { IsAccepting (TalksOver I.half O.half T.given H.shown H.may H.moves shared.now.book.now) (IsMadeFor I.half O.half T.given H.shown H.moves shared.now.plan.now) H.shown shared.now.lock.now shared.now.book.now self.old }
-        requires few { vec_len self.old.started < MAX_LINKS }
-        requires tied { self.old.ticks.items ≡ ticks_of (shown_all I.half O.half T.given self.old.started.items) }
+        requires accepting { IsAccepting (TalksOver I.half O.half T.given H.shown H.may H.moves shared.now.book.now) (IsMadeFor I.half O.half T.given H.shown H.moves shared.now.plan.now) H.shown C.collected C.expects shared.now.lock.now shared.now.book.now self.old }
+        requires few { self.old.begun < LAST_NUMBER }
         requires halves { AreNewHalves (I.half link.source) (O.half link.sink) }
-        ensures accepting { IsAccepting (TalksOver I.half O.half T.given H.shown H.may H.moves shared.now.book.now) (IsMadeFor I.half O.half T.given H.shown H.moves shared.now.plan.now) H.shown shared.now.lock.now shared.now.book.now self.new }
-        ensures tied { self.new.ticks.items ≡ ticks_of (shown_all I.half O.half T.given self.new.started.items) }
+        ensures accepting { IsAccepting (TalksOver I.half O.half T.given H.shown H.may H.moves shared.now.book.now) (IsMadeFor I.half O.half T.given H.shown H.moves shared.now.plan.now) H.shown C.collected C.expects shared.now.lock.now shared.now.book.now self.new }
+        ensures tied { MatchOption result
+            (TicksOn (C.collected self.old.collector).ticks (C.collected self.new.collector).ticks
+            (ticks_of (shown_all I.half O.half T.given self.old.all))
+            (ticks_of (shown_all I.half O.half T.given self.new.all)))
+            (λ lost. ((C.collected self.new.collector).ticks ≡ (C.collected self.old.collector).ticks)
+            × (ticks_of (shown_all I.half O.half T.given self.new.all)
+            ≡ ticks_of (shown_all I.half O.half T.given self.old.all))) }
         ensures links { MatchOption result
-            (links_of (shown_all I.half O.half T.given self.new.started.items) ≡ links_of (shown_all I.half O.half T.given self.old.started.items) ++ accepted_as I.half O.half T.given link ∷ [])
-            (λ lost. links_of (shown_all I.half O.half T.given self.new.started.items) ≡ links_of (shown_all I.half O.half T.given self.old.started.items)) }
-        ensures count { MatchOption result (vec_len self.new.started ≡ vec_len self.old.started + 1) (λ lost. vec_len self.new.started ≡ vec_len self.old.started) }
+            (links_of (shown_all I.half O.half T.given self.new.all) ≡ links_of (shown_all I.half O.half T.given self.old.all) ++ accepted_as I.half O.half T.given link ∷ [])
+            (λ lost. links_of (shown_all I.half O.half T.given self.new.all) ≡ links_of (shown_all I.half O.half T.given self.old.all)) }
+        ensures count { MatchOption result (self.new.begun ≡ self.old.begun + 1) (λ lost. self.new.begun ≡ self.old.begun) }
         ensures lost { IfSome result (λ lost. IsLostLink I.half O.half T.given (accepted_as I.half O.half T.given link) lost) }
     {
         let ready = self.reserve_link(shared, crew, &link);

@@ -42,7 +42,7 @@ impl EndedLinks {
         numbers.pop()
     }
 
-    /// How many links have ended.
+    /// Returns the number of links that have ended.
     pub fn count(&self) -> u64 {
         self.count.load(Ordering::SeqCst)
     }

@@ -1,73 +1,139 @@
-//! Joining the threads of links that have ended, while others are accepted.
-ghost use Rattle.std.specs.Prelude.{◌≡◌, ◌+◌, ◌<◌, map, vec_len};
-ghost use Rattle.turn_lock.specs.Handles.{IsRootOf, view_of};
-ghost use Rattle.conn_server.specs.Accepts.{IsAccepting, IsBegun, open_all, shown_all};
+//! Joining the threads of links that have ended.
+ghost use Rattle.std.specs.Prelude.{◌≡◌, ◌+◌, ◌<◌, List, [], length, vec_len, IfSome};
+ghost use Rattle.conn_server.specs.Accepts.{IsAccepting, shown_all};
 ghost use Rattle.conn_server.specs.Made.{IsMadeFor};
-ghost use Rattle.conn_server.specs.Rows.{EachAt};
-ghost use Rattle.conn_server.specs.Starts.{task_of};
 ghost use Rattle.conn_server.specs.Talks.{TalksOver};
-ghost use Rattle.conn_server.specs.Views.{Grows};
 
 use crate::admission::Acceptor;
-use crate::link_thread::{StartedLink, settle};
+use crate::collector::Collector;
+use crate::link_task::LinkReport;
+use crate::link_thread::{LinkState, StartedLink, finish};
 use crate::shared::Shared;
 use call_dispatch::Worker;
+use std::snapshot::Snapshot;
 use std::sync::Wait;
 use std::thread::Threads;
-use turn_lock::Root;
 use wire_io::{Clock, Sink, Source};
 
-/// How many threads are joined at most before the next link is admitted, which waits for that.
+/// The most threads that are joined before the next link is admitted. That link waits for these joins.
 const MAX_JOINS: u32 = 64;
 
-/// Joins the thread of the link at this place, and keeps its report there.
-fn settle_at<'s, R: Threads, I: Source + Drop, O: Sink + Drop, T: Clock + Drop, H: Worker + Drop>(
-    shared: &Shared<'s, R>,
-    root: &mut Root,
-    all: &mut Vec<StartedLink<I, O, T, H>>,
-    place: usize,
-)
-    requires root { IsRootOf shared.now.lock.now root.old }
-    requires there { place < vec_len all.old }
-    requires links { EachAt (IsBegun (TalksOver I.half O.half T.given H.shown H.may H.moves shared.now.book.now) (IsMadeFor I.half O.half T.given H.shown H.moves shared.now.plan.now) H.shown shared.now.lock.now shared.now.book.now (view_of root.old.pass)) 1 all.old.items }
-    ensures root { IsRootOf shared.now.lock.now root.new × (root.new.out + open_all all.old.items ≡ root.old.out + open_all all.new.items) × (root.new.made ≡ root.old.made) }
-    ensures grown { Grows (view_of root.old.pass) (view_of root.new.pass) }
-    ensures links { EachAt (IsBegun (TalksOver I.half O.half T.given H.shown H.may H.moves shared.now.book.now) (IsMadeFor I.half O.half T.given H.shown H.moves shared.now.plan.now) H.shown shared.now.lock.now shared.now.book.now (view_of root.new.pass)) 1 all.new.items }
-    ensures tasks { map (λ s. task_of s) all.new.items ≡ map (λ s. task_of s) all.old.items }
-    ensures count { vec_len all.new ≡ vec_len all.old }
+/// The place of link `by` among these, which stand in the order of their numbers.
+fn place_of<I: Source, O: Sink, T: Clock, H: Worker>(
+    live: &[StartedLink<I, O, T, H>],
+    by: u32,
+) -> Option<usize>
+    ensures { IfSome result (λ place. place < length live.now) }
 {
-    settle(shared, root, &mut all[place]);
+    match live.binary_search_by_key(&by, |link| link.by) {
+        Ok(place) => Some(place),
+        Err(_other) => None,
+    }
 }
 
-impl<I: Source + Drop, O: Sink + Drop, T: Clock + Drop, H: Worker + Drop> Acceptor<I, O, T, H> {
-    /// Joins the thread of link `by`, if there is one, and keeps its report.
-    fn join_one<'s, R: Threads>(&mut self, shared: &Shared<'s, R>, by: u32)
-        requires accepting { IsAccepting (TalksOver I.half O.half T.given H.shown H.may H.moves shared.now.book.now) (IsMadeFor I.half O.half T.given H.shown H.moves shared.now.plan.now) H.shown shared.now.lock.now shared.now.book.now self.old }
-        ensures accepting { IsAccepting (TalksOver I.half O.half T.given H.shown H.may H.moves shared.now.book.now) (IsMadeFor I.half O.half T.given H.shown H.moves shared.now.plan.now) H.shown shared.now.lock.now shared.now.book.now self.new }
-        ensures ticks { self.new.ticks ≡ self.old.ticks }
-        ensures links { shown_all I.half O.half T.given self.new.started.items ≡ shown_all I.half O.half T.given self.old.started.items }
-        ensures count { vec_len self.new.started ≡ vec_len self.old.started }
+impl<
+    I: Source + Drop,
+    O: Sink + Drop,
+    T: Clock + Drop,
+    H: Worker + Drop,
+    C: Collector<LinkReport<I, O, T, H>>,
+> Acceptor<I, O, T, H, C> {
+    /// Joins the thread of the live link at this place, and hands its report on.
+    fn settle<'s, R: Threads>(&mut self, shared: &Shared<'s, R>, place: usize)
+        requires accepting { IsAccepting
+            (TalksOver I.half O.half T.given H.shown H.may H.moves shared.now.book.now)
+            (IsMadeFor I.half O.half T.given H.shown H.moves shared.now.plan.now)
+            H.shown C.collected C.expects shared.now.lock.now shared.now.book.now self.old }
+        requires there { place < vec_len self.old.live }
+        ensures accepting { IsAccepting
+            (TalksOver I.half O.half T.given H.shown H.may H.moves shared.now.book.now)
+            (IsMadeFor I.half O.half T.given H.shown H.moves shared.now.plan.now)
+            H.shown C.collected C.expects shared.now.lock.now shared.now.book.now self.new }
+        ensures ticks { (C.collected self.new.collector).ticks ≡ (C.collected self.old.collector).ticks }
+        ensures links { shown_all I.half O.half T.given self.new.all
+            ≡ shown_all I.half O.half T.given self.old.all }
+        ensures begun { self.new.begun ≡ self.old.begun }
+        ensures fewer { vec_len self.new.live + 1 ≡ vec_len self.old.live }
     {
-        let place = by.wrapping_sub(1) as usize;
-        if place >= self.started.len() {
-            return;
-        }
-        settle_at(shared, &mut self.root, &mut self.started, place);
+        let StartedLink {
+            by,
+            task,
+            link_state,
+        } = self.live.remove(place);
+        let report = finish(shared, &mut self.root, &task, link_state);
+        let ended = StartedLink {
+            by,
+            task,
+            link_state: LinkState::Ended(Snapshot::of(&report)),
+        };
+        self.all.put(u64::from(by) - 1, &ended);
+        self.collector.ended(report);
     }
 
-    /// Joins the threads of links that have ended, and keeps their reports.
+    /// Joins the thread of link `by`, if it hasn't been, and hands its report on.
+    fn join_one<'s, R: Threads>(&mut self, shared: &Shared<'s, R>, by: u32)
+        requires accepting { IsAccepting
+            (TalksOver I.half O.half T.given H.shown H.may H.moves shared.now.book.now)
+            (IsMadeFor I.half O.half T.given H.shown H.moves shared.now.plan.now)
+            H.shown C.collected C.expects shared.now.lock.now shared.now.book.now self.old }
+        ensures accepting { IsAccepting
+            (TalksOver I.half O.half T.given H.shown H.may H.moves shared.now.book.now)
+            (IsMadeFor I.half O.half T.given H.shown H.moves shared.now.plan.now)
+            H.shown C.collected C.expects shared.now.lock.now shared.now.book.now self.new }
+        ensures ticks { (C.collected self.new.collector).ticks ≡ (C.collected self.old.collector).ticks }
+        ensures links { shown_all I.half O.half T.given self.new.all
+            ≡ shown_all I.half O.half T.given self.old.all }
+        ensures begun { self.new.begun ≡ self.old.begun }
+    {
+        let Some(place) = place_of(self.live.as_slice(), by) else {
+            return;
+        };
+        self.settle(shared, place);
+    }
+
+    /// Joins the threads of links that have ended, and hands their reports on.
     pub fn join_ended<'s, R: Threads + Wait>(&mut self, shared: &Shared<'s, R>)
-        requires accepting { IsAccepting (TalksOver I.half O.half T.given H.shown H.may H.moves shared.now.book.now) (IsMadeFor I.half O.half T.given H.shown H.moves shared.now.plan.now) H.shown shared.now.lock.now shared.now.book.now self.old }
-        ensures accepting { IsAccepting (TalksOver I.half O.half T.given H.shown H.may H.moves shared.now.book.now) (IsMadeFor I.half O.half T.given H.shown H.moves shared.now.plan.now) H.shown shared.now.lock.now shared.now.book.now self.new }
-        ensures ticks { self.new.ticks ≡ self.old.ticks }
-        ensures links { shown_all I.half O.half T.given self.new.started.items ≡ shown_all I.half O.half T.given self.old.started.items }
-        ensures count { vec_len self.new.started ≡ vec_len self.old.started }
+        requires accepting { IsAccepting
+            (TalksOver I.half O.half T.given H.shown H.may H.moves shared.now.book.now)
+            (IsMadeFor I.half O.half T.given H.shown H.moves shared.now.plan.now)
+            H.shown C.collected C.expects shared.now.lock.now shared.now.book.now self.old }
+        ensures accepting { IsAccepting
+            (TalksOver I.half O.half T.given H.shown H.may H.moves shared.now.book.now)
+            (IsMadeFor I.half O.half T.given H.shown H.moves shared.now.plan.now)
+            H.shown C.collected C.expects shared.now.lock.now shared.now.book.now self.new }
+        ensures ticks { (C.collected self.new.collector).ticks ≡ (C.collected self.old.collector).ticks }
+        ensures links { shown_all I.half O.half T.given self.new.all
+            ≡ shown_all I.half O.half T.given self.old.all }
+        ensures begun { self.new.begun ≡ self.old.begun }
     {
         for _ in 0..MAX_JOINS {
             let Some(by) = shared.ended.next(shared.rt) else {
                 return;
             };
             self.join_one(shared, by);
+        }
+    }
+
+    /// Waits for each link that hasn't ended, the last first, and hands its report on.
+    pub fn join_all<'s, R: Threads>(&mut self, shared: &Shared<'s, R>)
+        requires accepting { IsAccepting
+            (TalksOver I.half O.half T.given H.shown H.may H.moves shared.now.book.now)
+            (IsMadeFor I.half O.half T.given H.shown H.moves shared.now.plan.now)
+            H.shown C.collected C.expects shared.now.lock.now shared.now.book.now self.old }
+        ensures accepting { IsAccepting
+            (TalksOver I.half O.half T.given H.shown H.may H.moves shared.now.book.now)
+            (IsMadeFor I.half O.half T.given H.shown H.moves shared.now.plan.now)
+            H.shown C.collected C.expects shared.now.lock.now shared.now.book.now self.new }
+        ensures none { vec_len self.new.live ≡ 0 }
+        ensures ticks { (C.collected self.new.collector).ticks ≡ (C.collected self.old.collector).ticks }
+        ensures links { shown_all I.half O.half T.given self.new.all
+            ≡ shown_all I.half O.half T.given self.old.all }
+        ensures begun { self.new.begun ≡ self.old.begun }
+    {
+        let live = self.live.len();
+        for _ in 0..live {
+            let last = self.live.len() - 1;
+            self.settle(shared, last);
         }
     }
 }

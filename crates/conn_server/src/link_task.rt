@@ -1,4 +1,4 @@
-//! What a connection's thread is given, and what it gives back.
+//! The task that a connection's thread is given, and the result that it gives back.
 ghost use Rattle.conn_server.specs.Serves.{IsLinkTask, Serves};
 ghost use Rattle.conn_server.specs.Talks.{TalksOver};
 
@@ -34,12 +34,12 @@ pub struct LinkTask<I, O, T, H> {
     pub admitted: AdmittedLink<I, O, T, H>,
 }
 
-/// What is told of a connection that was served.
+/// A report of a connection that was served.
 #[derive(Drop)]
 pub struct LinkReport<I, O, T, H> {
     /// Its number, from 1 in the order of accepting.
     pub by: u32,
-    /// How it ended.
+    /// The way in which it ended.
     pub end: ConnEnd,
     /// Its source, with what was not taken.
     pub source: I,
@@ -60,7 +60,7 @@ pub struct LinkDone<I, O, T, H> {
     pub report: LinkReport<I, O, T, H>,
 }
 
-/// What the thread of a connection promises: that it serves this task at this lock, with this book.
+/// The promise of a connection's thread: it serves this task at this lock, with this book.
 #[derive(Drop)]
 pub struct TaskPromise<I, O, T, H> {
     pub lock: Snapshot<TurnLock>,

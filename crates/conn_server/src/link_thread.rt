@@ -10,31 +10,29 @@ ghost use Rattle.conn_server.specs.Views.{Grows};
 use crate::link_task::{LinkDone, LinkReport, LinkTask, TaskPromise, serve_task};
 use crate::shared::Shared;
 use call_dispatch::{Book, Worker};
-use std::mem;
 use std::snapshot::Snapshot;
 use std::sync::Wait;
 use std::thread::{PromisedHandle, Scope, Threads};
 use turn_lock::{Root, TurnLock};
 use wire_io::{Clock, Sink, Source};
 
-/// A link that was begun: its task, and how far it is.
+/// A link that was begun: its number, its task, and how far it is.
 #[derive(Drop)]
 pub struct StartedLink<I: Source, O: Sink, T: Clock, H: Worker> {
+    pub by: u32,
     pub task: Snapshot<LinkTask<I, O, T, H>>,
     pub link_state: LinkState<I, O, T, H>,
 }
 
-/// How far a link is that was begun.
+/// The state of a link that was begun.
 #[derive(Drop)]
 pub enum LinkState<I: Source, O: Sink, T: Clock, H: Worker> {
     /// A thread serves it.
     Running(PromisedHandle<LinkDone<I, O, T, H>, TaskPromise<I, O, T, H>>),
     /// It was served here, since no thread could be made.
     ServedHere(LinkDone<I, O, T, H>),
-    /// It was served, and its pass was given back.
-    Ended(LinkReport<I, O, T, H>),
-    /// Its thread is being joined.
-    Joining,
+    /// It was served, its pass was given back, and its report was handed on. Only the list of all links, which exists in proofs alone, has such links.
+    Ended(Snapshot<LinkReport<I, O, T, H>>),
 }
 
 /// Serves the link in a thread of the scope. Where none can be made, the task comes back and is done here.
@@ -55,7 +53,9 @@ pub fn start<
     ensures begun { (v : View) → IsUnder (TalksOver I.half O.half T.given H.shown H.may H.moves shared.now.book.now) shared.now.lock.now shared.now.book.now v result.task.value result.link_state }
     ensures out { open_in result.link_state ≡ 1 }
     ensures task { result.task.value ≡ task }
+    ensures by { result.by ≡ task.by }
 {
+    let number = task.by;
     let (rt, alloc) = (shared.rt, shared.alloc);
     let (lock, book, ended) = (shared.lock, shared.book, shared.ended);
     let known = Snapshot::of(&task);
@@ -78,10 +78,12 @@ pub fn start<
     );
     match spawned {
         Ok(child) => StartedLink {
+            by: number,
             task: known,
             link_state: LinkState::Running(child),
         },
         Err(refused) => StartedLink {
+            by: number,
             task: known,
             link_state: LinkState::ServedHere((refused.value)()),
         },
@@ -109,7 +111,7 @@ fn give_back<I: Source, O: Sink, T: Clock, H: Worker>(
     report
 }
 
-/// Waits until the link is served, and gives the root its pass back, unless that was done.
+/// Waits until the link is served, and gives the root its pass back.
 pub fn finish<'s, R: Threads, I: Source, O: Sink, T: Clock, H: Worker>(
     shared: &Shared<'s, R>,
     root: &mut Root,
@@ -118,7 +120,8 @@ pub fn finish<'s, R: Threads, I: Source, O: Sink, T: Clock, H: Worker>(
 ) -> LinkReport<I, O, T, H>
     requires root { IsRootOf shared.now.lock.now root.old }
     requires begun { IsUnder (TalksOver I.half O.half T.given H.shown H.may H.moves shared.now.book.now) shared.now.lock.now shared.now.book.now (view_of root.old.pass) task.now.value link_state }
-    ensures root { IsRootOf shared.now.lock.now root.new × (root.new.out + open_in link_state ≡ root.old.out) × (root.new.made ≡ root.old.made) }
+    requires open { open_in link_state ≡ 1 }
+    ensures root { IsRootOf shared.now.lock.now root.new × (root.new.out + 1 ≡ root.old.out) × (root.new.made ≡ root.old.made) }
     ensures grown { Grows (view_of root.old.pass) (view_of root.new.pass) }
     ensures ended { IsEndOf (TalksOver I.half O.half T.given H.shown H.may H.moves shared.now.book.now) (view_of root.new.pass) task.now.value result }
 {
@@ -131,26 +134,6 @@ pub fn finish<'s, R: Threads, I: Source, O: Sink, T: Clock, H: Worker>(
             child.join(shared.rt),
         ),
         LinkState::ServedHere(done) => give_back(shared.lock, shared.book, root, task, done),
-        LinkState::Ended(report) => report,
-        LinkState::Joining => unreachable!(),
+        LinkState::Ended(_known) => unreachable!(),
     }
-}
-
-/// Finishes the link, and keeps its report in its place.
-pub fn settle<'s, R: Threads, I: Source + Drop, O: Sink + Drop, T: Clock + Drop, H: Worker + Drop>(
-    shared: &Shared<'s, R>,
-    root: &mut Root,
-    started: &mut StartedLink<I, O, T, H>,
-)
-    requires root { IsRootOf shared.now.lock.now root.old }
-    requires begun { IsUnder (TalksOver I.half O.half T.given H.shown H.may H.moves shared.now.book.now) shared.now.lock.now shared.now.book.now (view_of root.old.pass) started.old.task.value started.old.link_state }
-    ensures root { IsRootOf shared.now.lock.now root.new × (root.new.out + open_in started.old.link_state ≡ root.old.out) × (root.new.made ≡ root.old.made) }
-    ensures grown { Grows (view_of root.old.pass) (view_of root.new.pass) }
-    ensures begun { IsUnder (TalksOver I.half O.half T.given H.shown H.may H.moves shared.now.book.now) shared.now.lock.now shared.now.book.now (view_of root.new.pass) started.new.task.value started.new.link_state }
-    ensures task { started.new.task.value ≡ started.old.task.value }
-    ensures out { open_in started.new.link_state ≡ 0 }
-{
-    let link_state = mem::replace(&mut started.link_state, LinkState::Joining);
-    let report = finish(shared, root, &started.task, link_state);
-    started.link_state = LinkState::Ended(report);
 }

@@ -1,4 +1,4 @@
-//! What a server is told beforehand, and what it tells each connection.
+//! The plan of a server, and the setup of each connection.
 ghost use Rattle.std.specs.Prelude.{◌≡◌, ◌≤◌, ◌<◌, ◌%◌, pos, ◌<ℤ◌, length, List, IfOk};
 ghost use Rattle.mod_utf.specs.Utf.{utf};
 ghost use Rattle.wire_io.specs.declared.limits.TheConstants.{MAX_HOST_BYTES};
@@ -13,25 +13,28 @@ use sequence::Units;
 use std::alloc::{AllocError, Global};
 use wire_io::Link;
 
-/// How many connections a server accepts at most.
+/// The most connections that `Server::serve` accepts.
 pub const MAX_LINKS: u32 = 65_535;
 
-/// What a server is told beforehand.
+/// The greatest number of a connection: an event's has 32 bits, and 0 is the server's own.
+pub const LAST_NUMBER: u32 = 4_294_967_295;
+
+/// The plan that a server is given before it serves.
 #[derive(Drop)]
 pub struct ServePlan {
-    /// How many connections are accepted, at most [`MAX_LINKS`].
+    /// The number of connections that are accepted. `Server::serve` wants at most [`MAX_LINKS`], and `Server::host` any number.
     pub count: u32,
     /// The server's own host, as references name it.
     pub host: Units,
     /// The server's own port, as references name it.
     pub port: i32,
-    /// Whether clients may bind names.
+    /// True where clients may bind names.
     pub binding: bool,
     /// Words by chance, of which the identifiers of each connection are made.
     pub seed: [u64; 4],
 }
 
-/// What connection `by` is told beforehand, which comes over this link. It is refused only for want of memory.
+/// Returns the setup of connection `by`, which comes over this link. It fails only where there is no memory.
 pub fn setup_for<I, O, T>(
     alloc: Global,
     plan: &ServePlan,

@@ -1,4 +1,4 @@
-//! What the threads of a server share.
+//! The state that the threads of a server share.
 use crate::ended_links::EndedLinks;
 use crate::plan::ServePlan;
 use call_dispatch::Book;

@@ -1,3 +1,4 @@
+pub mod Idle
 pub mod Laws
 pub mod Log
 pub mod RefMap

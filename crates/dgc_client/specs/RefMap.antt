@@ -1,5 +1,5 @@
 -- References in the map in which they are found: those that were dropped stay there as gaps, until they are swept out.
-use Rattle.std.specs.Prelude.{ℤ, Bool, true, false, if◌then◌else◌, List, [], ◌∷◌, ◌||◌, int_le, Option, Some, None}
+use Rattle.std.specs.Prelude.{ℕ, zero, suc, ℤ, Bool, true, false, if◌then◌else◌, List, [], ◌∷◌, ◌||◌, int_le, IsTrue, Option, Some, None}
 use Rattle.std.specs.List.{list_any}
 use Rattle.object_ids.specs.declared.ids.ObjId.{ObjId}
 use Rattle.object_ids.specs.Same.{same_id}
@@ -45,3 +45,13 @@ lapsed r = record r { sure = false }
 abbrev pub sure_of : Option ClientRef → Bool
 sure_of (Some r) = r.sure
 sure_of None = false
+
+-- An entry wants no call while the client's time lasts: it is a gap, or its reference is sure.
+abbrev pub rests : Kept → Bool
+rests k = k.gone || k.sure
+
+-- There are so many entries, and the first so many want no call while the client's time lasts.
+abbrev pub AreSettled : ℕ → List (ObjId × Kept) → Type 0
+AreSettled zero es = Unit {0}
+AreSettled (suc n) [] = IsTrue false
+AreSettled (suc n) (e ∷ es) = IsTrue (rests e.1) × AreSettled n es

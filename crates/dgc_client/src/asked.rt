@@ -5,12 +5,13 @@ ghost use Rattle.object_ids.specs.declared.ids.ObjId.{ObjId};
 ghost use Rattle.object_ids.specs.Same.{same_id};
 ghost use Rattle.dgc_client.specs.Log.{asks_for, Dirty};
 ghost use Rattle.dgc_client.specs.SentMap.{dirties_in, is_asked};
-ghost use Rattle.dgc_client.specs.RefMap.{refs_in};
+ghost use Rattle.dgc_client.specs.RefMap.{refs_in, AreSettled};
 ghost use Rattle.dgc_client.specs.StandsForLog.{wants, ids_of};
 
 use crate::ref_map::{Kept, RefMap};
 use crate::sent_map::SentMap;
 use indexmap::IndexMap;
+use indexmap::map::Slice;
 use object_ids::{ObjId, ObjIds};
 use std::alloc::{AllocError, Global};
 
@@ -69,7 +70,7 @@ fn larger(a: &i64, b: &i64) -> i64
     if *a < *b { *b } else { *a }
 }
 
-/// Whether a dirty call asks for an object, with a number of at least this one.
+/// Returns whether a dirty call asks for an object, with a number of at least this one.
 pub fn is_asked(asked: &Asked, object: &ObjId, since: &i64) -> bool
     ensures { result ≡ is_asked asked.now object.now since.now }
 {
@@ -79,7 +80,7 @@ pub fn is_asked(asked: &Asked, object: &ObjId, since: &i64) -> bool
     }
 }
 
-/// Whether a reference of which this is kept has to be named, where the client's time is over or not.
+/// Returns whether a reference of which this is kept has to be named, where the client's time is over or not.
 fn is_wanting(over: bool, asked: &Asked, object: &ObjId, kept: &Kept) -> bool
     ensures { result ≡ (not kept.now.gone && not (not over && kept.now.sure)
         && not (is_asked asked.now object.now kept.now.since)) }
@@ -87,20 +88,37 @@ fn is_wanting(over: bool, asked: &Asked, object: &ObjId, kept: &Kept) -> bool
     !kept.gone && !(!over && kept.sure) && !is_asked(asked, object, &kept.since)
 }
 
-/// The objects that a dirty call has to name, where the client's time is over or not, and these are asked for already.
+/// Returns the entries that may want a call: all where the client's time is over, and otherwise those behind the settled ones.
+fn unsettled(over: bool, refs: &RefMap, settled: usize) -> Slice<'_, ObjId, Kept>
+    requires { AreSettled settled refs.now.entries }
+    ensures { (ys : List Dirty) → filter (wants over ys) (refs_in result)
+        ≡ filter (wants over ys) (refs_in refs.now.entries) }
+{
+    let entries = refs.as_slice();
+    if over {
+        return entries;
+    }
+    let (_settled, rest) = entries.split_at(settled);
+    rest
+}
+
+/// The objects that a dirty call has to name, where the client's time is over or not, and these are asked for already. It looks at no settled entry
+/// while the client's time lasts.
 pub fn wanting(
     alloc: Global,
     over: bool,
     refs: &RefMap,
+    settled: usize,
     asked: &Asked,
 ) -> Result<ObjIds, AllocError>
+    requires { AreSettled settled refs.now.entries }
     ensures { IfOk result (λ ids. (ys : List Dirty) →
         ((o : ObjId) (since : ℤ) → is_asked asked.now o since
         ≡ list_any (asks_for o since) ys) →
         ids ≡ ids_of (filter (wants over ys) (refs_in refs.now.entries))) }
 {
     let mut ids = ObjIds::new(alloc);
-    for (object, kept) in refs.iter() {
+    for (object, kept) in unsettled(over, refs, settled).iter() {
         let wanted = is_wanting(over, asked, object, kept);
         put_if(&mut ids, object, wanted)?;
     }

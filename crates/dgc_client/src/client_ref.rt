@@ -10,9 +10,9 @@ pub struct ClientRef {
     pub id: ObjId,
     /// The number that was the next one when the reference was registered.
     pub since: i64,
-    /// Whether the server is known to keep the object for this client while the client's time lasts.
+    /// True where the server is known to keep the object for this client while the client's time lasts.
     pub sure: bool,
-    /// Whether a dirty call that names the object failed since the reference was registered.
+    /// True where a dirty call that names the object failed since the reference was registered.
     pub strong: bool,
 }
 

@@ -19,14 +19,20 @@ use std::marker::Model;
 #[derive(Debug)]
 pub struct ClientRefs {
     kept: RefMap,
-    /// How many of what is kept are no gaps.
+    /// The number of entries that are no gaps.
     count: usize,
+    /// The number of first entries that are known to want no call while the client's time lasts.
+    settled: usize,
 }
 
 // Written out, so that whoever owns one has one call at each exit, and not the drop of each field.
 impl Drop for ClientRefs {
     fn drop(self) {
-        let ClientRefs { kept, count: _ } = self;
+        let ClientRefs {
+            kept,
+            count: _,
+            settled: _,
+        } = self;
         drop(kept);
     }
 }
@@ -35,14 +41,15 @@ impl Model for ClientRefs {
     ghost use Rattle.std.specs.Prelude.{◌≡◌, ◌≤◌, List, length};
     ghost use Rattle.dgc_client.specs.declared.limits.TheConstants.{MAX_REFS};
     ghost use Rattle.dgc_client.specs.declared.client_ref.ClientRef.{ClientRef};
-    ghost use Rattle.dgc_client.specs.RefMap.{refs_in};
+    ghost use Rattle.dgc_client.specs.RefMap.{refs_in, AreSettled};
 
     ghost Value = { List ClientRef };
 
     ghost view = { λ a. refs_in a.kept.entries };
 
     ghost invariant = { λ a.
-        (a.count ≡ length (refs_in a.kept.entries)) × (a.count ≤ MAX_REFS) };
+        (a.count ≡ length (refs_in a.kept.entries)) × (a.count ≤ MAX_REFS)
+        × AreSettled a.settled a.kept.entries };
 }
 
 impl ClientRefs {
@@ -53,10 +60,11 @@ impl ClientRefs {
         ClientRefs {
             kept: RefMap::new(alloc),
             count: 0,
+            settled: 0,
         }
     }
 
-    /// How many references there are, at most 16,384.
+    /// Returns the number of references, at most 16,384.
     pub fn len(&self) -> usize
         ensures value { result ≡ length self.now }
         ensures few { result ≤ MAX_REFS }
@@ -64,7 +72,7 @@ impl ClientRefs {
         self.count
     }
 
-    /// Whether there are none.
+    /// Returns whether there are none.
     pub fn is_empty(&self) -> bool
         ensures { IsTrue result ↔ (self.now ≡ []) }
     {
@@ -92,6 +100,7 @@ impl ClientRefs {
         ensures ok { OnOk result (self.new ≡ self.old ++ new_ref object.now since.now ∷ []) }
         ensures err { OnErr result (self.new ≡ self.old) }
     {
+        self.settled = self.settled.saturating_sub(1);
         ref_map::append(&mut self.kept, object, since)?;
         self.count += 1;
         Ok(())
@@ -107,6 +116,7 @@ impl ClientRefs {
         self.count -= 1;
         if self.kept.len() / 2 > self.count {
             ref_map::sweep(&mut self.kept);
+            self.settled = ref_map::settle(&self.kept, 0);
         }
     }
 
@@ -115,6 +125,7 @@ impl ClientRefs {
         ensures { self.new ≡ map (changed_among objects.now change.now) self.old }
     {
         ref_map::change_each(&mut self.kept, objects, change);
+        self.settled = ref_map::settle(&self.kept, self.settled);
     }
 
     /// Makes no reference sure, if the client's time is over. It takes no memory.
@@ -123,6 +134,7 @@ impl ClientRefs {
     {
         if over {
             ref_map::lapse(&mut self.kept);
+            self.settled = 0;
         }
     }
 
@@ -138,6 +150,6 @@ impl ClientRefs {
             ≡ list_any (asks_for o since) ys) →
             ids ≡ ids_of (filter (wants over ys) self.now)) }
     {
-        asked::wanting(alloc, over, &self.kept, asked)
+        asked::wanting(alloc, over, &self.kept, self.settled, asked)
     }
 }

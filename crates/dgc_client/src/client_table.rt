@@ -7,11 +7,12 @@ ghost use Rattle.dgc_client.specs.Log.{Registers, Drops, Dues, Answers, Fails, d
 ghost use Rattle.std.specs.Ordering.{int_eq};
 ghost use Rattle.dgc_client.specs.RefMap.{changed_among, has_id, new_ref, sure_of};
 ghost use Rattle.dgc_client.specs.SentMap.{dirty_at, AreOnce};
-ghost use Rattle.dgc_client.specs.StandsForLog.{StandsFor, ForEachLog, Notes, is_there, is_full_after, plan_after, is_spent_after, is_good_after, until_told, is_usable_after, refs_told, is_over, lapsed_if, renews, due_of, with_answer, IsSent};
+ghost use Rattle.dgc_client.specs.StandsForLog.{StandsFor, ForEachLog, Notes, is_there, is_full_after, plan_after, is_spent_after, is_good_after, until_told, is_usable_after, refs_told, is_over, lapsed_if, wants, ids_of, renews, due_of, with_answer, IsSent};
 
 use crate::asked;
 use crate::client_ref::ClientRef;
 use crate::client_refs::ClientRefs;
+use crate::idle::{self, Idle};
 use crate::limits::{LAST_NUMBER, MAX_REFS};
 use crate::plan::{ClientFault, Plan};
 use crate::ref_map::Change;
@@ -32,6 +33,8 @@ pub struct ClientTable {
     renew_at: u64,
     refs: ClientRefs,
     sent: SentMap,
+    /// Knowledge of the references since the last `due` for which no call was due.
+    idle: Idle,
 }
 
 // Written out, so that whoever owns one has one call at each exit, and not the drop of each field.
@@ -45,6 +48,7 @@ impl Drop for ClientTable {
             renew_at: _,
             refs,
             sent,
+            idle: _,
         } = self;
         drop(vmid);
         drop(refs);
@@ -53,6 +57,7 @@ impl Drop for ClientTable {
 }
 
 impl Model for ClientTable {
+    ghost use Rattle.dgc_client.specs.Idle.{IsIdle};
     ghost use Rattle.dgc_client.specs.SentMap.{dirties_in, AreEarly};
     ghost use Rattle.dgc_client.specs.StandsForLog.{Parts};
 
@@ -67,7 +72,8 @@ impl Model for ClientTable {
       sent = dirties_in a.sent.entries;
     } };
 
-    ghost invariant = { λ a. AreEarly (dirties_in a.sent.entries) };
+    ghost invariant = { λ a. AreEarly (dirties_in a.sent.entries)
+        × IsIdle a.idle (dirties_in a.sent.entries) a.refs };
 }
 
 impl ClientTable {
@@ -83,6 +89,7 @@ impl ClientTable {
             renew_at: 0,
             refs: ClientRefs::new(alloc),
             sent: SentMap::new(alloc),
+            idle: Idle::Unknown,
         }
     }
 
@@ -152,7 +159,7 @@ impl ClientTable {
         match self.objects_due(now)? {
             Some(objects) => self.send(objects, now),
             None => {
-                self.lapse(now);
+                self.rest(now);
                 Ok(None)
             }
         }
@@ -183,7 +190,7 @@ impl ClientTable {
         }
     }
 
-    /// Whether the reference to an object is usable at a moment: it is there and sure, and the client's time is not over.
+    /// Returns whether the reference to an object is usable at a moment. It is where it is there and sure, and the client's time is not over.
     pub fn usable(&self, object: ObjId, now: u64) -> bool
         ensures { ForEachLog self.now (λ client first log.
             result ≡ is_usable_after first log object now) }
@@ -219,14 +226,14 @@ impl ClientTable {
         self.refs.find(object)
     }
 
-    /// Whether the reference of an object is there.
+    /// Returns whether the reference of an object is there.
     fn is_there(&self, object: &ObjId) -> bool
         ensures { result ≡ is_some (find (has_id object.now) self.now.refs) }
     {
         self.find(object).is_some()
     }
 
-    /// Whether the reference of an object is there and sure.
+    /// Returns whether the reference of an object is there and sure.
     fn is_sure(&self, object: &ObjId) -> bool
         ensures { result ≡ sure_of (find (has_id object.now) self.now.refs) }
     {
@@ -236,14 +243,14 @@ impl ClientTable {
         }
     }
 
-    /// Whether as many references are there as can be.
+    /// Returns whether as many references are there as can be.
     fn is_full(&self) -> bool
         ensures { result ≡ nat_le MAX_REFS (length self.now.refs) }
     {
         MAX_REFS <= self.refs.len()
     }
 
-    /// Whether the client's time is over.
+    /// Returns whether the client's time is over.
     fn is_over(&self, now: u64) -> bool
         ensures { result ≡ is_over self.now now }
     {
@@ -259,6 +266,7 @@ impl ClientTable {
         }) }
         ensures err { OnErr result (self.new ≡ self.old) }
     {
+        self.idle = Idle::Unknown;
         self.refs.append(object, &self.next)
     }
 
@@ -282,6 +290,7 @@ impl ClientTable {
         }
         let ids = ids_of_one(self.alloc, object)?;
         let number = self.next;
+        self.idle = Idle::Unknown;
         self.refs.remove(object);
         self.next = number + 1;
         Ok(Some(Plan::Clean {
@@ -298,12 +307,31 @@ impl ClientTable {
     {
         let over = self.is_over(now);
         let renews = self.renews(now);
-        let asked = asked::asked_of(self.alloc, &self.sent)?;
-        let ids = self.refs.wanting(self.alloc, over, &asked)?;
+        let ids = self.wanting(over)?;
         Ok(due_names(ids, renews))
     }
 
-    /// Whether the lease is to be renewed.
+    /// The objects that a dirty call has to name, where the client's time is over or not.
+    fn wanting(&self, over: bool) -> Result<ObjIds, AllocError>
+        ensures { IfOk result (λ ids.
+            ids ≡ ids_of (filter (wants over self.now.sent) self.now.refs)) }
+    {
+        if self.is_idle(over) {
+            return Ok(ObjIds::new(self.alloc));
+        }
+        let asked = asked::asked_of(self.alloc, &self.sent)?;
+        self.refs.wanting(self.alloc, over, &asked)
+    }
+
+    /// Returns whether no reference is known to want a call, where the client's time is over or not.
+    fn is_idle(&self, over: bool) -> bool
+        ensures { result ≡ true → (filter (wants over self.now.sent) self.now.refs ≡ [])
+            × (lapsed_if over self.now.refs ≡ self.now.refs) }
+    {
+        idle::is_known(self.idle, over)
+    }
+
+    /// Returns whether the lease is to be renewed.
     fn renews(&self, now: u64) -> bool
         ensures value { result ≡ renews self.now now }
         ensures once { AreOnce self.now.sent }
@@ -332,10 +360,25 @@ impl ClientTable {
             objects,
             moment: now,
         };
+        self.idle = Idle::Unknown;
         sent_map::put(&mut self.sent, &number, call)?;
         self.lapse(now);
         self.next = number + 1;
         Ok(Some(Plan::Dirty { number, ids }))
+    }
+
+    /// Notes that no call is due. Where the client's time is over, no reference is sure any more.
+    fn rest(&mut self, now: u64)
+        requires { due_of self.old now ≡ None }
+        ensures { self.new
+            ≡ record self.old { refs = lapsed_if (is_over self.old now) self.old.refs } }
+    {
+        let over = self.is_over(now);
+        if self.is_idle(over) {
+            return;
+        }
+        self.refs.lapse_if(over);
+        self.idle = idle::known(over);
     }
 
     /// Makes no reference sure, where the client's time is over.
@@ -344,6 +387,7 @@ impl ClientTable {
             ≡ record self.old { refs = lapsed_if (is_over self.old now) self.old.refs } }
     {
         let over = self.is_over(now);
+        self.idle = Idle::Unknown;
         self.refs.lapse_if(over);
     }
 
@@ -356,6 +400,7 @@ impl ClientTable {
         ensures same { self.new ≡ record self.old { sent = self.new.sent } }
         ensures early { IfSome result (λ call. call.moment < END_OF_TIME) }
     {
+        self.idle = Idle::Unknown;
         sent_map::take(&mut self.sent, number)
     }
 
@@ -372,6 +417,7 @@ impl ClientTable {
             return false;
         }
         let over = self.is_over(now);
+        self.idle = Idle::Unknown;
         self.refs.lapse_if(over);
         let change = Change::Confirm { number: *number };
         self.refs.change_each(call.objects.as_slice(), &change);
@@ -386,6 +432,7 @@ impl ClientTable {
           refs = map (changed_among call.now.objects ChangeCases.Strengthen) self.old.refs;
         } }
     {
+        self.idle = Idle::Unknown;
         let change = Change::Strengthen;
         self.refs.change_each(call.objects.as_slice(), &change);
     }

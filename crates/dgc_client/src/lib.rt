@@ -1,3 +1,4 @@
+// SPDX-License-Identifier: Apache-2.0 OR MIT
 //! A client's table of the references that it holds at one server, and the lease calls that keep them
 //! (Java RMI Specification, chapter 9).
 #![tactic(auto)]
@@ -6,6 +7,7 @@ mod asked;
 mod client_ref;
 mod client_refs;
 mod client_table;
+mod idle;
 pub mod laws;
 pub mod limits;
 mod plan;

@@ -1,9 +1,9 @@
 //! The lease calls that a client is to send.
-ghost use Rattle.std.specs.Prelude.{◌≡◌};
+ghost use Rattle.std.specs.Prelude.{◌≡◌, IfOk};
 ghost use Rattle.dgc_client.specs.declared.plan.ClientFault.TheVariants.{OutOfMemory};
 
 use object_ids::ObjIds;
-use std::alloc::AllocError;
+use std::alloc::{AllocError, Global};
 use thiserror::Error;
 
 /// A lease call that the client is to send (Java RMI Specification, section 9.1).
@@ -22,9 +22,32 @@ pub enum Plan {
         number: i64,
         /// The object that it names.
         ids: ObjIds,
-        /// Whether the server is to remember the number, since a dirty call that named the object failed and may still come.
+        /// True where the server is to remember the number, since a dirty call that named the object failed and may still come.
         strong: bool,
     },
+}
+
+impl Plan {
+    /// A copy, which equals its source. It is refused only for want of memory.
+    pub fn copy(&self, alloc: Global) -> Result<Plan, AllocError>
+        ensures { IfOk result (λ copy. copy ≡ self.now) }
+    {
+        match self {
+            Plan::Dirty { number, ids } => Ok(Plan::Dirty {
+                number: *number,
+                ids: ids.copy(alloc)?,
+            }),
+            Plan::Clean {
+                number,
+                ids,
+                strong,
+            } => Ok(Plan::Clean {
+                number: *number,
+                ids: ids.copy(alloc)?,
+                strong: *strong,
+            }),
+        }
+    }
 }
 
 /// Why a client's table refuses a call. The table is then as it was.

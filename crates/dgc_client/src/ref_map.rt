@@ -1,23 +1,23 @@
 //! The references in a map in which each is quickly found. One that is dropped leaves a gap, so that no other has to move.
-ghost use Rattle.std.specs.Prelude.{◌≡◌, ◌+◌, ◌++◌, ◌∷◌, [], None, not, length, filter, find, map, is_some, true, false, IfOk, OnOk, OnErr};
+ghost use Rattle.std.specs.Prelude.{◌≡◌, ℕ, ◌+◌, ◌-◌, ◌++◌, ◌∷◌, [], None, not, length, filter, find, map, is_some, true, false, IfOk, OnOk, OnErr};
 ghost use Rattle.object_ids.specs.declared.ids.ObjId.{ObjId};
-ghost use Rattle.dgc_client.specs.RefMap.{ref_at, shown, refs_in, has_id, new_ref, changed, changed_among, lapsed};
+ghost use Rattle.dgc_client.specs.RefMap.{ref_at, shown, refs_in, has_id, new_ref, changed, changed_among, lapsed, rests, AreSettled};
 
 use crate::client_ref::{ClientRef, RefList};
 use indexmap::IndexMap;
 use object_ids::ObjId;
 use std::alloc::{AllocError, Global};
 
-/// What is kept of a reference.
+/// The entry of a reference.
 #[derive(Clone, Copy, Debug)]
 pub struct Kept {
     /// The number that was the next one when the reference was registered.
     pub since: i64,
-    /// Whether it is sure.
+    /// True where it is sure.
     pub sure: bool,
-    /// Whether it is strong.
+    /// True where it is strong.
     pub strong: bool,
-    /// Whether the reference was dropped, so that this is a gap.
+    /// True where the reference was dropped, so that this is a gap.
     pub gone: bool,
 }
 
@@ -30,7 +30,7 @@ pub enum Change {
     Strengthen,
 }
 
-/// What is kept of the reference of each object, in the order of registration.
+/// The entry of each object's reference, in the order of registration.
 pub type RefMap = IndexMap<ObjId, Kept>;
 
 /// The reference of an object of which this is kept, if it is no gap.
@@ -65,13 +65,14 @@ pub fn append(refs: &mut RefMap, object: &ObjId, since: &i64) -> Result<(), Allo
     ensures ok { OnOk result (refs_in refs.new.entries
         ≡ refs_in refs.old.entries ++ new_ref object.now since.now ∷ []) }
     ensures err { OnErr result (refs_in refs.new.entries ≡ refs_in refs.old.entries) }
+    ensures settled { (n : ℕ) → AreSettled n refs.old.entries → AreSettled (n - 1) refs.new.entries }
 {
     refs.shift_remove(object);
     refs.insert(*object, new_kept(since))?;
     Ok(())
 }
 
-/// What is kept of a new reference.
+/// Returns the entry of a new reference.
 fn new_kept(since: &i64) -> Kept
     ensures { result ≡ record { since = since.now; sure = false; strong = false; gone = false } }
 {
@@ -89,6 +90,7 @@ pub fn remove(refs: &mut RefMap, object: &ObjId)
         ≡ filter (λ r. not (has_id object.now r)) (refs_in refs.old.entries) }
     ensures count { is_some (find (has_id object.now) (refs_in refs.old.entries)) ≡ true →
         length (refs_in refs.new.entries) + 1 ≡ length (refs_in refs.old.entries) }
+    ensures settled { (n : ℕ) → AreSettled n refs.old.entries → AreSettled n refs.new.entries }
 {
     if let Some(kept) = refs.get_mut(object) {
         *kept = gap(kept);
@@ -109,8 +111,9 @@ fn gap(kept: &Kept) -> Kept
 
 /// Makes a change to the references of these objects, each as often as it is named. It takes no memory.
 pub fn change_each(refs: &mut RefMap, objects: &[ObjId], change: &Change)
-    ensures { refs_in refs.new.entries
+    ensures refs { refs_in refs.new.entries
         ≡ map (changed_among objects.now change.now) (refs_in refs.old.entries) }
+    ensures settled { (n : ℕ) → AreSettled n refs.old.entries → AreSettled n refs.new.entries }
 {
     for object in objects {
         change_one(refs, object, change);
@@ -119,15 +122,16 @@ pub fn change_each(refs: &mut RefMap, objects: &[ObjId], change: &Change)
 
 /// Makes a change to the reference of an object, if it has one.
 fn change_one(refs: &mut RefMap, object: &ObjId, change: &Change)
-    ensures { refs_in refs.new.entries
+    ensures refs { refs_in refs.new.entries
         ≡ map (changed_among (object.now ∷ []) change.now) (refs_in refs.old.entries) }
+    ensures settled { (n : ℕ) → AreSettled n refs.old.entries → AreSettled n refs.new.entries }
 {
     if let Some(kept) = refs.get_mut(object) {
         *kept = with_change(kept, change);
     }
 }
 
-/// What is kept of a reference once a change was made to it.
+/// Returns the entry of a reference once a change was made to it.
 fn with_change(kept: &Kept, change: &Change) -> Kept
     ensures gone { result.gone ≡ kept.now.gone }
     ensures value { (o : ObjId) → ref_at o result ≡ changed change.now (ref_at o kept.now) }
@@ -172,6 +176,29 @@ pub fn sweep(refs: &mut RefMap)
             ensures { (result ≡ not kept.old.gone) × (kept.new ≡ kept.old) }
         { !kept.gone },
     );
+}
+
+/// Returns whether an entry wants no call while the client's time lasts: it is a gap, or sure.
+fn rests(kept: &Kept) -> bool
+    ensures { result ≡ rests kept.now }
+{
+    kept.gone || kept.sure
+}
+
+/// The number of the first entries that want no call while the client's time lasts. At least so many are known to want none.
+pub fn settle(refs: &RefMap, settled: usize) -> usize
+    requires { AreSettled settled refs.now.entries }
+    ensures { AreSettled result refs.now.entries }
+{
+    let entries = refs.as_slice();
+    let mut count = settled;
+    while let Some((_object, kept)) = entries.get_index(count) {
+        if !rests(kept) {
+            return count;
+        }
+        count += 1;
+    }
+    count
 }
 
 /// The references, in order.

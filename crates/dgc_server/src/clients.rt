@@ -222,7 +222,7 @@ impl Clients {
 
 // ---- the search
 
-/// Whether a client comes before the first of a chunk.
+/// Returns whether a client comes before the first of a chunk.
 fn is_before(client: &Vmid, chunk: &Chunk) -> bool
     requires { IsTrue (is_filled chunk.now) }
     ensures { (d : Entry) → result ≡ is_lt (client_cmp client.now (slice_index_or chunk.now.entries.items 0 d).client) }

@@ -1,4 +1,4 @@
-//! What a lease table keeps of one client.
+//! A lease table's record of one client.
 ghost use Rattle.std.specs.Prelude.{◌≡◌, ◌+◌, ◌<◌, ◌≤◌, ◌^◌, length, max, IsTrue, IfOk, OnOk, OnErr, true, if◌then◌else◌};
 ghost use Rattle.object_ids.specs.declared.ids.ObjId.{ObjId};
 ghost use Rattle.history.specs.Leases.{is_dirty_kind};
@@ -33,7 +33,7 @@ pub struct ClientEntry {
     kept: Box<Kept>,
 }
 
-/// What is kept of a client but for the end of its lease.
+/// The record of a client without the end of its lease.
 struct Kept {
     client: Vmid,
     objects: Marks,

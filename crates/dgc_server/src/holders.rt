@@ -66,7 +66,7 @@ pub struct Passed {
 /// The counts of each object.
 pub type Counts = IndexMap<ObjId, Count>;
 
-/// What is counted of an object that no client names.
+/// Returns the counts of an object that no client names: all are 0.
 fn no_count() -> Count
     ensures { result ≡ no_count }
 {
@@ -152,7 +152,7 @@ fn raised(count: Count, share: Share, hint: ClientHint) -> Count
     }
 }
 
-/// Whether the client counts at all.
+/// Returns whether the client counts at all.
 fn is_any(share: Share) -> bool
     ensures { result ≡ (share.holds || share.names) }
 {
@@ -186,7 +186,7 @@ pub fn shift(counts: &mut Counts, object: &ObjId, before: Share, after: Share, h
     put(counts, object, raised(rest, after, hint));
 }
 
-/// What the share of a client with these numbers loses as the tenure is forgotten.
+/// Returns the part that a client with these numbers loses in an object's counts as its tenure is forgotten.
 fn lost_share(numbers: &Packed, held: bool) -> Share
     ensures { result ≡ lost_share held numbers.now }
 {

@@ -1,4 +1,4 @@
-//! What changes in the clients as time passes.
+//! The changes that the passing of time makes to the clients.
 ghost use Rattle.std.specs.Prelude.{◌≡◌, ◌+◌, ◌<◌, ◌≤◌, ◌^◌, map, IsTrue};
 ghost use Rattle.std.specs.List.{list_all, AllByRecursion};
 ghost use Rattle.history.specs.declared.limits.TheConstants.{END_OF_TIME};

@@ -53,9 +53,9 @@ pub struct Leases {
     lease: u64,
     /// The clients at the greatest moment so far.
     clients: Clients,
-    /// How many clients hold each object at that moment, and how many name it.
+    /// For each object, the number of clients that hold it at that moment, and the number that name it.
     counts: Counts,
-    /// How many clients have time left at that moment, and how many pairs are remembered.
+    /// The number of clients that have time left at that moment, and the number of pairs that are remembered.
     sums: Sums,
 }
 
@@ -320,8 +320,8 @@ impl Leases {
         now.max(self.clients.moment())
     }
 
-    /// How many clients have time left at a moment that is no earlier than the greatest one, and how many pairs
-    /// are remembered. Where nothing is due it looks at no client.
+    /// Returns the number of clients that have time left at a moment, and the number of remembered pairs. The moment
+    /// is no earlier than the greatest one so far. Where nothing is due, it looks at no client.
     fn sums_by(&self, time: u64) -> Sums
         requires { self.now.moment ≤ time }
         ensures value { result ≡ sums_at time self.now.entries }

@@ -1,3 +1,4 @@
+// SPDX-License-Identifier: Apache-2.0 OR MIT
 //! The lease table of the distributed collector (Java RMI Specification, chapter 9): which client holds
 //! which object, and until when.
 #![tactic(auto)]

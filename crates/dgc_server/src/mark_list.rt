@@ -221,7 +221,7 @@ impl Marks {
     }
 }
 
-/// Whether a list of so many objects may take so many more.
+/// Returns whether a list of so many objects may take so many more.
 fn fits_list(len: usize, more: usize) -> bool {
     more <= MAX_LIST_LEN && len <= MAX_LIST_LEN - more
 }

@@ -47,7 +47,7 @@ pub fn fresh_count(alloc: Global, objects: &Marks, named: &[ObjId], left: bool) 
     }
 }
 
-/// How many of the named objects make no remembered pair, each counted once.
+/// Returns the number of the named objects that make no remembered pair, each counted once.
 fn fresh_one_by_one(objects: &Marks, named: &[ObjId], left: bool) -> usize
     ensures { result ≡ fresh_in left (object_entries objects.now.entries) named.now }
 {
@@ -60,7 +60,7 @@ fn fresh_one_by_one(objects: &Marks, named: &[ObjId], left: bool) -> usize
     count
 }
 
-/// Whether an object makes no remembered pair, and is not among those that follow it.
+/// Returns whether an object makes no remembered pair, and is not among those that follow it.
 fn is_fresh(objects: &Marks, object: &ObjId, following: &[ObjId], left: bool) -> bool
     ensures { let numbers = numbers_of (object_entries objects.now.entries) object.now in
         result ≡ (not (is_in object.now following.now) && not (is_remembered left numbers)) }
@@ -68,14 +68,15 @@ fn is_fresh(objects: &Marks, object: &ObjId, following: &[ObjId], left: bool) ->
     !is_among(following, object) && !objects.numbers_of(object).is_remembered(left)
 }
 
-/// Whether an object is among these.
+/// Returns whether an object is among these.
 fn is_among(objects: &[ObjId], object: &ObjId) -> bool
     ensures { result ≡ is_in object.now objects.now }
 {
     objects.iter().any(|other| equal(other, object))
 }
 
-/// How many of the named objects make no remembered pair, each counted once, from the last to the first.
+/// Returns the number of the named objects that make no remembered pair, each counted once. It counts from the last
+/// to the first.
 fn fresh_with_memory(
     alloc: Global,
     objects: &Marks,
@@ -158,7 +159,7 @@ fn room_wanted(objects: &Marks, named: &[ObjId], left: bool) -> usize
     }
 }
 
-/// How many of these objects are not there, each as often as it is named.
+/// Returns the number of these objects that are not there. It counts each as often as it is named.
 fn absent_count(objects: &Marks, named: &[ObjId]) -> usize
     ensures { result ≡ absent_in (object_entries objects.now.entries) named.now }
 {

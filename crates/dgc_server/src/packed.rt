@@ -105,7 +105,7 @@ impl Packed {
     }
 }
 
-/// Whether a number is there, and the number, 0 where it isn't.
+/// Returns true and the number where there is one, and false and 0 where there is none.
 fn split(number: Option<i64>) -> (bool, i64)
     ensures { number_if result.0 result.1 ≡ number }
 {

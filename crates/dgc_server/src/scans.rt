@@ -1,4 +1,4 @@
-//! What is asked of the clients, chunk by chunk where it is asked of all.
+//! Searches and sums over the clients. Those over all clients go chunk by chunk.
 ghost use Rattle.std.specs.Prelude.{◌≡◌, ◌<◌, ◌≤◌, ◌↔◌, length, filter, map, IfOk, IsTrue};
 ghost use Rattle.std.specs.List.{list_any, list_all, AllByRecursion};
 ghost use Rattle.history.specs.declared.limits.TheConstants.{MAX_CLIENTS, MAX_PAIRS};
@@ -106,7 +106,7 @@ pub fn rows(alloc: Global, clients: &Clients, time: u64) -> Result<LeaseList, Al
 
 // ---- one client
 
-/// Whether a client has time left.
+/// Returns whether a client has time left.
 fn is_leased(clients: &Clients, client: &Vmid, time: u64) -> bool
     requires { IsTrue (is_in_order clients.now.entries) }
     ensures { result ≡ has_time_left time (entry_of clients.now.entries client.now) }
@@ -117,7 +117,7 @@ fn is_leased(clients: &Clients, client: &Vmid, time: u64) -> bool
     }
 }
 
-/// How many clients have time left after a dirty of this one, where so many have now.
+/// Returns the number of clients that have time left after a dirty of this one, where so many have now.
 fn clients_after(clients: &Clients, client: &Vmid, time: u64, leased: usize) -> usize
     requires ordered { IsTrue (is_in_order clients.now.entries) }
     requires counted { leased ≡ length (filter (has_time_left time) clients.now.entries) }
@@ -143,7 +143,7 @@ pub fn is_past_clients(clients: &Clients, client: &Vmid, time: u64, leased: usiz
         && clients_after(clients, client, time, leased) as u64 > MAX_CLIENTS
 }
 
-/// How many pairs a call of this kind brings that were not remembered.
+/// Returns the number of pairs that a call of this kind brings and that were not remembered.
 fn fresh_pairs(
     alloc: Global,
     clients: &Clients,
@@ -165,7 +165,7 @@ fn fresh_pairs(
     }
 }
 
-/// How many pairs are remembered after a call of this kind, where so many are now.
+/// Returns the number of pairs that are remembered after a call of this kind, where so many are now.
 fn pairs_after(
     alloc: Global,
     clients: &Clients,

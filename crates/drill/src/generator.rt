@@ -2,7 +2,7 @@
 ghost use Rattle.std.specs.Prelude.{◌≡◌, ◌<◌, ◌^◌};
 ghost use Rattle.drill.specs.Generator.{next_state, drawn_with, choice_of, draws_after};
 
-/// What a round of a drill does.
+/// The action of a round of a drill.
 #[derive(Clone, Copy)]
 pub enum Choice {
     /// A call of the first object makes another one.
@@ -23,18 +23,18 @@ pub enum Choice {
     Pass,
 }
 
-/// What is drawn for a round, each number below 2^31, and the generator's state after it.
+/// The numbers that are drawn for a round, each below 2^31, and the generator's state after it.
 #[derive(Clone, Copy)]
 pub struct Draws {
-    /// How far the moment goes on.
+    /// The number that decides how far the moment goes on.
     pub steps: u64,
-    /// What the round does.
+    /// The action of the round.
     pub choice: Choice,
     /// Which client asks.
     pub client: u64,
     /// Which object is named.
     pub object: u64,
-    /// How late a number is.
+    /// The number that decides how late a number is.
     pub late: u64,
     /// The state afterwards.
     pub state: u64,
@@ -49,7 +49,7 @@ fn next_state(state: u64) -> u64
         .wrapping_add(1442695040888963407)
 }
 
-/// What is drawn with a state.
+/// Returns the number that is drawn with a state.
 fn drawn_with(state: u64) -> u64
     ensures value { result ≡ drawn_with state }
     ensures small { result < 2 ^ 31 }
@@ -73,7 +73,7 @@ fn choice_of(number: u64) -> Choice
     }
 }
 
-/// What is drawn after a state.
+/// Returns the numbers that are drawn after a state.
 #[tactic(auto, unfolding(crate::specs::Generator::draws_after))]
 pub fn draws_after(state: u64) -> Draws
     ensures drawn { result ≡ draws_after state }

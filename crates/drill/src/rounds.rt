@@ -23,7 +23,7 @@ fn uid_at(time: i64) -> Uid
     }
 }
 
-/// What a drill's space keeps to: leases of ten minutes, and five minutes for an acknowledgement.
+/// Returns the configuration of a drill's space: leases of ten minutes, and five minutes for an acknowledgement.
 pub fn drill_config() -> SpaceConfig
     ensures { result ≡ drill_config }
 {
@@ -215,7 +215,7 @@ fn put_round(
     }
 }
 
-/// How many objects were made after a round.
+/// Returns the number of objects that were made after a round.
 fn made_count_after(made: u64, choice: Choice) -> u64
     requires { made < 2 ^ 34 }
     ensures { result ≡ made_count_after made choice }

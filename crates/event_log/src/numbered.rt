@@ -6,10 +6,10 @@ use object_ids::Vmid;
 use sequence::Same;
 use std::alloc::{AllocError, Global};
 
-/// What a slot without a number holds. No value gets this number.
+/// The content of a slot without a number. No value gets this number.
 const FREE: u32 = 4_294_967_295;
 
-/// How many slots, one after the other, are looked at for a value's number.
+/// The number of slots, one after the other, that are searched for a value's number.
 const TRIES: u64 = 8;
 
 /// The least number of slots, where there are any.
@@ -78,7 +78,7 @@ impl<T: Hashed + Same + Drop> Numbered<T> {
         None
     }
 
-    /// Whether a value has this number.
+    /// Returns whether a value has this number.
     fn is_at(&self, number: u32, value: &T) -> bool
         ensures { IsTrue result → slice_get self.now.list.items number ≡ Some value.now }
     {

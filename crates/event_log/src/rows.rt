@@ -12,7 +12,7 @@ use object_ids::{ObjId, ObjIds, Uid, Vmid};
 use sequence::{Kinds, Same};
 use std::alloc::{AllocError, Global};
 
-/// What a row says beside its connection and its moment.
+/// The content of a row beside its connection and its moment.
 #[derive(Drop)]
 pub enum What {
     /// An Open.
@@ -83,14 +83,14 @@ pub struct Row {
     pub moment: u64,
     /// The number of the connection that asks.
     pub by: u32,
-    /// What it says beside these.
+    /// The rest of the event.
     pub what: What,
 }
 
 // A row takes no more than 48 bytes.
 const _: () = prove!(size_of::<Row>() <= 48);
 
-/// Whether an ask in a space is kept in its row alone.
+/// Returns whether a request in a space is kept in its row alone.
 pub(crate) fn is_plain(space: &Uid, ask: &Ask) -> bool
     ensures { IsTrue result ↔ IsPlain space.now ask.now }
 {
@@ -116,7 +116,7 @@ pub(crate) fn is_plain(space: &Uid, ask: &Ask) -> bool
     }
 }
 
-/// What the row of an ask says that it keeps alone.
+/// Returns the content of the row of a request that is kept in its row alone.
 fn plain_what(space: &Uid, ask: &Ask) -> What
     requires { IsPlain space.now ask.now }
     ensures row { (clients : List Client) → (names : List (List ℕ)) → (by moment : ℕ) → event_with space.now clients names by moment result ≡ record { by = by; moment = moment; ask = ask.now } }
@@ -226,7 +226,8 @@ fn number_of_client(clients: &Clients, ask: &Ask) -> Option<u32>
     }
 }
 
-/// What the row of a Dirty of the space's object of this number, or of none, says, where its client has that number.
+/// Returns the content of the row of a Dirty. It names the space's object of the number `object`, or none. Its client has
+/// the number `client`.
 fn dirty_what(client: u32, number: i64, asked: i64, object: Option<i64>) -> What
     ensures row { (space : Uid) → (clients : List Client) → (names : List (List ℕ)) → (by moment : ℕ) →
         event_with space clients names by moment result ≡ record { by = by; moment = moment; ask = DirtyAsk (client_at clients client) number asked (objects_of space object) } }
@@ -247,7 +248,8 @@ fn dirty_what(client: u32, number: i64, asked: i64, object: Option<i64>) -> What
     }
 }
 
-/// What the row of a Clean of the space's object of this number, or of none, says, where its client has that number.
+/// Returns the content of the row of a Clean. It names the space's object of the number `object`, or none. Its client has
+/// the number `client`.
 fn clean_what(client: u32, number: i64, strong: bool, object: Option<i64>) -> What
     ensures row { (space : Uid) → (clients : List Client) → (names : List (List ℕ)) → (by moment : ℕ) →
         event_with space clients names by moment result ≡ record { by = by; moment = moment; ask = CleanAsk (client_at clients client) number (objects_of space object) strong } }
@@ -268,7 +270,8 @@ fn clean_what(client: u32, number: i64, strong: bool, object: Option<i64>) -> Wh
     }
 }
 
-/// What the row of a call of the collector of the space's object of this number, or of none, says, where its client has that number.
+/// Returns the content of the row of a call of the collector. It names the space's object of the number `object`, or none.
+/// Its client has the number `client`.
 fn call_what(space: &Uid, client: u32, object: Option<i64>, ask: &Ask) -> What
     requires { IsOfFew space.now object ask.now }
     ensures row { (clients : List Client) → (names : List (List ℕ)) → (by moment : ℕ) → slice_get clients client ≡ client_of ask.now →
@@ -403,7 +406,7 @@ fn add_caller(clients: &mut Clients, number: u32, ask: Ask)
     }
 }
 
-/// Whether it is a Lookup.
+/// Returns whether the request is a Lookup.
 fn is_lookup(ask: &Ask) -> bool
     ensures { IsTrue result ↔ IsSome (name_looked_up ask.now) }
 {
@@ -431,7 +434,7 @@ fn looked_up_in(ask: Ask) -> Option<Name>
     }
 }
 
-/// What the row of a Lookup says, where its name has that number.
+/// Returns the content of the row of a Lookup, where its name has the number `name`.
 fn lookup_what(name: u32, ask: &Ask) -> What
     requires { IsSome (name_looked_up ask.now) }
     ensures row { (space : Uid) → (clients : List Client) → (names : List (List ℕ)) → (by moment : ℕ) → slice_get names name ≡ name_looked_up ask.now →

@@ -64,7 +64,7 @@ impl SpaceEvents {
         SpaceEvents { kept }
     }
 
-    /// How many events there are.
+    /// Returns the number of events.
     pub fn len(&self) -> usize
         ensures { result ≡ length self.now.items }
     {
@@ -74,7 +74,7 @@ impl SpaceEvents {
         }
     }
 
-    /// Whether there are none.
+    /// Returns whether there are no events.
     pub fn is_empty(&self) -> bool
         ensures { IsTrue result ↔ (self.now.items ≡ []) }
     {

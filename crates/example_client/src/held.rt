@@ -1,4 +1,4 @@
-//! What a client has of one server: a session with it, and a table of the objects that it holds there.
+//! A client's session with one server, and its table of the objects that it holds there.
 use crate::stop::Stop;
 use class_desc::{Item, Items, TypeCode};
 use dgc_client::{ClientTable, MAX_GRANTED_MS, Plan};
@@ -18,7 +18,7 @@ const GREET: &[u8] = b"greet(JLjava/lang/String;)Ljava/lang/String;";
 /// For how many milliseconds a lease is asked for. The server may grant less.
 const ASKED_MS: i64 = 600_000;
 
-/// A session with one server, the clock of its link, and the table of what is held there.
+/// The duration of a lease that a dirty call asks for, in milliseconds. The server may grant less.
 pub struct Held<D: Dialer> {
     session: Session<D::In, D::Out>,
     clock: D::Ticks,

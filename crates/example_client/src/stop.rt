@@ -1,4 +1,4 @@
-//! Why the client goes no further.
+//! The causes for which the client goes no further.
 use dgc_client::ClientFault;
 use java_shapes::ShapeFault;
 use method_hash::MethodFault;
@@ -7,7 +7,7 @@ use ser_values::BuildFault;
 use std::alloc::AllocError;
 use std::io;
 
-/// Why the client goes no further.
+/// A cause for which the client goes no further.
 #[derive(Debug)]
 pub enum Stop {
     /// No link was given.

@@ -1,3 +1,4 @@
+// SPDX-License-Identifier: Apache-2.0 OR MIT
 //! The export table: which objects a space has exported, what keeps each of them, and when each is
 //! withdrawn (Java RMI Specification, chapter 9).
 #![tactic(auto)]

@@ -16,9 +16,9 @@ use std::marker::Model;
 /// list are gaps, they are closed. Contracts see it as `RowsHeld`.
 pub struct RowTable {
     slots: Vec<Slot>,
-    /// How many objects were ever added.
+    /// The number of objects that were ever added.
     added: u64,
-    /// How many of the slots are gaps.
+    /// The number of slots that are gaps.
     gaps: usize,
 }
 

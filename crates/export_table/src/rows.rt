@@ -80,7 +80,7 @@ impl Export {
         self.id.number < id.number
     }
 
-    /// Whether it was added pinned, a pin stands or a call of it runs.
+    /// Returns whether the object was added pinned, has a pin, or has a running call.
     fn is_pinned(&self) -> bool
         ensures { result ≡ is_pinned self.now }
     {

@@ -63,7 +63,7 @@ impl Slot {
         }
     }
 
-    /// Whether its object is about to go.
+    /// Returns whether the slot's object is about to go.
     fn is_leaving(&self) -> bool
         ensures { result ≡ is_leaving self.now }
     {

@@ -18,11 +18,11 @@ use std::marker::Model;
 /// The references that await their acknowledgement, the last listed last. Contracts see it as a `WaitTable`.
 pub struct WaitList {
     queue: WaitQueue,
-    /// How many there are of each object.
+    /// The number of waits of each object.
     counts: Counts,
     /// Which there are.
     references: References,
-    /// How many there are of each return.
+    /// The number of waits of each return.
     returns: Returns,
     /// So many more can be listed without memory.
     room: usize,

@@ -11,11 +11,11 @@ use std::marker::Model;
 /// than half of the list is gone so, the others are moved to the front. Contracts see it as a `WaitTable`.
 pub struct WaitQueue {
     waits: Vec<Wait>,
-    /// How many waits at the front are gone.
+    /// The number of waits at the front that are gone.
     gone: usize,
     /// None of the others ends before this moment.
     next: u64,
-    /// Whether of the others none ends before one that was listed earlier.
+    /// True where none of the others ends before one that was listed earlier.
     rising: bool,
 }
 

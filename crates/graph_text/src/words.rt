@@ -10,7 +10,7 @@ use sequence::{ByteList, Units};
 use ser_values::{Value, Values};
 use std::alloc::AllocError;
 
-/// What has a text of one word.
+/// A value that has a text of one word.
 pub(crate) trait Shown {
     /// The text.
     ghost text: { Self → List ℕ };
@@ -206,6 +206,14 @@ impl Shown for Value {
             Value::Ref(slot) => slot.put(out),
         }
     }
+}
+
+/// Appends a value: a number in decimals, a char as its number, `true` or `false`, a float or a double as `x:` and its bits in hexadecimal, a reference
+/// as in the lines of a graph.
+pub fn put_value(out: &mut ByteList, value: &Value) -> Result<(), AllocError>
+    ensures { OnOk result (out.new ≡ out.old ++ value_text value.now) }
+{
+    value.put(out)
 }
 
 impl Shown for Values {

@@ -1,4 +1,4 @@
-//! What a space is asked.
+//! The requests to a space.
 ghost use Rattle.std.specs.Prelude.{◌≡◌, ◌≤◌, ◌^◌, ◌↔◌, false, IfOk, IsTrue};
 ghost use Rattle.history.specs.Asks.{has_lists};
 ghost use Rattle.history.specs.Limits as limit_words;
@@ -9,21 +9,22 @@ use object_ids::{ObjId, ObjIds, Uid, Vmid};
 use sequence::{Kinds, Same, Sequence, TryCopy};
 use std::alloc::{AllocError, Global};
 
-/// What a space keeps to from its first event on.
+/// The configuration that a space has from its first event on.
 #[derive(Clone, Copy, Debug, PartialEq, Eq)]
 pub struct SpaceConfig {
     /// The configured lease, from 1 to 2^40 milliseconds: the longest that is granted, and the one that is granted to a
     /// dirty call that asks for more or for less than 1.
     pub lease_ms: u64,
-    /// How long a returned reference awaits its acknowledgement, from 1 to 2^40 milliseconds.
+    /// The time for which a returned reference awaits its acknowledgement, from 1 to 2^40 milliseconds.
     pub ack_ms: u64,
     /// The identifier of the object space. Its objects have it beside their number.
     pub uid: Uid,
-    /// Whether the space keeps its events, so that its journal and its outline can be read. Otherwise they exist in proofs alone.
+    /// True where the space keeps its events, so that its journal and its outline can be read. Otherwise they exist
+    /// in proofs alone.
     pub stored: bool,
 }
 
-/// What a space is asked.
+/// A request to a space.
 #[derive(Debug, Drop)]
 pub enum Ask {
     /// Export an object of this kind. A pinned one is kept for good.
@@ -97,7 +98,7 @@ pub struct Event {
     pub by: u32,
     /// The moment that was handed in, in milliseconds, below 2^62. It may lie before an earlier one.
     pub moment: u64,
-    /// What is asked.
+    /// The request.
     pub ask: Ask,
 }
 
@@ -106,7 +107,7 @@ pub type EventList = Sequence<Event>;
 
 // ---- units, beginnings and ends
 
-/// How many units an event has.
+/// Returns the number of units of an event.
 pub fn units_of(ask: &Ask) -> u64
     ensures value { result ≡ limit_words.units_of ask.now }
     ensures bound { result ≤ 2 ^ 63 }
@@ -134,7 +135,7 @@ pub fn units_of(ask: &Ask) -> u64
     }
 }
 
-/// Whether an ask begins a call.
+/// Returns whether a request begins a call.
 pub fn is_begin(ask: &Ask) -> bool
     ensures { result ≡ limit_words.is_begin ask.now }
 {
@@ -144,7 +145,7 @@ pub fn is_begin(ask: &Ask) -> bool
     }
 }
 
-/// Whether an ask ends a call, by a return or without one.
+/// Returns whether a request ends a call, by a return or without one.
 pub fn is_end(ask: &Ask) -> bool
     ensures { result ≡ limit_words.is_end ask.now }
 {
@@ -160,7 +161,7 @@ pub fn is_end(ask: &Ask) -> bool
     }
 }
 
-/// Whether an ask ends a call without a return.
+/// Returns whether a request ends a call without a return.
 pub fn is_abandon(ask: &Ask) -> bool
     ensures { result ≡ reply_words.is_abandon ask.now }
 {
@@ -361,7 +362,7 @@ fn is_clean(ask: &Ask, client: &Vmid, number: i64, objects: &ObjIds, strong: boo
     }
 }
 
-/// Whether two asks without lists are the same.
+/// Returns whether two requests without lists are the same.
 fn same_without_lists(ask: &Ask, other: &Ask) -> bool
     requires { has_lists ask.now ≡ false }
     ensures { IsTrue result ↔ (ask.now ≡ other.now) }

@@ -4,14 +4,14 @@ ghost use Rattle.object_ids.specs.Same.{same_id, same_uid};
 
 use object_ids::{ObjId, Uid};
 
-/// Whether two identifiers are equal.
+/// Returns whether two identifiers are equal.
 pub fn equal_uids(a: Uid, b: Uid) -> bool
     ensures { result ≡ same_uid a b }
 {
     a.unique == b.unique && a.time == b.time && a.count == b.count
 }
 
-/// Whether two objects are equal.
+/// Returns whether two objects are equal.
 pub fn equal_ids(a: ObjId, b: ObjId) -> bool
     ensures { result ≡ same_id a b }
 {

@@ -1,4 +1,4 @@
-//! What the definitions of a history, which go by its newest place, say of whole histories.
+//! Laws of whole histories. They follow from the definitions, which go by a history's newest place.
 ghost use Rattle.std.specs.Prelude.{◌≡◌, ◌++◌, List};
 ghost use Rattle.history.specs.declared.asks.Event.{Event};
 ghost use Rattle.history.specs.declared.asks.SpaceConfig.{SpaceConfig};
@@ -41,7 +41,7 @@ pub fn a_name_stands_for_its_last_change()
     ensures order { (config : SpaceConfig) (events : List Event) → NamesInOrder config events }
 {}
 
-/// What a name stands for is exported as long as the name stands for it.
+/// An object is exported as long as a name stands for it.
 pub fn what_a_name_stands_for_is_exported()
     ensures { (config : SpaceConfig) (events : List Event) → NamedIsExported config events }
 {}
@@ -55,7 +55,7 @@ pub fn running_calls_are_begins_less_ends()
     ensures some { (config : SpaceConfig) (events : List Event) → RunningIsSome config events }
 {}
 
-/// What an event tells as gone was withdrawn after the last event that is no Abandon.
+/// An object that an event reports as gone was withdrawn after the last event that is no Abandon.
 pub fn what_is_gone_was_withdrawn_since_the_last_turn()
     ensures { (config : SpaceConfig) (events : List Event) (e : Event) → GoneSinceLast config events e }
 {}

@@ -1,3 +1,4 @@
+// SPDX-License-Identifier: Apache-2.0 OR MIT
 //! The history of a space of exported objects: what it is asked, what it answers, and what the
 //! distributed collector makes of the whole list of events (Java RMI Specification, chapters 6, 9 and 10).
 #![tactic(auto)]

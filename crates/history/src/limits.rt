@@ -78,7 +78,8 @@ fn one_if(test: bool) -> u128
     if test { 1 } else { 0 }
 }
 
-/// Whether so many units, and one more if a call starts, pass a limit, and one more if a call ends.
+/// Returns whether the units used pass a limit. A call that starts adds one to the units, and a call that ends adds
+/// one to the limit.
 pub fn is_past(limit: u64, used: u128, starts: bool, ends: bool) -> bool
     requires { used < 2 ^ 127 }
     ensures { result ≡ nat_lt (limit + (if ends then 1 else 0)) (used + (if starts then 1 else 0)) }

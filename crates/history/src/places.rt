@@ -1,4 +1,4 @@
-//! What is said of the places of a history.
+//! Facts about the places of a history.
 ghost use Rattle.std.specs.Prelude.{◌≡◌, ◌<◌};
 ghost use Rattle.history.specs.Places as words;
 ghost use Rattle.history.specs.declared.limits.TheConstants.{END_OF_OBJECT_COUNT};
@@ -15,7 +15,7 @@ pub struct Exported {
     pub id: ObjId,
     /// Its kind, a number of its maker's.
     pub kind: u32,
-    /// Whether it was opened pinned.
+    /// True where the object was opened pinned.
     pub pinned: bool,
 }
 
@@ -58,11 +58,11 @@ pub struct Place {
     pub moment: u64,
     /// Its event.
     pub event: Event,
-    /// Whether the event is effective.
+    /// True where the event is effective.
     pub effective: bool,
     /// The objects of the table before it, by rising number.
     pub table_before: ExportedList,
-    /// What the name in its ask stands for before it.
+    /// The object for which the name in its request stands before it.
     pub name_stood_for: Option<ObjId>,
     /// The objects that it exports, by rising number.
     pub exported_here: ExportedList,

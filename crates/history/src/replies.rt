@@ -1,11 +1,11 @@
-//! What a space answers.
+//! The answers of a space.
 ghost use Rattle.std.specs.Prelude.{◌≡◌, IfOk};
 
 use object_ids::{FullKind, ObjId, ObjIds};
 use sequence::{NameList, Same, TryCopy};
 use std::alloc::{AllocError, AllocFailed, Global};
 
-/// What an event is answered.
+/// The reply to an event.
 #[derive(Debug, Drop)]
 pub enum Reply {
     /// To an Open: the new object.
@@ -41,7 +41,7 @@ pub enum Reply {
 pub struct Turn {
     /// The event's place in the history, from 0.
     pub place: u64,
-    /// What the event is answered.
+    /// The reply to the event.
     pub reply: Reply,
     /// The objects withdrawn after the last event that is no Abandon, this event included, in order of withdrawal.
     pub gone: ObjIds,

@@ -49,7 +49,7 @@ pub fn returned_references(alloc: Global, p: &Place) -> Result<Vec<Returned>, Al
     }
 }
 
-/// Whether a place returns a reference.
+/// Returns whether a place returns a reference.
 fn returns(alloc: Global, r: &Returned, p: &Place) -> Result<bool, AllocError>
     ensures { IfOk result (λ found. found ≡ words.returns r.now p.now) }
 {
@@ -85,7 +85,7 @@ fn until_of(alloc: Global, ack: u64, places: &[Place], r: &Returned) -> Result<u
     }
 }
 
-/// Whether a reference awaits its acknowledgement at a moment.
+/// Returns whether a reference awaits its acknowledgement at a moment.
 #[tactic(auto, unfolding(history::specs::Awaiting::awaits))]
 pub fn awaits(
     alloc: Global,
@@ -175,7 +175,7 @@ pub fn awaiting_references(
     each_once(alloc, left.as_slice())
 }
 
-/// Whether some reference to an object awaits at a moment.
+/// Returns whether some reference to an object awaits at a moment.
 #[tactic(auto, unfolding(history::specs::Awaiting::is_awaited))]
 pub fn is_awaited(
     alloc: Global,

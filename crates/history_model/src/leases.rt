@@ -66,7 +66,7 @@ pub fn lease_end(lease: u64, own: &[Call]) -> u128
     }
 }
 
-/// Whether the client has time left at a moment.
+/// Returns whether the client has time left at a moment.
 pub fn has_time_left(lease: u64, time: u64, own: &[Call]) -> bool
     ensures { result ≡ words.has_time_left lease time own.now }
 {
@@ -156,7 +156,7 @@ fn is_highest(x: &Call, calls: &[Call]) -> bool
     !some_is_higher(x, calls)
 }
 
-/// Whether the highest of some calls is a dirty.
+/// Returns whether the highest of some calls is a dirty.
 #[tactic(auto, unfolding(history::specs::Leases::highest_is_dirty))]
 pub fn highest_is_dirty(calls: &[Call]) -> bool
     ensures { result ≡ words.highest_is_dirty calls.now }
@@ -167,7 +167,7 @@ pub fn highest_is_dirty(calls: &[Call]) -> bool
         .any(|x| is_dirty(x))
 }
 
-/// Whether the client holds an object at a moment.
+/// Returns whether the client holds an object at a moment.
 #[tactic(auto, unfolding(history::specs::Leases::holds))]
 pub fn holds(
     alloc: Global,
@@ -188,7 +188,7 @@ fn some_name(object: ObjId, calls: &[Call]) -> bool
     calls.iter().any(|x| is_naming(object, x))
 }
 
-/// Whether the client's pair with an object is remembered at a moment.
+/// Returns whether the client's pair with an object is remembered at a moment.
 #[tactic(auto, unfolding(history::specs::Leases::is_remembered))]
 pub fn is_remembered(
     alloc: Global,
@@ -279,7 +279,7 @@ pub fn clients(alloc: Global, calls: &[Call]) -> Result<Vec<Vmid>, AllocError>
     }
 }
 
-/// Whether a client has time left at a moment.
+/// Returns whether a client has time left at a moment.
 fn client_has_time(
     alloc: Global,
     lease: u64,
@@ -331,7 +331,7 @@ pub fn clients_with_time_left(
     with_time_left(alloc, lease, time, calls, all.as_slice())
 }
 
-/// Whether one of some clients holds an object at a moment.
+/// Returns whether one of some clients holds an object at a moment.
 fn some_hold(
     alloc: Global,
     lease: u64,
@@ -354,7 +354,7 @@ fn some_hold(
     }
 }
 
-/// Whether some client holds an object at a moment.
+/// Returns whether some client holds an object at a moment.
 #[tactic(auto, unfolding(history::specs::Leases::is_held))]
 pub fn is_held(
     alloc: Global,

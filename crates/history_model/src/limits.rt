@@ -91,7 +91,7 @@ pub fn reserved_units(places: &[Place]) -> usize
     started_count(places).saturating_sub(ended_count(places))
 }
 
-/// Whether the history is full for an event.
+/// Returns whether the history is full for an event.
 #[tactic(auto, unfolding(history::specs::Limits::is_full, history::specs::Table::place_of))]
 fn is_full(
     alloc: Global,
@@ -109,7 +109,7 @@ fn is_full(
     Ok(is_past(limit, used, starts, ends))
 }
 
-/// Whether an event starts a call where so many run already.
+/// Returns whether an event starts a call where `limit` or more calls run already.
 #[tactic(auto, unfolding(history::specs::Limits::starts_too_many, history::specs::Table::place_of))]
 fn starts_too_many(
     alloc: Global,
@@ -126,7 +126,7 @@ fn starts_too_many(
 
 // ---- entries
 
-/// How many objects an event exports.
+/// Returns the number of objects that an event exports.
 fn exported_by(
     alloc: Global,
     config: &SpaceConfig,
@@ -140,7 +140,7 @@ fn exported_by(
     Ok(p.exported_here.as_slice().len())
 }
 
-/// How many exported objects there are with those that an event adds.
+/// Returns the number of exported objects, with those that an event adds.
 #[tactic(auto, unfolding(history::specs::Limits::exports_with_event))]
 fn exports_with_event(
     alloc: Global,
@@ -170,7 +170,7 @@ fn moment_and_returned(
     Ok((p.moment, new))
 }
 
-/// How many references await with those that an event returns.
+/// Returns the number of references that await, with those that an event returns.
 #[tactic(auto, unfolding(history::specs::Limits::awaiting_with_event))]
 fn awaiting_with_event(
     alloc: Global,
@@ -259,7 +259,7 @@ fn clients_left(
     Ok(left)
 }
 
-/// How many clients have time left with the one that an event brings.
+/// Returns the number of clients that have time left, with the one that an event brings.
 #[tactic(auto, unfolding(history::specs::Limits::clients_with_event))]
 fn clients_with_event(
     alloc: Global,
@@ -352,7 +352,7 @@ fn pairs_of_event(
     pairs_brought(alloc, config.lease_ms, calls, call)
 }
 
-/// How many pairs are remembered with those that an event brings.
+/// Returns the number of remembered pairs, with those that an event brings.
 #[tactic(auto, unfolding(history::specs::Limits::pairs_with_event))]
 fn pairs_with_event(
     alloc: Global,
@@ -412,7 +412,7 @@ fn with_bound(
     Ok(more)
 }
 
-/// How many names stand for something with the one that an event binds.
+/// Returns the number of names that stand for something, with the one that an event binds.
 #[tactic(auto, unfolding(history::specs::Limits::names_with_event, history::specs::Table::place_of))]
 fn names_with_event(
     alloc: Global,

@@ -10,7 +10,7 @@ use object_ids::ObjId;
 use sequence::Units;
 use std::alloc::{AllocError, Global};
 
-/// The name in an ask.
+/// The name in a request.
 pub fn name_in(ask: &Ask) -> Option<&Name>
     ensures { option_copied result ≡ words.name_in ask.now }
 {
@@ -23,7 +23,7 @@ pub fn name_in(ask: &Ask) -> Option<&Name>
     }
 }
 
-/// The name that an ask binds.
+/// The name that a request binds.
 pub fn name_bound(ask: &Ask) -> Option<&Name>
     ensures { option_copied result ≡ words.name_bound ask.now }
 {
@@ -75,7 +75,7 @@ fn changes_name(units: &[u16], p: &Place) -> bool
     p.effective && (is_bind_of(units, &p.event.ask) || is_unbind_of(units, &p.event.ask))
 }
 
-/// What a name stands for.
+/// Returns the object that a name stands for, or none.
 #[tactic(auto, unfolding(history::specs::Names::stands_for))]
 pub fn stands_for(places: &[Place], units: &[u16]) -> Option<ObjId>
     ensures { result ≡ words.stands_for places.now units.now }
@@ -160,7 +160,7 @@ fn is_name_of(places: &[Place], object: ObjId, units: &Units) -> bool
     }
 }
 
-/// Whether some name stands for an object.
+/// Returns whether some name stands for an object.
 #[tactic(auto, unfolding(history::specs::Names::is_named))]
 pub fn is_named(alloc: Global, places: &[Place], object: ObjId) -> Result<bool, AllocError>
     ensures { IfOk result (λ named. named ≡ words.is_named places.now object) }

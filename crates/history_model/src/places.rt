@@ -10,7 +10,7 @@ use history::{Exported, Place};
 use object_ids::{ObjId, Uid};
 use std::alloc::{AllocError, Global};
 
-/// Whether an object is among these.
+/// Returns whether an object is among these.
 pub fn has(objects: &[Exported], object: ObjId) -> bool
     ensures { result ≡ words.has objects.now object }
 {
@@ -59,7 +59,7 @@ pub fn ever_exported(alloc: Global, places: &[Place]) -> Result<Vec<Exported>, A
     }
 }
 
-/// How many objects were ever exported. It is refused only for want of memory.
+/// Returns the number of objects that were ever exported. It fails only where there is no memory.
 #[tactic(auto, using(crate::proofs::ModelSteps::next_steps))]
 pub fn exported_count(alloc: Global, places: &[Place]) -> Result<u64, AllocError>
     ensures value { IfOk result (λ k. k ≡ words.exported_count places.now) }

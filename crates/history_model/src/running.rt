@@ -42,7 +42,7 @@ fn ends_call(by: u32, object: ObjId, p: &Place) -> bool
     p.effective && p.event.by == by && is_end_of(object, &p.event.ask)
 }
 
-/// How many calls of an object a connection runs.
+/// Returns the number of calls of an object that a connection runs.
 #[tactic(auto, unfolding(history::specs::Running::running_calls_by))]
 pub fn running_calls_by(places: &[Place], by: u32, object: ObjId) -> usize
     ensures value { result ≡ words.running_calls_by places.now by object }
@@ -72,7 +72,7 @@ fn count_after(begins: bool, ends: bool, runs: usize) -> usize
     }
 }
 
-/// How many calls of an object all connections run.
+/// Returns the number of calls of an object that all connections run.
 #[tactic(auto, unfolding(history::specs::Running::running_calls))]
 pub fn running_calls(places: &[Place], object: ObjId) -> usize
     ensures value { result ≡ words.running_calls places.now object }
@@ -89,7 +89,7 @@ pub fn running_calls(places: &[Place], object: ObjId) -> usize
     }
 }
 
-/// Whether some connection runs a call of an object.
+/// Returns whether some connection runs a call of an object.
 #[tactic(auto, unfolding(history::specs::Running::is_running))]
 pub fn is_running(places: &[Place], object: ObjId) -> bool
     ensures { result ≡ words.is_running places.now object }

@@ -5,21 +5,21 @@ ghost use Rattle.object_ids.specs.Same.{same_bytes, same_client};
 use history::equality::equal_uids;
 use object_ids::Vmid;
 
-/// Whether two addresses are equal.
+/// Returns whether two addresses are equal.
 pub fn equal_bytes(a: &[u8], b: &[u8]) -> bool
     ensures { result ≡ same_bytes a.now b.now }
 {
     a == b
 }
 
-/// Whether two names are equal.
+/// Returns whether two names are equal.
 pub fn equal_units(a: &[u16], b: &[u16]) -> bool
     ensures { result ≡ same_bytes a.now b.now }
 {
     a == b
 }
 
-/// Whether two clients are equal.
+/// Returns whether two clients are equal.
 pub fn equal_clients(a: &Vmid, b: &Vmid) -> bool
     ensures { result ≡ same_client a.now b.now }
 {

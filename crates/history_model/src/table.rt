@@ -17,7 +17,7 @@ use std::alloc::{AllocError, Global};
 
 // ---- lease calls
 
-/// The lease call of an ask, with those of its objects that are among the exported ones.
+/// The lease call of a request, with those of its objects that are among the exported ones.
 pub fn call_with(
     alloc: Global,
     exported: &[Exported],
@@ -72,7 +72,7 @@ fn in_front(call: Option<Call>, calls: Vec<Call>) -> Result<Vec<Call>, AllocErro
     Ok(more)
 }
 
-/// The lease call of a place, if its ask is one.
+/// The lease call of a place, if its request is one.
 fn call_at(alloc: Global, p: &Place, before: &[Place]) -> Result<Option<Call>, AllocError>
     ensures { IfOk result (λ call. option_to_list call ≡ call_words.call_with (place_words.has (place_words.ever_exported before.now)) p.now.moment p.now.event.ask) }
 {
@@ -97,7 +97,8 @@ pub fn lease_calls(alloc: Global, places: &[Place]) -> Result<Vec<Call>, AllocEr
 
 // ---- the table
 
-/// Whether an object is kept locally: it was opened pinned, a name stands for it, or some connection runs a call of it.
+/// Returns whether an object is kept locally: it was opened pinned, a name stands for it, or some connection runs a
+/// call of it.
 #[tactic(auto, unfolding(history::specs::Table::is_kept_locally))]
 pub fn is_kept_locally(alloc: Global, places: &[Place], x: &Exported) -> Result<bool, AllocError>
     ensures { IfOk result (λ pinned. pinned ≡ words.is_kept_locally places.now x.now) }
@@ -106,7 +107,7 @@ pub fn is_kept_locally(alloc: Global, places: &[Place], x: &Exported) -> Result<
     Ok(x.pinned || named || is_running(places, x.id))
 }
 
-/// Whether an object is kept at the end of a history.
+/// Returns whether an object is kept at the end of a history.
 #[tactic(auto, unfolding(history::specs::Table::is_kept))]
 pub fn is_kept(
     alloc: Global,
@@ -166,14 +167,14 @@ pub fn table(
 
 // ---- what an event does
 
-/// What a name stands for after a history.
+/// Returns the object that a name stands for after a history, or none.
 pub fn stands(places: &[Place], name: &Name) -> Option<ObjId>
     ensures { result ≡ name_words.stands_for places.now name.now }
 {
     stands_for(places, name.units().as_slice())
 }
 
-/// Whether an ask of a connection is effective after a history.
+/// Returns whether a connection's request is effective after a history.
 #[tactic(auto, unfolding(history::specs::Table::is_effective))]
 pub fn is_effective(
     alloc: Global,
@@ -204,7 +205,7 @@ pub fn is_effective(
     })
 }
 
-/// The objects that an effective ask exports after a history.
+/// The objects that an effective request exports after a history.
 #[tactic(auto, unfolding(history::specs::Table::exports))]
 pub fn exports(
     alloc: Global,
@@ -227,7 +228,7 @@ pub fn exports(
     }
 }
 
-/// The objects to which an effective ask returns references after a history.
+/// The objects to which an effective request returns references after a history.
 #[tactic(auto, unfolding(history::specs::Table::returned_objects))]
 pub fn returned_objects(
     alloc: Global,
@@ -262,7 +263,7 @@ pub fn returned_objects(
     }
 }
 
-/// What the name in an ask stands for after a history.
+/// Returns the object that the name in a request stands for after a history. It is none where the request has no name.
 fn object_named(places: &[Place], ask: &Ask) -> Option<ObjId>
     ensures { result ≡ option_and_then (name_words.stands_for places.now) (name_words.name_in ask.now) }
 {
@@ -272,7 +273,8 @@ fn object_named(places: &[Place], ask: &Ask) -> Option<ObjId>
     }
 }
 
-/// What an ask exports, and the objects to which it returns references: nothing where it is not effective.
+/// Returns the objects that a request exports, and those to which it returns references. Both lists are empty where it
+/// is not effective.
 fn effects_of(
     alloc: Global,
     config: &SpaceConfig,

@@ -22,7 +22,7 @@ use std::alloc::{AllocError, Global};
 
 // ---- replies
 
-/// What an event is replied after a history.
+/// Returns the reply to an event after a history.
 #[tactic(auto, unfolding(history::specs::Replies::reply))]
 pub fn reply(
     alloc: Global,
@@ -37,7 +37,7 @@ pub fn reply(
     Ok(answer)
 }
 
-/// What an event is replied, whose place this is.
+/// Returns the reply to the event of this place.
 fn reply_at(
     alloc: Global,
     config: &SpaceConfig,
@@ -325,7 +325,7 @@ pub fn turn(
     })
 }
 
-/// Why an event is refused after these events, if it is.
+/// Returns why an event is refused after these events, or none where it is not.
 fn refusal_after(
     alloc: Global,
     limits: &Limits,

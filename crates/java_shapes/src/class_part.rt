@@ -1,4 +1,4 @@
-//! What an object holds of one of its classes, found by the class's name.
+//! The part of an object for one of its classes, found by the class's name.
 ghost use Rattle.std.specs.Prelude.{◌≡◌, length, option_map, position, IfOk};
 ghost use Rattle.class_desc.specs.declared.field.TypeCode.TheVariants as types;
 ghost use Rattle.java_shapes.specs.Objects.{same_text, is_field, value_of, node_at, text_in, named_in, parent_in, held_within, held_in, own_in, own_at, as_slot, as_short, as_int, as_long, array_in, array_at, as_bytes, as_refs};
@@ -8,7 +8,7 @@ use sequence::{ByteList, Units};
 use ser_values::{Node, Part, Value, Values};
 use std::alloc::{AllocError, Global};
 
-/// What an object holds of one of its classes: the class's description, and the object's part of it.
+/// The part of an object for one of its classes, with the class's description.
 #[derive(Clone, Copy)]
 pub(crate) struct ClassPart<'a> {
     /// The class's description.
@@ -24,7 +24,8 @@ pub(crate) fn copy_text(alloc: Global, text: &Units) -> Result<Units, AllocError
     Units::from_slice(alloc, text.as_slice())
 }
 
-/// Whether a text is this one of ASCII characters. All units are compared, so that several of them are in one step.
+/// Returns whether a text is this one of ASCII characters. It compares all units, so that one step compares several
+/// of them.
 pub(crate) fn is_text(units: &Units, text: &str) -> bool
     ensures { result ≡ same_text units.now text.now }
 {
@@ -42,7 +43,7 @@ pub(crate) fn is_text(units: &Units, text: &str) -> bool
     same
 }
 
-/// Whether a field has this type and this name.
+/// Returns whether a field has this type and this name.
 fn is_field(field: &FieldDesc, code: TypeCode, name: &str) -> bool
     ensures { result ≡ is_field code name.now field.now }
 {
@@ -96,7 +97,7 @@ pub(crate) fn parent_of(node: Option<&Node>) -> Option<Slot>
     }
 }
 
-/// What parts hold of the first class of this name, from the class of a slot up.
+/// Returns the part for the first class of this name, from the class of a slot up.
 fn held_by<'a>(
     nodes: &'a [Node],
     class: Slot,
@@ -123,7 +124,8 @@ fn held_by<'a>(
     None
 }
 
-/// What a node that is an object holds of the first of its classes that has this name, its own class first.
+/// Returns the part of an object for the first of its classes that has this name. Its own class comes first. A node
+/// that is no object has none.
 pub(crate) fn held_in<'a>(
     nodes: &'a [Node],
     node: Option<&'a Node>,
@@ -139,7 +141,7 @@ pub(crate) fn held_in<'a>(
     }
 }
 
-/// What a node that is an object holds of its own class, where that has this name.
+/// Returns the part of an object for its own class, where that has this name. A node that is no object has none.
 pub(crate) fn own_in<'a>(
     nodes: &'a [Node],
     node: Option<&'a Node>,
@@ -215,7 +217,7 @@ impl<'a> ClassPart<'a> {
     }
 }
 
-/// What the object of a slot holds of its own class, where that has this name.
+/// Returns the part of a slot's object for its own class, where that has this name.
 pub(crate) fn own_at<'a>(nodes: &'a [Node], slot: Slot, name: &str) -> Option<ClassPart<'a>>
     ensures { option_map (λ held. (held.desc.now, held.part.now)) result ≡ own_at nodes.now name.now slot }
 {

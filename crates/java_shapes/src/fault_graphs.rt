@@ -14,7 +14,7 @@ use sequence::Units;
 use ser_values::{Graph, Node, NodeList};
 use std::alloc::{AllocError, Global};
 
-/// How many nodes the graph of a fault has.
+/// The number of nodes in the graph of a fault.
 const NODES: usize = 8;
 
 /// Adds the description of a known class.

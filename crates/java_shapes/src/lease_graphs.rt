@@ -13,7 +13,7 @@ use sequence::ByteList;
 use ser_values::{Graph, Node, NodeList, PartList, Value, Values};
 use std::alloc::{AllocError, Global};
 
-/// How many nodes the graph of a lease has.
+/// The number of nodes in the graph of a lease.
 const NODES: usize = 11;
 
 /// Adds the lease with its class, the first nodes; its client is node 6.

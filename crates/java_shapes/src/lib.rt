@@ -1,3 +1,4 @@
+// SPDX-License-Identifier: Apache-2.0 OR MIT
 //! Java's own objects in graphs of values: identifiers, leases, references to remote objects, lists of texts and faults, as
 //! plain values that are read from a graph and built into one (Java RMI Specification, chapters 8 to 10).
 //!

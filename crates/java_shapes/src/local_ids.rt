@@ -14,7 +14,7 @@ use sequence::{Same, Units};
 use ser_values::{Graph, Node};
 use std::alloc::{AllocError, Global};
 
-/// Whether two texts are equal.
+/// Returns whether two texts are equal.
 fn same_text(text: &Units, other: &Units) -> bool
     ensures { result ≡ same_text text.now other.now }
 {

@@ -15,7 +15,7 @@ use sequence::{ByteList, Units};
 use ser_values::{Graph, Node, NodeList};
 use std::alloc::{AllocError, Global};
 
-/// How many nodes the graph of a reference has.
+/// The number of nodes in the graph of a reference.
 const NODES: usize = 7;
 
 /// Adds a proxy of an interface with its classes, the first nodes; its handler is node 6.

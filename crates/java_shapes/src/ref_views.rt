@@ -56,21 +56,22 @@ fn cut_text(bytes: &[u8]) -> Option<(&[u8], &[u8])>
     }
 }
 
-/// Whether bytes are equal.
+/// Returns whether bytes are equal.
 fn are_equal(bytes: &[u8], others: &[u8]) -> bool
     ensures { IsTrue result ↔ (bytes.now ≡ others.now) }
 {
     bytes == others
 }
 
-/// Whether bytes are this text of ASCII characters.
+/// Returns whether bytes are this text of ASCII characters.
 fn is_ascii(bytes: &[u8], text: &str) -> bool
     ensures { result ≡ same_text bytes.now text.now }
 {
     are_equal(bytes, text.as_bytes())
 }
 
-/// What follows the kind of a reference.
+/// Returns the bytes that follow the kind of a reference. It is None where the kind is neither `UnicastRef` nor
+/// `UnicastRef2`, and where the byte after `UnicastRef2` is not 0.
 fn after_kind<'a>(kind: &[u8], rest: &'a [u8]) -> Option<&'a [u8]>
     ensures { option_map (λ rest. rest.now) result ≡ after_kind (kind.now, rest.now) }
 {
@@ -129,7 +130,7 @@ pub(crate) fn ref_of(alloc: Global, bytes: &[u8]) -> Result<LiveRef, ShapeFault>
     }
 }
 
-/// Whether a node is an object of a proxy class.
+/// Returns whether a node is an object of a proxy class.
 fn is_proxied(nodes: &[Node], node: Option<&Node>) -> bool
     ensures { result ≡ is_proxied nodes.now (option_map (λ node. node.now) node.entry) }
 {

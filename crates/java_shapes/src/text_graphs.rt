@@ -12,7 +12,7 @@ use ser_values::limits::NODES;
 use ser_values::{Graph, Node, NodeList, Values};
 use std::alloc::{AllocError, Global};
 
-/// How many units a text has at most.
+/// The most units of a text.
 const TEXT_UNITS: usize = 1 << 60;
 
 /// The slots of so many texts, the first of which is node 2.
@@ -74,7 +74,7 @@ fn texts_items(alloc: Global) -> Result<Items, AllocError>
     Ok(items)
 }
 
-/// Whether a text has at most 2^60 units.
+/// Returns whether a text has at most 2^60 units.
 fn can_be_text(name: &Units) -> bool
     ensures { IsTrue result → CanBeText name.now }
 {
@@ -82,7 +82,7 @@ fn can_be_text(name: &Units) -> bool
     name.len() <= TEXT_UNITS
 }
 
-/// Whether each text has at most 2^60 units.
+/// Returns whether each text has at most 2^60 units.
 fn can_be_texts(names: &[Units]) -> bool
     ensures { IsTrue result → All CanBeText names.now }
 {

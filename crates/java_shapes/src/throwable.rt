@@ -1,4 +1,4 @@
-//! What is told of a fault.
+//! The text of a fault.
 ghost use Rattle.std.specs.Prelude.{◌≡◌, IfOk, option_map};
 ghost use Rattle.java_shapes.specs.Throwable.{class_name_in, message_of, with_message, fault_text_at};
 ghost use Rattle.java_shapes.specs.ViewAnswers.{Views};

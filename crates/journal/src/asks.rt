@@ -31,11 +31,11 @@ pub(crate) enum Keyword {
     Tick,
 }
 
-/// Whether an object is opened pinned.
+/// The word that says whether an opened object is pinned.
 #[derive(Drop)]
 pub(crate) struct Pinning(pub bool);
 
-/// Whether a clean is strong.
+/// The word that says whether a clean is strong.
 #[derive(Drop)]
 pub(crate) struct Strength(pub bool);
 

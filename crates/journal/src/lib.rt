@@ -1,3 +1,4 @@
+// SPDX-License-Identifier: Apache-2.0 OR MIT
 //! The text of a journal: reading and writing its configuration and its events, and writing the lines of an outline.
 #![tactic(auto)]
 

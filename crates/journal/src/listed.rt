@@ -8,7 +8,7 @@ use object_ids::{ObjId, Uid};
 use sequence::ByteList;
 use std::alloc::AllocError;
 
-/// What stands between the items of a list.
+/// The byte between two items of a list.
 const SEPARATOR: u8 = b',';
 
 /// Appends kinds, joined by commas, or `-` where there are none.

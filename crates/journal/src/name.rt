@@ -14,7 +14,7 @@ use object_ids::Uid;
 use sequence::Units;
 use std::alloc::Global;
 
-/// How many bytes the escape of a unit has.
+/// The number of bytes in the escape of a unit.
 const ESCAPE_LEN: usize = 6;
 
 /// The first unit of a text, and how many bytes spell it.
@@ -24,7 +24,7 @@ struct FirstUnit {
     len: usize,
 }
 
-/// What stands between quotation marks. It is None exactly where these are not the first and the last byte.
+/// Returns the bytes between quotation marks. It is None exactly where these are not the first and the last byte.
 fn unquoted(word: &[u8]) -> Option<&[u8]>
     ensures { MatchOption result ((inner : List ℕ) → word.now ≢ 34 ∷ (inner ++ 34 ∷ [])) (λ inner. word.now ≡ 34 ∷ (inner.now ++ 34 ∷ [])) }
 {
@@ -37,7 +37,7 @@ fn unquoted(word: &[u8]) -> Option<&[u8]>
     }
 }
 
-/// Whether a unit stands for itself.
+/// Returns whether a unit is written as it is, without an escape.
 pub(crate) fn is_plain(unit: u16) -> bool
     ensures { result ≡ is_plain_unit unit }
 {

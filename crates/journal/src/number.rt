@@ -15,7 +15,7 @@ use std::alloc::Global;
 /// The most digits of a number that is read: it is below 10^19, so that 64 bits hold it.
 const MAX_DIGITS: usize = 19;
 
-/// Whether there is a first byte that is no plus sign, and no zero before further bytes.
+/// Returns whether there is a first byte that is no plus sign, and no zero before further bytes.
 fn begins_plainly(word: &[u8]) -> bool
     ensures { IsTrue result ↔ BeginsPlainly word.now }
 {
@@ -50,7 +50,7 @@ fn read_unsigned(word: &[u8]) -> Option<u64>
     value_of(word)
 }
 
-/// Whether a minus sign stands first.
+/// Returns whether the first byte is a minus sign.
 fn is_negative(word: &[u8]) -> bool
     ensures { IsTrue result ↔ (slice_index word.now 0 ≡ 45) }
 {

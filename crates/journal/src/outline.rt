@@ -102,22 +102,22 @@ fn put_word(out: &mut ByteList, word: &Word) -> Result<(), AllocError>
     }
 }
 
-/// What an outline says of an exported object. Contracts see it as a row of the outline.
+/// The line of an outline for an exported object. Contracts see it as a row of the outline.
 #[derive(Drop)]
 pub struct ObjectRow {
     /// The object.
     pub object: ObjId,
     /// Its kind.
     pub kind: u32,
-    /// Whether it was opened pinned.
+    /// True where the object was opened pinned.
     pub pinned: bool,
-    /// How many calls of it run.
+    /// The number of calls of it that run.
     pub running: u64,
-    /// How many returned references to it await their acknowledgement.
+    /// The number of returned references to it that await their acknowledgement.
     pub awaiting: u64,
-    /// How many clients hold it.
+    /// The number of clients that hold it.
     pub held: u64,
-    /// How many names stand for it.
+    /// The number of names that stand for it.
     pub names: u64,
 }
 

@@ -64,7 +64,7 @@ pub(crate) fn find_byte(bytes: &[u8], byte: u8) -> Option<usize>
     bytes.iter().position(|b| *b == byte)
 }
 
-/// Whether a word is the one that stands for an empty list.
+/// Returns whether a word is the one for an empty list.
 pub(crate) fn is_dash(word: &[u8]) -> bool
     ensures { IsTrue result ↔ (word.now ≡ codes "-") }
 {

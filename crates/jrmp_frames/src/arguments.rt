@@ -19,7 +19,7 @@ use std::alloc::{AllocError, Global};
 use wire_io::pull::Pull;
 use wire_io::source::Source;
 
-/// How many bytes the widest values of a primitive type take.
+/// The number of bytes of the widest values of a primitive type.
 const WIDEST: usize = 8;
 
 /// One argument of a call.
@@ -69,7 +69,7 @@ impl Arguments {
     }
 }
 
-/// What is wanted of a stream for a parameter of this type: bytes, or a reference.
+/// Returns the want for a parameter of this type: bytes, or a reference.
 fn want_of(code: TypeCode) -> Want
     ensures { result ≡ want_of code }
 {

@@ -17,7 +17,7 @@ pub enum Protocol {
     SingleOp,
 }
 
-/// What every header begins with: `JRMI` and the version, which is 2.
+/// The bytes with which every header begins: `JRMI` and the version, which is 2.
 const START: [u8; 6] = [0x4A, 0x52, 0x4D, 0x49, 0, 2];
 
 /// Reads the header, which ends with the protocol that the client wants.

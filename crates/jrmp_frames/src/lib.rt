@@ -1,3 +1,4 @@
+// SPDX-License-Identifier: Apache-2.0 OR MIT
 //! The messages of the Java Remote Method Protocol (Java RMI Specification, 10.2), read byte after byte and written.
 #![tactic(auto)]
 

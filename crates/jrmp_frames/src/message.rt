@@ -16,10 +16,10 @@ use ser_values::{Graph, Value};
 use ser_write::{put_primitive, write_blocks_onto, write_items_after};
 use std::alloc::{AllocError, Global};
 
-/// How many bytes there is room for when a return is begun: as many as most of them have.
+/// The number of bytes for which a new return has room. Most returns have no more.
 const RETURN_ROOM: usize = 1024;
 
-/// How many bytes there is room for when a value is put behind what a return begins with: as many as they have at most.
+/// The number of bytes of room for the beginning of a return with a value behind it. The two never take more.
 const VALUE_ROOM: usize = 32;
 
 /// The contents of a return.
@@ -61,7 +61,7 @@ fn look_at(bytes: &[u8])
     ensures { AreBytes bytes.now }
 {}
 
-/// What a return begins with: `01` for a result and `02` for an exception, and an identifier.
+/// Returns the bytes with which a return begins: `01` for a result or `02` for an exception, and an identifier.
 #[tactic(auto, unfolding(crate::specs::Messages::return_front))]
 fn return_front(normal: bool, uid: Uid) -> [u8; 15]
     ensures { result ≡ return_front normal uid }

@@ -20,7 +20,8 @@ use wire_io::source::Source;
 /// The number of bytes that a return begins with: its kind and its identifier.
 const FRONT_BYTES: usize = 15;
 
-/// Whether a return of this kind has a result, `01`, or an exception, `02`; None for any other byte.
+/// Returns true where a return of this kind has a result, `01`, and false where it has an exception, `02`. For any
+/// other byte it returns None.
 fn kind_of(byte: u8) -> Option<bool>
     ensures { result ≡ kind_of_byte byte }
 {

@@ -7,7 +7,7 @@ ghost use Rattle.lane_kernels.specs.Kernels.{is_due};
 use crate::first_set::first_set;
 use std::simd::prelude::*;
 
-/// How many deadlines are looked at at once.
+/// The number of deadlines that one step looks at.
 const LANES: usize = 8;
 
 /// Returns the index of the first deadline that is at most `now`, or None where all are later.

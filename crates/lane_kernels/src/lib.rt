@@ -1,3 +1,4 @@
+// SPDX-License-Identifier: Apache-2.0 OR MIT
 //! Searches and readings of many numbers at once, over vectors.
 //!
 //! Each function equals its plain definition for every length. None takes memory.

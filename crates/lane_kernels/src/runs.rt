@@ -7,7 +7,7 @@ ghost use Rattle.lane_kernels.specs.Kernels.{is_plain};
 use crate::first_set::first_set;
 use std::simd::prelude::*;
 
-/// How many bytes are looked at at once.
+/// The number of bytes that one step looks at.
 const LANES: usize = 32;
 
 /// Returns how many bytes at the front are from 01 to 7F, up to the first that is not.

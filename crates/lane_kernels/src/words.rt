@@ -5,11 +5,11 @@ ghost use Rattle.lane_kernels.specs.Kernels.{signed_words};
 
 use std::simd::prelude::*;
 
-/// How many bytes are read at once.
+/// The number of bytes that one step reads.
 const LANES: usize = 16;
-/// How many numbers of 32 bits are read at once.
+/// The number of numbers of 32 bits that one step reads.
 const LANES32: usize = 4;
-/// How many numbers of 64 bits are read at once.
+/// The number of numbers of 64 bits that one step reads.
 const LANES64: usize = 2;
 
 /// Reads a signed number of 32 bits from each four bytes, the highest byte first.

@@ -1,3 +1,4 @@
+// SPDX-License-Identifier: Apache-2.0 OR MIT
 //! A world of one server's space and many clients' tables, whose lease calls may be lost, late or repeated (Java RMI Specification, chapter 9):
 //! what its steps are, the promise that holds after all lists of steps, and scripts of steps with what they print.
 #![tactic(auto)]

@@ -33,7 +33,7 @@ pub(crate) enum TableCall {
     Register(ObjId),
     /// The reference to an object is dropped.
     Release(ObjId),
-    /// What is due is asked for.
+    /// The table gives the lease call that is due.
     Due,
 }
 

@@ -1,4 +1,4 @@
-//! What the lines of a script spell.
+//! The values that the lines of a script spell.
 ghost use Rattle.std.specs.Prelude.{◌≡◌, ◌≢◌, ◌<◌, ◌^◌, ◌∷◌, [], codes, decimal};
 ghost use Rattle.std.specs.Int.{w64};
 ghost use Rattle.std.specs.Fmt.{signed_decimal};
@@ -18,7 +18,7 @@ pub(crate) struct WorldLine {
     pub lease_ms: u64,
     /// The time to acknowledge in milliseconds.
     pub ack_ms: u64,
-    /// How many clients there are.
+    /// The number of clients.
     pub clients: u8,
 }
 

@@ -1,3 +1,4 @@
+// SPDX-License-Identifier: Apache-2.0 OR MIT
 //! Method texts and their hashes, by which a call names a remote method (Java RMI Specification, 8.3).
 #![tactic(auto)]
 

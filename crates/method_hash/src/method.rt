@@ -26,7 +26,7 @@ pub enum MethodFault {
     /// The longest front of them with which some method's text begins ends at this place, counted in bytes from 0.
     #[error("no method's text from byte {at} on")]
     BadDescriptor {
-        /// How many bytes that front has.
+        /// The number of bytes in that front.
         at: usize,
     },
     /// There was no memory.
@@ -86,7 +86,7 @@ impl TryCopy for Method {
 /// A list of methods.
 pub type MethodList = Sequence<Method>;
 
-/// What was read of a method's text.
+/// The parts of a method's text that were read.
 #[derive(Drop)]
 struct Draft {
     /// Where reading has come to.

@@ -20,7 +20,7 @@ pub(crate) enum Part {
     ClassName,
 }
 
-/// How far a type has come.
+/// The state of a type that has begun.
 #[derive(Clone, Copy, Debug, PartialEq, Eq)]
 pub(crate) enum Begun {
     /// It is whole.
@@ -46,21 +46,21 @@ pub(crate) enum TextPlace {
     End,
 }
 
-/// Whether a byte may stand in a class's name.
+/// Returns whether a class's name may contain a byte.
 fn is_class_byte(byte: u8) -> bool
     ensures { result ≡ is_class_byte byte }
 {
     0x21 <= byte && byte <= 0x7E && byte != b';' && byte != b'(' && byte != b')' && byte != b'['
 }
 
-/// Whether a byte may stand in a method's name.
+/// Returns whether a method's name may contain a byte.
 fn is_name_byte(byte: u8) -> bool
     ensures { result ≡ is_name_byte byte }
 {
     is_class_byte(byte) && byte != b'/' && byte != b'.'
 }
 
-/// How far a type has come behind its first byte; None where no type begins with it.
+/// Returns the state of a type behind its first byte. It is None where no type begins with that byte.
 #[tactic(auto, unfolding(crate::specs::Next::begin))]
 fn begin(byte: u8) -> Option<Begun>
     ensures { result ≡ begin byte }
@@ -74,7 +74,7 @@ fn begin(byte: u8) -> Option<Begun>
 }
 
 impl Part {
-    /// How far the type has come behind a further byte; None where no type goes on with it.
+    /// Returns the state of the type behind a further byte. It is None where no type goes on with that byte.
     #[tactic(auto, unfolding(crate::specs::Next::part_next))]
     fn next(self, byte: u8) -> Option<Begun>
         ensures { result ≡ part_next self byte }
@@ -137,7 +137,7 @@ impl TextPlace {
         }
     }
 
-    /// Whether the text is whole.
+    /// Returns whether the text is whole.
     pub(crate) fn is_end(self) -> bool
         ensures { IsTrue result ↔ (self ≡ End) }
     {
@@ -147,7 +147,7 @@ impl TextPlace {
         }
     }
 
-    /// How many bytes are still to come at the least.
+    /// Returns the least number of bytes that are still to come.
     pub(crate) fn need(self) -> usize
         ensures { result ≡ need self }
     {

@@ -27,7 +27,7 @@ impl Model for UidDraw {
 
 /// The count of the first identifier of a moment.
 const FIRST_COUNT: i32 = -32768;
-/// How many identifiers a moment has.
+/// The number of identifiers that a moment has.
 const PER_MOMENT: u128 = 65536;
 /// The moment at which drawing ends.
 const END: i64 = 1 << 62;

@@ -1,3 +1,4 @@
+// SPDX-License-Identifier: Apache-2.0 OR MIT
 //! The identifiers of Java's remote method invocation: of machines, of objects and of clients.
 #![tactic(auto)]
 

@@ -21,7 +21,7 @@ pub struct AskedLog {
     rows: Vec<AskedRow>,
     /// The entries that are kept whole, each at the place that is its number.
     wholes: Vec<Asked>,
-    /// Whether there is surely room for one more of them.
+    /// True only where there is room for one more of them.
     spare: bool,
 }
 
@@ -105,7 +105,7 @@ impl AskedLog {
         }
     }
 
-    /// How many entries there are.
+    /// Returns the number of entries.
     pub fn len(&self) -> usize
         ensures value { result ≡ length self.now.items }
         ensures few { result < 2 ^ 63 }
@@ -192,14 +192,14 @@ impl PortEntries {
         PortEntries { log }
     }
 
-    /// How many entries there are.
+    /// Returns the number of entries.
     pub fn len(&self) -> usize
         ensures { result ≡ length self.now }
     {
         self.log.len()
     }
 
-    /// Whether there are none.
+    /// Returns whether there are no entries.
     pub fn is_empty(&self) -> bool
         ensures { IsTrue result ↔ (self.now ≡ []) }
     {

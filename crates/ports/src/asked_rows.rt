@@ -15,7 +15,8 @@ use sequence::Kinds;
 use space::{Asked, AskedEnd};
 use std::alloc::Global;
 
-/// What a row says beside its moment: an ask, its answer, and the place of its event. Nothing is told as gone.
+/// The content of a row beside its moment: a request, its answer, and the place of its event. A row reports nothing
+/// as gone.
 #[derive(Drop)]
 pub enum AskedWhat {
     /// A Begin that started a call of an object of this kind.
@@ -65,7 +66,7 @@ fn is_done(reply: &Reply) -> bool
     matches!(reply, Reply::Done)
 }
 
-/// Whether a Finish made nothing.
+/// Returns whether a Finish made nothing.
 fn is_finished(reply: &Reply) -> bool
     ensures { IsTrue result ↔ (reply.now ≡ Finished []) }
 {
@@ -103,7 +104,7 @@ fn is_abandon(ask: &Ask) -> bool
     matches!(ask, Ask::Abandon { .. })
 }
 
-/// Whether an entry is kept in its row alone.
+/// Returns whether an entry is kept in its row alone.
 pub(crate) fn is_plain(ask: &Ask, end: &AskedEnd) -> bool
     ensures { IsTrue result ↔ IsPlainEnd ask.now end.now }
 {
@@ -126,7 +127,7 @@ fn kind_of(reply: &Reply) -> u32
     }
 }
 
-/// What the row of a plain reply says.
+/// Returns the content of the row of a plain reply.
 fn row_of_turn(place: u64, ask: &Ask, reply: &Reply) -> AskedWhat
     requires { IsPlainReply ask.now reply.now }
     ensures row { (wholes : List Entry) → (moment : ℕ) → entry_with wholes moment result ≡ record { moment = moment; ask = ask.now; end = Turned (plain_turn place reply.now) } }
@@ -156,7 +157,7 @@ fn row_of_turn(place: u64, ask: &Ask, reply: &Reply) -> AskedWhat
     }
 }
 
-/// What the row of a call says that was ended without an answer.
+/// Returns the content of the row of a call that ended without an answer.
 fn row_of_abandon(place: u64, ask: &Ask) -> AskedWhat
     requires { IsAbandon ask.now }
     ensures row { (wholes : List Entry) → (moment : ℕ) → entry_with wholes moment result ≡ record { moment = moment; ask = ask.now; end = Abandoned place } }

@@ -1,3 +1,4 @@
+// SPDX-License-Identifier: Apache-2.0 OR MIT
 //! Ports: a port hands the requests of one connection to a space, and keeps an entry of each turn.
 #![tactic(auto)]
 

@@ -12,10 +12,10 @@ pub trait Port {
     // The entries since the port was made, and how many more calls there is room for.
     ghost shown: { Self → PortState };
 
-    // What holds between two calls.
+    // The condition that holds between two calls.
     ghost ready: { Self → Type 0 };
 
-    // What calls keep, from a port before to the port after.
+    // The relation that calls keep, from a port before to the port after.
     ghost leads: { Self → Self → Type 0 };
 
     /// Hands in what the connection asks at a moment, in milliseconds. The turn is entered, whether it is taken or refused, but where

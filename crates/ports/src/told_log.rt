@@ -10,7 +10,7 @@ use std::fmt;
 use std::marker::Model;
 use std::snapshot::Snapshot;
 
-/// What a port told of one call. A snapshot takes no bytes.
+/// A port's record of one call. A snapshot takes no bytes.
 #[derive(Drop)]
 pub enum ToldEntry {
     /// A turn: its moment, what was asked, and the answer.

@@ -169,7 +169,7 @@ module _ {V : Type 0} (s : Script rmi V) (text : V → List ℕ) (old new : Side
   causes_by (Ok value) spoke dial prints = printed value prints
   causes_by (Err stop) spoke dial prints = stopped stop prints.0 spoke (λ e. dial (ap (λ (x : CommandEnd). Err x) e))
 
-  causes_of : Asks s text old new given given2 end → Causes old new end
+  pub causes_of : Asks s text old new given given2 end → Causes old new end
   causes_of a = causes_by a.answer a.spoke a.fault a.prints
 
 -- The causes of the end of each command.

@@ -15,6 +15,9 @@ stopped_so : (held held2 : Option (List ℕ)) (f f2 : ℕ) (text : List ℕ) (st
 stopped_so held held2 f f2 text stops.All end (printed, inl done, so) is = absurd (omega (arith, sym is ∙ ap status_of_run (so ∙ done.0)))
 stopped_so held held2 f f2 text stops.All end (printed, inr (inl fault), so) is = absurd (omega (arith, sym is ∙ ap status_of_run (so ∙ fault.0)))
 stopped_so held held2 f f2 text stops.All end (printed, inr (inr memory), so) is = absurd (omega (arith, sym is ∙ ap status_of_run (so ∙ memory.0)))
+stopped_so held held2 f f2 text stops.Told end (printed, inl done, so) is = absurd (omega (arith, sym is ∙ ap status_of_run (so ∙ done.0)))
+stopped_so held held2 f f2 text stops.Told end (printed, inr (inl fault), so) is = absurd (omega (arith, sym is ∙ ap status_of_run (so ∙ fault.0)))
+stopped_so held held2 f f2 text stops.Told end (printed, inr (inr memory), so) is = absurd (omega (arith, sym is ∙ ap status_of_run (so ∙ memory.0)))
 stopped_so held held2 f f2 text stops.AcceptFault end ends is = refl
 stopped_so held held2 f f2 text stops.OutOfMemory end (printed, how, so) is = absurd (omega (arith, sym is ∙ ap status_of_run so))
 
@@ -23,6 +26,9 @@ pub print_failed : (held held2 : Option (List ℕ)) (f f2 : ℕ) (text : List �
 print_failed held held2 f f2 text stops.All end (printed, inl done, so) is = absurd (omega (arith, sym is ∙ ap status_of_run (so ∙ done.0)))
 print_failed held held2 f f2 text stops.All end (printed, inr (inl fault), so) is = fault.2
 print_failed held held2 f f2 text stops.All end (printed, inr (inr memory), so) is = absurd (omega (arith, sym is ∙ ap status_of_run (so ∙ memory.0)))
+print_failed held held2 f f2 text stops.Told end (printed, inl done, so) is = absurd (omega (arith, sym is ∙ ap status_of_run (so ∙ done.0)))
+print_failed held held2 f f2 text stops.Told end (printed, inr (inl fault), so) is = fault.2
+print_failed held held2 f f2 text stops.Told end (printed, inr (inr memory), so) is = absurd (omega (arith, sym is ∙ ap status_of_run (so ∙ memory.0)))
 print_failed held held2 f f2 text stops.AcceptFault end (printed, how, so) is = absurd (omega (arith, sym is ∙ ap status_of_run so))
 print_failed held held2 f f2 text stops.OutOfMemory end (printed, how, so) is = absurd (omega (arith, sym is ∙ ap status_of_run so))
 
@@ -31,6 +37,9 @@ pub is_known : (held held2 : Option (List ℕ)) (f f2 : ℕ) (text : List ℕ) (
 is_known held held2 f f2 text stops.All end (printed, inl done, so) is = omega (arith, sym is ∙ ap status_of_run (so ∙ done.0))
 is_known held held2 f f2 text stops.All end (printed, inr (inl fault), so) is = omega (arith, sym is ∙ ap status_of_run (so ∙ fault.0))
 is_known held held2 f f2 text stops.All end (printed, inr (inr memory), so) is = omega (arith, sym is ∙ ap status_of_run (so ∙ memory.0))
+is_known held held2 f f2 text stops.Told end (printed, inl done, so) is = omega (arith, sym is ∙ ap status_of_run (so ∙ done.0))
+is_known held held2 f f2 text stops.Told end (printed, inr (inl fault), so) is = omega (arith, sym is ∙ ap status_of_run (so ∙ fault.0))
+is_known held held2 f f2 text stops.Told end (printed, inr (inr memory), so) is = omega (arith, sym is ∙ ap status_of_run (so ∙ memory.0))
 is_known held held2 f f2 text stops.AcceptFault end (printed, how, so) is = omega (arith, sym is ∙ ap status_of_run so)
 is_known held held2 f f2 text stops.OutOfMemory end (printed, how, so) is = omega (arith, sym is ∙ ap status_of_run so)
 

@@ -5,8 +5,9 @@ use Rattle.std.specs.Prelude.{IfSome}
 use Rattle.wire_io.specs.Wire.{ReadHalf, WriteHalf, Wires}
 use Rattle.conn_server.specs.declared.server.Report.{Report}
 use Rattle.sample_app.specs.declared.crew.SampleHand.{SampleHand}
-use Rattle.rmi_words.proofs.Asked.{answer_in_range, serve_in_range}
+use Rattle.rmi_words.proofs.Asked.{answer_in_range, host_in_range, serve_in_range}
 use Rattle.rmi_cli.specs.Answer.{AnswersExactly}
+use Rattle.rmi_cli.proofs.Calling.{few_arguments}
 use Rattle.rmi_words.specs.Command.{AskFor}
 use Rattle.rmi_cli.specs.Drilled.{DrillEnds, drill_text}
 use Rattle.rmi_cli.specs.Limits.{IsInLimits}
@@ -21,14 +22,16 @@ use Rattle.rmi_words.specs.declared.options.LeaseOptions.{LeaseOptions}
 use Rattle.rmi_cli.specs.Printing.{PrintEnds}
 use Rattle.rmi_words.specs.declared.command.ClassOutput.{ClassOutput}
 use Rattle.rmi_words.specs.declared.command.Command.{Command}
-use Rattle.rmi_words.specs.declared.command.Command.TheVariants.{Answer, Serve, Client, Replay, Show, Drill, World, Class, Help}
+use Rattle.rmi_words.specs.declared.command.Command.TheVariants.{Answer, Serve, Host, Client, Call, Replay, Show, Drill, World, Class, Help}
 use Rattle.rmi_words.specs.declared.command.DrillText.{DrillText}
 
 -- What words ask for is in the limits of its command.
 pub asked_fits : (words : List (List ℕ)) (c : Command) → AskFor words c → IsInLimits c
 asked_fits words (Answer options) is = answer_in_range words options is
 asked_fits words (Serve serve) is = serve_in_range words serve is
+asked_fits words (Host host) is = host_in_range words host is
 asked_fits words (Client command) is = tt
+asked_fits words (Call call) is = few_arguments call words is
 asked_fits words Replay is = tt
 asked_fits words Show is = tt
 asked_fits words (Drill text seed rounds) is = is.in_range.most

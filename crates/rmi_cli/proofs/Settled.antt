@@ -15,18 +15,21 @@ use Rattle.rmi_cli.specs.Told.{Reported, TellsEnd}
 use Rattle.rmi_cli.specs.declared.end.RunEnd.{RunEnd}
 
 -- A run of `serve` has no other status.
-abbrev IsServed : ℕ → Type 0
+abbrev pub IsServed : ℕ → Type 0
 IsServed status = (status ≡ 0) ⊎ ((status ≡ 3) ⊎ ((status ≡ 4) ⊎ (status ≡ 5)))
 
-stopped : (held held2 : Option (List ℕ)) (faults faults2 : ℕ) (text : List ℕ) (stop : Stop) (printed : RunEnd) → Printed held held2 faults faults2 text printed
+pub stopped : (held held2 : Option (List ℕ)) (faults faults2 : ℕ) (text : List ℕ) (stop : Stop) (printed : RunEnd) → Printed held held2 faults faults2 text printed
     → IsServed (status_of_run (end_after stop printed))
 stopped held held2 faults faults2 text stops.All printed (inl whole) = inl (ap status_of_run whole.0)
 stopped held held2 faults faults2 text stops.All printed (inr (inl less)) = inr (inr (inl (ap status_of_run less.0)))
 stopped held held2 faults faults2 text stops.All printed (inr (inr none)) = inr (inr (inr (ap status_of_run none.0)))
+stopped held held2 faults faults2 text stops.Told printed (inl whole) = inl (ap status_of_run whole.0)
+stopped held held2 faults faults2 text stops.Told printed (inr (inl less)) = inr (inr (inl (ap status_of_run less.0)))
+stopped held held2 faults faults2 text stops.Told printed (inr (inr none)) = inr (inr (inr (ap status_of_run none.0)))
 stopped held held2 faults faults2 text stops.AcceptFault printed p = inr (inl refl)
 stopped held held2 faults faults2 text stops.OutOfMemory printed p = inr (inr (inr refl))
 
-named : (end end2 : RunEnd) → end ≡ end2 → IsServed (status_of_run end2) → IsServed (status_of_run end)
+pub named : (end end2 : RunEnd) → end ≡ end2 → IsServed (status_of_run end2) → IsServed (status_of_run end)
 named end end2 same served = subst (λ (e : RunEnd). IsServed (status_of_run e)) (sym same) served
 
 ended : {I O T H : Type 0} (held held2 : Option (List ℕ)) (faults faults2 : ℕ) (served : Option (Report I O T H)) (end : RunEnd) → ServeEnds held held2 faults faults2 served end
@@ -41,7 +44,7 @@ told_settled status status2 same (inr (inl fault)) unread unwritten = absurd (un
 told_settled status status2 same (inr (inr (inl fault))) unread unwritten = absurd (unwritten (same ∙ fault))
 told_settled status status2 same (inr (inr (inr memory))) unread unwritten = inr (same ∙ memory)
 
-told_of : (told : Reported) (end : RunEnd) → TellsEnd told end → IsServed (status_of_run end) → (told.status ≡ 3 → ⊥) → (told.status ≡ 4 → ⊥) → (told.status ≡ 0) ⊎ (told.status ≡ 5)
+pub told_of : (told : Reported) (end : RunEnd) → TellsEnd told end → IsServed (status_of_run end) → (told.status ≡ 3 → ⊥) → (told.status ≡ 4 → ⊥) → (told.status ≡ 0) ⊎ (told.status ≡ 5)
 told_of told end (inl tells) served unread unwritten = told_settled told.status (status_of_run end) tells.0 served unread unwritten
 told_of told end (inr tells) served unread unwritten = inr tells.1.0
 

@@ -11,7 +11,7 @@ use Rattle.rmi_cli.specs.Answer.{IsOutsideStatus}
 use Rattle.rmi_cli.specs.Replayed.{TakesWhole}
 use Rattle.rmi_cli.specs.Told.{Reported, TellsExactly, TellsEnd}
 use Rattle.rmi_cli.specs.Line.{status_of_run}
-use Rattle.rmi_cli.specs.Worlds.{ComesTo, MakesWorld, MakesWorldExactly, PrintsKeptWorld, StopsSo, WorldEnds, end_of, end_of_fault, text_of}
+use Rattle.rmi_cli.specs.Worlds.{ComesTo, MakesWorldExactly, PrintsKeptWorld, StopsSo, WorldEnds, end_of, end_of_fault, text_of}
 use Rattle.rmi_cli.proofs.Once.{all_taken, front_short, no_room}
 
 -- The end is told as the answer's.

@@ -1,9 +1,13 @@
 pub mod Answer
 pub mod Taking
+pub mod Arguments
+pub mod Called
 pub mod Drilled
 pub mod Helped
+pub mod Hosted
 pub mod Limits
 pub mod Line
+pub mod LinkLine
 pub mod Loopback
 pub mod Opening
 pub mod Printing

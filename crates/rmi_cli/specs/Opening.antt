@@ -1,5 +1,5 @@
 -- The sample space that connections are served over, by the seed of the run and the options.
-use Rattle.std.specs.Prelude.{ℕ, ◌%◌, pos, true, List, slice_index}
+use Rattle.std.specs.Prelude.{ℕ, ◌%◌, pos, false, true, List, slice_index}
 use Rattle.system_objects.specs.declared.setup.TheConstants.{DRAWS_BEGIN_BELOW}
 use Rattle.history.specs.declared.asks.SpaceConfig.{SpaceConfig}
 use Rattle.space.specs.Built.{SpaceHistory, space_of}
@@ -20,3 +20,10 @@ served_space seed options = record {
 -- The space as it was opened: an object of each of the sample's kinds, and their names.
 abbrev pub served_opening : List ℕ → LeaseOptions → SpaceHistory
 served_opening seed options = space_of (served_space seed options) (sample_events (served_space seed options))
+
+-- The same of a space that does not keep its events.
+abbrev pub hosted_space : List ℕ → LeaseOptions → SpaceConfig
+hosted_space seed options = record (served_space seed options) { stored = false }
+
+abbrev pub hosted_opening : List ℕ → LeaseOptions → SpaceHistory
+hosted_opening seed options = space_of (hosted_space seed options) (sample_events (hosted_space seed options))

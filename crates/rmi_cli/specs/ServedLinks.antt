@@ -42,9 +42,10 @@ Printed held held_after faults faults_after text end =
     ⊎ (((end ≡ WriteFault) × WroteLess held held_after text × Rose faults faults_after)
     ⊎ ((end ≡ OutOfMemory) × (held_after ≡ held)))
 
--- How the run ends where the accepting stopped so and printing the outline ended so.
+-- How the run ends where the accepting stopped so and printing ended so.
 abbrev pub end_after : Stop → RunEnd → RunEnd
 end_after stops.All printed = printed
+end_after stops.Told printed = printed
 end_after stops.AcceptFault printed = AcceptFault
 end_after stops.OutOfMemory printed = OutOfMemory
 
@@ -57,10 +58,14 @@ abbrev pub ServeEnds : {I O T H : Type 0} → Option (List ℕ) → Option (List
 ServeEnds held held_after faults faults_after None end = ((end ≡ ListenFault) ⊎ (end ≡ OutOfMemory)) × (held_after ≡ held)
 ServeEnds held held_after faults faults_after (Some report) end = EndsServed held held_after faults faults_after (outline report.space.configuration report.space.events) report.stop end
 
--- Where links were served this port was listened on, and no other; else none was but this one, and no link was accepted.
+-- Where links were served this port of this address was listened on, and no other; else none was but this one, and no link was accepted.
+abbrev pub ListensAt : {R : Type 0} → List ℕ → ℕ → Listening → Listening → Option R → Type 0
+ListensAt address port old new None = ((new.ports ≡ old.ports) ⊎ (new.ports ≡ with_next old.ports (address, port))) × (new.accepted ≡ old.accepted)
+ListensAt address port old new (Some served) = new.ports ≡ with_next old.ports (address, port)
+
+-- The same of 127.0.0.1.
 abbrev pub ListensAlone : {R : Type 0} → ℕ → Listening → Listening → Option R → Type 0
-ListensAlone port old new None = ((new.ports ≡ old.ports) ⊎ (new.ports ≡ with_next old.ports (loopback_host, port))) × (new.accepted ≡ old.accepted)
-ListensAlone port old new (Some served) = new.ports ≡ with_next old.ports (loopback_host, port)
+ListensAlone port old new served = ListensAt loopback_host port old new served
 
 -- The run of `serve` by its seed and words, and by what it left as served, which tells of the links' sources and sinks as they are left; and the end
 -- that is told, where the output had failed so often before and after. Nothing was read.

@@ -21,7 +21,7 @@ use space::Space;
 use std::alloc::{AllocError, Global};
 use wire_io::{Clock, Sink, Source};
 
-/// What a connection is told beforehand, the kinds of objects that it knows, and the space where its turns are made.
+/// The setup of a connection, the kinds of objects that it knows, and the space where its turns are made.
 #[derive(Drop)]
 struct AnswerParts {
     setup: Setup,
@@ -67,7 +67,7 @@ pub fn answer_input<S: Source, K: Sink, C: Clock>(
     )
 }
 
-/// What the connection is told beforehand, the sample kinds and the sample space.
+/// Returns the setup of the connection, the sample kinds and the sample space.
 fn answer_parts(
     alloc: Global,
     seed: &[u64; 4],
@@ -84,7 +84,7 @@ fn answer_parts(
     Ok(AnswerParts { setup, book, space })
 }
 
-/// What the connection is told beforehand, where clients may bind names or not.
+/// Returns the setup of the connection, where clients may bind names or not.
 pub fn setup_of(alloc: Global, seed: &[u64; 4], binding: bool) -> Result<Setup, AllocError>
     ensures terms { IfOk result (λ setup. terms_of sample_kinds setup ≡ answer_terms seed.now binding) }
     ensures drawn { IfOk result (λ setup. setup.draw.drawn ≡ 0) }

@@ -101,7 +101,7 @@ fn print_ok<K: Sink>(sink: &mut K, answer: Result<(), CommandEnd>) -> RunEnd
 }
 
 /// Writes a text, where there was memory for it.
-fn print_text<K: Sink>(sink: &mut K, text: Result<ByteList, AllocError>) -> RunEnd
+pub(crate) fn print_text<K: Sink>(sink: &mut K, text: Result<ByteList, AllocError>) -> RunEnd
     ensures printed { (bytes : List ℕ) → IfOk text (λ written. written ≡ bytes)
         → Printed (K.half sink.old).held (K.half sink.new).held (K.half sink.old).faults (K.half sink.new).faults bytes result }
     ensures open { (K.half sink.new).shut ≡ (K.half sink.old).shut }

@@ -62,7 +62,7 @@ fn drilled_space(alloc: Global, seed: u64, rounds: u64) -> Result<Space, Refused
     }
 }
 
-/// How a run ends where an event was refused.
+/// Returns the end of a run where an event was refused.
 fn end_of_refused(refused: Refused) -> RunEnd
     ensures { result ≡ end_of_refused refused }
 {

@@ -1,4 +1,4 @@
-//! How a run of the program ends.
+//! The end of a run of the program.
 ghost use Rattle.std.specs.Prelude.{◌≡◌};
 ghost use Rattle.rmi_cli.specs.Line.{status_of_fault};
 ghost use Rattle.rmi_cli.specs.Statuses.{status_of};
@@ -84,7 +84,7 @@ impl RunEnd {
         }
     }
 
-    /// Whether no line tells it.
+    /// Returns whether no line tells the end.
     pub fn is_silent(&self) -> bool
         ensures { IsTrue result ↔ (self.now ≡ RunEnds.Done) }
     {

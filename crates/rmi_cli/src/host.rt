@@ -1,4 +1,4 @@
-//! What the program runs on.
+//! The host that the program runs on.
 
 use conn_server::Report;
 use wire_io::listener::Listener;
@@ -14,7 +14,7 @@ pub struct Host<I, O, E, T, L: Listener, D: Dialer, H> {
     pub output: O,
     /// Where the line goes that says how a run ended, as standard error.
     pub errors: E,
-    /// What gives the moments of turns, as the time of day.
+    /// The clock that gives the moments of turns, as the time of day.
     pub ticks: T,
     /// Where connections come from, as the network.
     pub listener: L,
@@ -22,7 +22,8 @@ pub struct Host<I, O, E, T, L: Listener, D: Dialer, H> {
     pub dialer: D,
     /// Four words by chance, from which identifiers are made that differ from those of other runs.
     pub seed: [u64; 4],
-    /// What the run served: `None` after another command, and where `serve` comes to no connections. What is here before is dropped.
+    /// A report of the links that the run served. It is `None` after another command, and where `serve` comes to no connections. A report
+    /// that is here before is dropped.
     pub served: Option<Report<L::In, L::Out, L::Ticks, H>>,
     /// The halves of each connection that was made to a server, shut, in order. A run adds its own behind those that are here before.
     pub talked: Vec<Halves<D::In, D::Out>>,

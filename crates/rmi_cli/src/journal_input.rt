@@ -13,7 +13,7 @@ use wire_io::sink::Sink;
 use wire_io::source::Source;
 use wire_io::whole::{WholeEnd, take_whole};
 
-/// How many bytes a journal, or a script of a world, has at most.
+/// The most bytes of a journal, or of a script of a world.
 pub const JOURNAL_BYTES: usize = 268_435_456;
 
 /// Takes the whole input as a journal, and writes the outline of the history that it spells.

@@ -1,6 +1,6 @@
 //! The sample space that connections are served over.
 ghost use Rattle.std.specs.Prelude.{◌≡◌, IfOk};
-ghost use Rattle.rmi_cli.specs.Opening.{served_space, served_opening};
+ghost use Rattle.rmi_cli.specs.Opening.{served_space, served_opening, hosted_opening};
 ghost use Rattle.rmi_words.specs.Options.{IsInRange};
 
 use conn_server::plan::{low_half, moment_of};
@@ -25,7 +25,24 @@ pub(crate) fn opened_space(
     }
 }
 
-/// What the space keeps to.
+/// Returns the same space, but that it does not keep its events. It is refused only for want of memory.
+pub(crate) fn erased_space(
+    alloc: Global,
+    seed: &[u64; 4],
+    options: LeaseOptions,
+) -> Result<Space, AllocError>
+    requires { IsInRange options }
+    ensures { IfOk result (λ space. space ≡ hosted_opening seed.now options) }
+{
+    let mut config = config_of(seed, options);
+    config.stored = false;
+    match sample_space(alloc, &config) {
+        Ok(space) => Ok(space),
+        Err(_refused) => Err(AllocError),
+    }
+}
+
+/// Returns the configuration of the space.
 fn config_of(seed: &[u64; 4], options: LeaseOptions) -> SpaceConfig
     ensures { result ≡ served_space seed.now options }
 {

@@ -147,7 +147,7 @@ fn make_turn(space: &mut Space, event: Event) -> Result<(), ReplayFault>
     }
 }
 
-/// What a refused turn ends a replay with.
+/// Returns the fault with which a refused turn ends a replay.
 fn fault_of(refused: Refused) -> ReplayFault
     ensures { result ≡ fault_of refused }
 {

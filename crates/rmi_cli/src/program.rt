@@ -5,6 +5,7 @@ ghost use Rattle.rmi_cli.specs.Answer.{Answers, AnswersExactly};
 ghost use Rattle.rmi_words.specs.Command.{AskFor};
 ghost use Rattle.rmi_cli.specs.Drilled.{Drills, DrillsExactly};
 ghost use Rattle.rmi_cli.specs.Helped.{Helps};
+ghost use Rattle.rmi_cli.specs.Hosted.{Hosting, host_side};
 ghost use Rattle.rmi_cli.specs.Limits.{IsInLimits};
 ghost use Rattle.rmi_cli.specs.Line.{line_of, status_of_run};
 ghost use Rattle.rmi_cli.specs.Printing.{PrintsClass, PrintsExactly};
@@ -12,10 +13,12 @@ ghost use Rattle.rmi_cli.specs.Replayed.{ReplaysInput, ReplaysExactly};
 ghost use Rattle.conn_server.specs.Stops.{IsLostLink};
 ghost use Rattle.rmi_cli.specs.ServedLinks.{IsSampleLink, Serving, serve_plan};
 ghost use Rattle.rmi_cli.specs.Shown.{ShowsInput, ShowsExactly};
+ghost use Rattle.rmi_cli.specs.Called.{AsksAServer, AsksTheClock, CallsObject};
 ghost use Rattle.client_talk.specs.Sessions.{ended_as};
 ghost use Rattle.rmi_cli.specs.Talked.{AsksServer, LinkFailed, SinkFailed, side};
 ghost use Rattle.rmi_cli.specs.Told.{told_by, failures, StayOpen, end_of_words, TellsExactly, TellsEnd, TellsNoCommand};
 ghost use Rattle.rmi_cli.specs.Worlds.{MakesWorld, MakesWorldExactly, PrintsKeptWorld};
+ghost use Rattle.rmi_words.specs.declared.call_words.CallWords.{CallWords};
 ghost use Rattle.rmi_words.specs.declared.client.ClientCommand.{ClientCommand as ClientCommands};
 ghost use Rattle.rmi_words.specs.declared.command.ClassOutput.{ClassOutput as ClassOutputs};
 ghost use Rattle.rmi_words.specs.declared.command.Command.{Command as Commands};
@@ -23,17 +26,20 @@ ghost use Rattle.rmi_words.specs.declared.command.DrillText.{DrillText as DrillT
 ghost use Rattle.rmi_words.specs.declared.command.HelpTopic.{HelpTopic as Topics};
 
 use crate::answer_input::answer_input;
+use crate::call_output::call_object;
+use crate::call_request::request_of;
 use crate::class_input::print_class;
 use crate::client_output::ask_server;
 use crate::drill_output::write_drill;
 use crate::end::RunEnd;
 use crate::help_output::write_help;
 use crate::host::Host;
+use crate::host_input::{host_input, host_parts};
 use crate::journal_input::replay_input;
 use crate::serve_input::serve_input;
 use crate::stream_input::show_input;
 use crate::world_input::print_world;
-use rmi_words::{Command, LeaseOptions, ServeWords, Words, WordsFault};
+use rmi_words::{Command, HostWords, LeaseOptions, ServeWords, Words, WordsFault};
 use sample_app::SampleHand;
 use std::alloc::{AllocError, Global};
 use std::sync::Wait;
@@ -52,7 +58,7 @@ use wire_io::source::Source;
 /// | 0 | the command ended well |
 /// | 1 | only where the words are no command line; it, or 5, comes wherever they are none, and nothing is read or written then |
 /// | 2 | the input, or what a server answers, is not what the command reads |
-/// | 3 | only where reading the input failed, at `serve` the listener, or at a client's command the dialer or a source of its links |
+/// | 3 | only where reading the input failed, at `serve` and `host` the listener, or at a client's command the dialer or a source of its links |
 /// | 4 | only where writing the output failed, or at a client's command a sink of its links |
 /// | 5 | for want of memory |
 /// | 6 | at a limit |
@@ -112,6 +118,19 @@ pub fn run<
         (O.half host.old.output).faults (O.half host.new.output).faults
         (told_by E.half host.old.errors host.new.errors result) }
 
+    // `host` serves the links that are accepted at its port of its address, and at no other, over one space of its own that does not keep its events,
+    // until the listener is told to stop. It is as with `serve`, but that each link's report is dropped as the link has ended, and that the program's
+    // clock gives the moments of further Ticks. What stands of the space that is left is written, and the end is told. Nothing is read.
+    ensures hosts { (asked : HostWords) → AskFor words.now (Command.Host asked)
+        → Hosting R L.In.half L.Out.half L.Ticks.given host.old.seed asked
+        (host_side (L.listening host.old.listener) (T.given host.old.ticks)
+        (O.half host.old.output))
+        (host_side (L.listening host.new.listener) (T.given host.new.ticks)
+        (O.half host.new.output))
+        (told_by E.half host.old.errors host.new.errors result) }
+    ensures host_unread { (asked : HostWords) → AskFor words.now (Command.Host asked)
+        → host.new.input ≡ host.old.input }
+
     // `list`, `lookup`, `bind` and `unbind` dial a server and talk to it as their scripts say: what was sent and read on the link, and how it ended, is
     // one talk, the only one of the bytes that the server answers, where the link tells them, unless something outside failed or memory lacked. Nothing is
     // sent after the first end. The names, the reference or `ok` are printed where it ended well, and the end is told. The link's halves are left, shut.
@@ -119,6 +138,20 @@ pub fn run<
         (side (D.dialing host.old.dialer) (map (ended_as D.In.half D.Out.half) host.old.talked.items) (O.half host.old.output))
         (side (D.dialing host.new.dialer) (map (ended_as D.In.half D.Out.half) host.new.talked.items) (O.half host.new.output))
         given given
+        (told_by E.half host.old.errors host.new.errors result) }
+
+    // `call` looks a name up at a registry, dials the server of the reference that it finds, holds the reference there, and calls a method of it, as its
+    // script says, by the client that the seed gives: what was sent and read on both links, the moments that were read, and how it ended, is one talk, the
+    // only one of the bytes that the servers answer and of these moments, unless something outside failed or memory lacked. Nothing is sent after the first
+    // end. What the method returned is printed where the talk ended well, once it ended, and the end is told. The links' halves are left, shut. Where there
+    // is no memory for the request, nothing is done.
+    ensures calls { (call : CallWords) → AskFor words.now (Command.Call call)
+        → CallsObject host.old.seed call
+        (side (D.dialing host.old.dialer) (map (ended_as D.In.half D.Out.half) host.old.talked.items)
+        (O.half host.old.output))
+        (side (D.dialing host.new.dialer) (map (ended_as D.In.half D.Out.half) host.new.talked.items)
+        (O.half host.new.output))
+        (T.given host.old.ticks) (T.given host.new.ticks)
         (told_by E.half host.old.errors host.new.errors result) }
 
     // `replay` takes the whole input as a journal, and writes the outline of the history that it spells, or says why it has none.
@@ -195,31 +228,43 @@ pub fn run<
         (O.half host.old.output).faults (O.half host.new.output).faults
         (told_by E.half host.old.errors host.new.errors result) }
 
-    // No other command asks the clock; none but `serve` asks the listener or leaves anything as served; none but a client's command dials, or leaves
-    // halves of links, and these take nothing of the input; and none changes the seed.
-    ensures clock { ((options : LeaseOptions) → AskFor words.now (Command.Answer options) → ⊥) → T.given host.new.ticks ≡ T.given host.old.ticks }
-    ensures network { ((serve : ServeWords) → AskFor words.now (Command.Serve serve) → ⊥) → host.new.listener ≡ host.old.listener }
+    // None but `answer`, `call` and `host` asks the clock; none but `serve` and `host` asks the listener, and none but `serve` leaves anything as served; none but a command that asks a server
+    // dials, or leaves halves of links, and these take nothing of the input; and none changes the seed.
+    ensures clock { ((command : Commands) → AskFor words.now command → AsksTheClock command → ⊥)
+        → T.given host.new.ticks ≡ T.given host.old.ticks }
+    ensures network { ((serve : ServeWords) → AskFor words.now (Command.Serve serve) → ⊥)
+        → ((asked : HostWords) → AskFor words.now (Command.Host asked) → ⊥)
+        → host.new.listener ≡ host.old.listener }
     ensures served { ((serve : ServeWords) → AskFor words.now (Command.Serve serve) → ⊥) → host.new.served ≡ None }
     ensures seed { host.new.seed ≡ host.old.seed }
-    ensures dialing { ((asked : ClientCommands) → AskFor words.now (Command.Client asked) → ⊥)
+    ensures dialing { ((command : Commands) → AskFor words.now command → AsksAServer command → ⊥)
         → (host.new.dialer ≡ host.old.dialer) × (host.new.talked ≡ host.old.talked) }
-    ensures unread { (asked : ClientCommands) → AskFor words.now (Command.Client asked) → host.new.input ≡ host.old.input }
+    ensures unread { (command : Commands) → AskFor words.now command → AsksAServer command → host.new.input ≡ host.old.input }
 
     // The outside's failures.
-    ensures read_fault { ((serve : ServeWords) → AskFor words.now (Command.Serve serve) → ⊥) → ((asked : ClientCommands) → AskFor words.now (Command.Client asked) → ⊥)
+    ensures read_fault { ((serve : ServeWords) → AskFor words.now (Command.Serve serve) → ⊥)
+        → ((asked : HostWords) → AskFor words.now (Command.Host asked) → ⊥)
+        → ((command : Commands) → AskFor words.now command → AsksAServer command → ⊥)
         → result ≡ 3 → Rose (I.half host.old.input).faults (I.half host.new.input).faults }
     ensures network_fault { (serve : ServeWords) → AskFor words.now (Command.Serve serve) → result ≡ 3 → Rose (L.listening host.old.listener).faults (L.listening host.new.listener).faults }
-    ensures write_fault { ((asked : ClientCommands) → AskFor words.now (Command.Client asked) → ⊥)
+    ensures host_fault { (asked : HostWords) → AskFor words.now (Command.Host asked) → result ≡ 3
+        → Rose (L.listening host.old.listener).faults (L.listening host.new.listener).faults }
+    ensures write_fault { ((command : Commands) → AskFor words.now command → AsksAServer command → ⊥)
         → result ≡ 4 → Rose (O.half host.old.output).faults (O.half host.new.output).faults }
-    ensures link_fault { (asked : ClientCommands) → AskFor words.now (Command.Client asked) → result ≡ 3 → LinkFailed
+    ensures link_fault { (command : Commands) → AskFor words.now command → AsksAServer command → result ≡ 3 → LinkFailed
         (side (D.dialing host.old.dialer) (map (ended_as D.In.half D.Out.half) host.old.talked.items) (O.half host.old.output))
         (side (D.dialing host.new.dialer) (map (ended_as D.In.half D.Out.half) host.new.talked.items) (O.half host.new.output)) }
-    ensures sink_fault { (asked : ClientCommands) → AskFor words.now (Command.Client asked) → result ≡ 4 → SinkFailed
+    ensures sink_fault { (command : Commands) → AskFor words.now command → AsksAServer command → result ≡ 4 → SinkFailed
         (side (D.dialing host.old.dialer) (map (ended_as D.In.half D.Out.half) host.old.talked.items) (O.half host.old.output))
         (side (D.dialing host.new.dialer) (map (ended_as D.In.half D.Out.half) host.new.talked.items) (O.half host.new.output)) }
 
-    // Where the listener and the output did not fail, `serve` ends well, or memory lacked: however its links ended.
+    // Where the listener and the output did not fail, `serve` and `host` end well, or memory lacked: however their links ended.
     ensures settled { (serve : ServeWords) → AskFor words.now (Command.Serve serve)
+        → ¬ Rose (L.listening host.old.listener).faults (L.listening host.new.listener).faults
+        → ¬ Rose (O.half host.old.output).faults (O.half host.new.output).faults
+        → (result ≡ 0) ⊎ (result ≡ 5) }
+
+    ensures host_settled { (asked : HostWords) → AskFor words.now (Command.Host asked)
         → ¬ Rose (L.listening host.old.listener).faults (L.listening host.new.listener).faults
         → ¬ Rose (O.half host.old.output).faults (O.half host.new.output).faults
         → (result ≡ 0) ⊎ (result ≡ 5) }
@@ -291,10 +336,27 @@ fn obey<
         (wires I.half O.half host.new.input host.new.output)
         (O.half host.old.output).faults (O.half host.new.output).faults
         (told_by E.half host.old.errors host.new.errors result) }
+    ensures hosts { (asked : HostWords) → command ≡ Command.Host asked
+        → Hosting R L.In.half L.Out.half L.Ticks.given host.old.seed asked
+        (host_side (L.listening host.old.listener) (T.given host.old.ticks)
+        (O.half host.old.output))
+        (host_side (L.listening host.new.listener) (T.given host.new.ticks)
+        (O.half host.new.output))
+        (told_by E.half host.old.errors host.new.errors result) }
+    ensures host_unread { (asked : HostWords) → command ≡ Command.Host asked
+        → host.new.input ≡ host.old.input }
     ensures asks { (asked : ClientCommands) (given : Option (List ℕ)) → command ≡ Command.Client asked → AsksServer asked
         (side (D.dialing host.old.dialer) (map (ended_as D.In.half D.Out.half) host.old.talked.items) (O.half host.old.output))
         (side (D.dialing host.new.dialer) (map (ended_as D.In.half D.Out.half) host.new.talked.items) (O.half host.new.output))
         given given
+        (told_by E.half host.old.errors host.new.errors result) }
+    ensures calls { (call : CallWords) → command ≡ Command.Call call
+        → CallsObject host.old.seed call
+        (side (D.dialing host.old.dialer) (map (ended_as D.In.half D.Out.half) host.old.talked.items)
+        (O.half host.old.output))
+        (side (D.dialing host.new.dialer) (map (ended_as D.In.half D.Out.half) host.new.talked.items)
+        (O.half host.new.output))
+        (T.given host.old.ticks) (T.given host.new.ticks)
         (told_by E.half host.old.errors host.new.errors result) }
     ensures replay { command ≡ Command.Replay → ReplaysInput
         (wires I.half O.half host.old.input host.old.output)
@@ -350,17 +412,30 @@ fn obey<
         (wires I.half O.half host.new.input host.new.output)
         (O.half host.old.output).faults (O.half host.new.output).faults
         (told_by E.half host.old.errors host.new.errors result) }
-    ensures clock { ((options : LeaseOptions) → command ≡ Command.Answer options → ⊥) → T.given host.new.ticks ≡ T.given host.old.ticks }
-    ensures network { ((serve : ServeWords) → command ≡ Command.Serve serve → ⊥) → host.new.listener ≡ host.old.listener }
+    ensures clock { ((options : LeaseOptions) → command ≡ Command.Answer options → ⊥)
+        → ((call : CallWords) → command ≡ Command.Call call → ⊥)
+        → ((asked : HostWords) → command ≡ Command.Host asked → ⊥)
+        → T.given host.new.ticks ≡ T.given host.old.ticks }
+    ensures network { ((serve : ServeWords) → command ≡ Command.Serve serve → ⊥)
+        → ((asked : HostWords) → command ≡ Command.Host asked → ⊥)
+        → host.new.listener ≡ host.old.listener }
     ensures served { ((serve : ServeWords) → command ≡ Command.Serve serve → ⊥) → host.new.served ≡ host.old.served }
     ensures seed { host.new.seed ≡ host.old.seed }
     ensures dialing { ((asked : ClientCommands) → command ≡ Command.Client asked → ⊥)
+        → ((call : CallWords) → command ≡ Command.Call call → ⊥)
         → (host.new.dialer ≡ host.old.dialer) × (host.new.talked ≡ host.old.talked) }
     ensures unread { (asked : ClientCommands) → command ≡ Command.Client asked → host.new.input ≡ host.old.input }
-    ensures read_fault { ((serve : ServeWords) → command ≡ Command.Serve serve → ⊥) → ((asked : ClientCommands) → command ≡ Command.Client asked → ⊥)
+    ensures call_unread { (call : CallWords) → command ≡ Command.Call call → host.new.input ≡ host.old.input }
+    ensures read_fault { ((serve : ServeWords) → command ≡ Command.Serve serve → ⊥)
+        → ((asked : HostWords) → command ≡ Command.Host asked → ⊥)
+        → ((asked : ClientCommands) → command ≡ Command.Client asked → ⊥)
+        → ((call : CallWords) → command ≡ Command.Call call → ⊥)
         → result ≡ 3 → Rose (I.half host.old.input).faults (I.half host.new.input).faults }
     ensures network_fault { (serve : ServeWords) → command ≡ Command.Serve serve → result ≡ 3 → Rose (L.listening host.old.listener).faults (L.listening host.new.listener).faults }
+    ensures host_fault { (asked : HostWords) → command ≡ Command.Host asked → result ≡ 3
+        → Rose (L.listening host.old.listener).faults (L.listening host.new.listener).faults }
     ensures write_fault { ((asked : ClientCommands) → command ≡ Command.Client asked → ⊥)
+        → ((call : CallWords) → command ≡ Command.Call call → ⊥)
         → result ≡ 4 → Rose (O.half host.old.output).faults (O.half host.new.output).faults }
     ensures link_fault { (asked : ClientCommands) → command ≡ Command.Client asked → result ≡ 3 → LinkFailed
         (side (D.dialing host.old.dialer) (map (ended_as D.In.half D.Out.half) host.old.talked.items) (O.half host.old.output))
@@ -368,6 +443,16 @@ fn obey<
     ensures sink_fault { (asked : ClientCommands) → command ≡ Command.Client asked → result ≡ 4 → SinkFailed
         (side (D.dialing host.old.dialer) (map (ended_as D.In.half D.Out.half) host.old.talked.items) (O.half host.old.output))
         (side (D.dialing host.new.dialer) (map (ended_as D.In.half D.Out.half) host.new.talked.items) (O.half host.new.output)) }
+    ensures call_link_fault { (call : CallWords) → command ≡ Command.Call call → result ≡ 3 → LinkFailed
+        (side (D.dialing host.old.dialer) (map (ended_as D.In.half D.Out.half) host.old.talked.items)
+        (O.half host.old.output))
+        (side (D.dialing host.new.dialer) (map (ended_as D.In.half D.Out.half) host.new.talked.items)
+        (O.half host.new.output)) }
+    ensures call_sink_fault { (call : CallWords) → command ≡ Command.Call call → result ≡ 4 → SinkFailed
+        (side (D.dialing host.old.dialer) (map (ended_as D.In.half D.Out.half) host.old.talked.items)
+        (O.half host.old.output))
+        (side (D.dialing host.new.dialer) (map (ended_as D.In.half D.Out.half) host.new.talked.items)
+        (O.half host.new.output)) }
     ensures open { StayOpen I.half O.half host.old.input host.old.output host.new.input host.new.output }
     ensures errors_open { (E.half host.new.errors).shut ≡ (E.half host.old.errors).shut }
 {
@@ -395,6 +480,17 @@ fn obey<
             host.served = served.report;
             report_end(alloc, &mut host.errors, served.end)
         }
+        Command::Host(asked) => {
+            let parts = host_parts(rt, alloc, &host.seed, &asked);
+            let end = host_input(
+                rt,
+                &mut host.listener,
+                &mut host.ticks,
+                &mut host.output,
+                parts,
+            );
+            report_end(alloc, &mut host.errors, end)
+        }
         Command::Client(asked) => {
             let end = ask_server(
                 alloc,
@@ -402,6 +498,17 @@ fn obey<
                 &mut host.talked,
                 &mut host.output,
                 asked,
+            );
+            report_end(alloc, &mut host.errors, end)
+        }
+        Command::Call(call) => {
+            let request = request_of(alloc, &host.seed, &call);
+            let end = call_object(
+                &mut host.dialer,
+                &mut host.ticks,
+                &mut host.talked,
+                &mut host.output,
+                request,
             );
             report_end(alloc, &mut host.errors, end)
         }

@@ -29,14 +29,15 @@ use turn_lock::{Root, TurnLock};
 use wire_io::put::put_all;
 use wire_io::{Listener, Sink};
 
-/// What was served, where it came to that, and how the run ends.
+/// A report of the links that were served, where it came to that, and the end of the run.
 #[derive(Drop)]
 pub struct ServeOutcome<I, O, T, H> {
     pub end: RunEnd,
     pub report: Option<Report<I, O, T, H>>,
 }
 
-/// What links are served with: who does the calls, the kinds of objects, what the server is told, and the sample space in its lock.
+/// The parts that links are served with: the crew that does the calls, the kinds of objects, the server's plan, and the sample space in its
+/// lock.
 #[derive(Drop)]
 struct ServeParts<'t, R: Wait + Sync> {
     crew: SampleCrew<'t, R>,
@@ -165,18 +166,19 @@ fn print_outline<K: Sink>(alloc: Global, sink: &mut K, space: &Space) -> RunEnd
     }
 }
 
-/// How the run ends: as the stop says where that isn't All, and else as printing the outline did.
-fn end_after(stop: Stop, printed: RunEnd) -> RunEnd
+/// Returns the end of the run. It is as printing ended where the stop is All or Told, and else as the stop says.
+pub(crate) fn end_after(stop: Stop, printed: RunEnd) -> RunEnd
     ensures { result ≡ end_after stop printed }
 {
     match stop {
         Stop::All => printed,
+        Stop::Told => printed,
         Stop::AcceptFault => RunEnd::AcceptFault,
         Stop::OutOfMemory => RunEnd::OutOfMemory,
     }
 }
 
-/// What links are served with.
+/// Returns the parts that links are served with.
 fn serve_parts<'t, R: Wait + Sync>(
     rt: &'t R,
     alloc: Global,
@@ -219,7 +221,7 @@ fn lock_of(
     }
 }
 
-/// What the server is told.
+/// Returns the plan of the server.
 fn plan_of(alloc: Global, seed: &[u64; 4], words: &ServeWords) -> Result<ServePlan, AllocError>
     ensures { IfOk result (λ plan. plan ≡ serve_plan seed.now words.now) }
 {

@@ -17,7 +17,7 @@ use wire_io::put::put_all;
 use wire_io::sink::Sink;
 use wire_io::source::Source;
 
-/// How many bytes a stream has at most.
+/// The most bytes of a stream.
 pub const STREAM_BYTES: u64 = MESSAGE_BYTES;
 
 /// Takes the whole input as a stream, and writes the text of its graph.

@@ -1,4 +1,4 @@
-//! How a talk with a server ends, as a line and as a status.
+//! The end of a talk with a server, as a line and as a status.
 ghost use Rattle.std.specs.Prelude.{◌≡◌, IfOk, string_bytes};
 ghost use Rattle.rmi_cli.specs.TalkEnds.{line_of_session, line_of_table, line_of_talk, status_of_session, status_of_table, status_of_talk};
 

@@ -1,4 +1,4 @@
-//! What the commands that ask a server print.
+//! The output of the commands that ask a server.
 ghost use Rattle.std.specs.Prelude.{◌≡◌, ◌∷◌, ◌++◌, [], IfOk, OnOk};
 ghost use Rattle.std.specs.Fmt.{signed_decimal};
 ghost use Rattle.std.specs.List.{flat_map};
@@ -40,7 +40,7 @@ fn put_name_line(alloc: Global, out: &mut ByteList, name: &Units) -> Result<(), 
 }
 
 /// Appends a text in UTF-8, with U+FFFD for each surrogate that has no partner.
-fn put_shown(alloc: Global, out: &mut ByteList, text: &Units) -> Result<(), AllocError>
+pub(crate) fn put_shown(alloc: Global, out: &mut ByteList, text: &Units) -> Result<(), AllocError>
     ensures { OnOk result (out.new ≡ out.old ++ shown text.now) }
 {
     let text = String::from_utf16_lossy(alloc, text.as_slice())?;
@@ -52,14 +52,25 @@ pub(crate) fn reference_text(alloc: Global, reference: &LiveRef) -> Result<ByteL
     ensures { IfOk result (λ text. text ≡ reference_text reference.now) }
 {
     let mut text = ByteList::new(alloc);
-    put_shown(alloc, &mut text, &reference.host)?;
-    put_port(&mut text, reference.port)?;
-    put_object_line(&mut text, reference.id)?;
+    put_reference(alloc, &mut text, reference)?;
     Ok(text)
 }
 
+/// Appends the line of a reference.
+pub(crate) fn put_reference(
+    alloc: Global,
+    out: &mut ByteList,
+    reference: &LiveRef,
+) -> Result<(), AllocError>
+    ensures { OnOk result (out.new ≡ out.old ++ reference_text reference.now) }
+{
+    put_shown(alloc, out, &reference.host)?;
+    put_port(out, reference.port)?;
+    put_object_line(out, reference.id)
+}
+
 /// Appends a blank and a port.
-fn put_port(out: &mut ByteList, port: i32) -> Result<(), AllocError>
+pub(crate) fn put_port(out: &mut ByteList, port: i32) -> Result<(), AllocError>
     ensures { OnOk result (out.new ≡ out.old ++ 32 ∷ signed_decimal port) }
 {
     out.push(b' ')?;

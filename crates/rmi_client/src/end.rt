@@ -35,14 +35,14 @@ pub enum ClientEnd {
     },
     /// There is too much in a reply: of bytes at the first one past its limit of 16,777,216, of nodes and levels at the construct's code.
     TooLarge {
-        /// What there is too much of.
+        /// The quantity that is too great: bytes, nodes or levels.
         what: Large,
         /// Where.
         at: u64,
     },
     /// The input ends where a reply is wanted, or inside one.
     Truncated {
-        /// How many bytes there were.
+        /// The number of bytes that there were.
         at: u64,
     },
     /// The server answered an exception: the name of its class, and, where it has a message, a colon, a space and that.
@@ -51,7 +51,7 @@ pub enum ClientEnd {
     ReadFault,
     /// The sink failed, and its count of faults rose.
     WriteFault {
-        /// How many bytes of those that the call sends the sink took: the first ones, and not all.
+        /// The number of the call's bytes that the sink took: the first ones, and not all.
         sent: u64,
     },
     /// An earlier call of the session ended otherwise than with an answer or an exception. Nothing was sent or read.
@@ -113,7 +113,7 @@ pub(crate) fn not_return(at: u64) -> ClientEnd
     }
 }
 
-/// Whether a session is over after this.
+/// Returns whether a session is over after this.
 pub(crate) fn is_end<T>(answered: &Result<T, ClientEnd>) -> bool
     ensures { result ≡ is_end answered.now }
 {

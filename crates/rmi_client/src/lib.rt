@@ -1,3 +1,4 @@
+// SPDX-License-Identifier: Apache-2.0 OR MIT
 //! A client's end of a connection (Java RMI Specification, 10.2 and 10.3): the messages that it sends, and the replies that it reads.
 #![tactic(auto)]
 

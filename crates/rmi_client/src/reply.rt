@@ -1,4 +1,4 @@
-//! What a server sends to a client, as it is read.
+//! The replies that a server sends to a client, as the client reads them.
 ghost use Rattle.std.specs.Prelude.{◌≡◌, option_map};
 ghost use Rattle.wire_io.specs.Pulled.{pull_state};
 ghost use Rattle.java_shapes.specs.Throwable.{fault_text_at};
@@ -15,7 +15,7 @@ use ser_values::Graph;
 use std::alloc::Global;
 use wire_io::{Pull, Source};
 
-/// What a server answered to a Call.
+/// A server's answer to a Call.
 #[derive(Debug)]
 pub struct Answer {
     /// The identifier of the Return, by which its references are acknowledged.

@@ -1,4 +1,4 @@
-//! What the Returns of the registry hold.
+//! The contents of the registry's Returns.
 ghost use Rattle.std.specs.Prelude.{◌≡◌, ◌⊎◌, option_map, None, Some};
 ghost use Rattle.java_shapes.specs.Ids.{texts_at};
 ghost use Rattle.java_shapes.specs.LiveRefs.{live_ref_at};

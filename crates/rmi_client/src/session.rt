@@ -25,7 +25,7 @@ pub struct Session<S, K> {
     pub(crate) alloc: Global,
     source: S,
     sink: K,
-    /// How many bytes were read.
+    /// The number of bytes that were read.
     pub(crate) at: u64,
     pub(crate) is_over: bool,
     ghost small: { at ≤ LAST_POSITION },

@@ -69,7 +69,7 @@ pub fn count(bound: &BindingMap, object: &ObjId) -> usize
     values_of(bound, object)
 }
 
-/// How many entries have an object.
+/// Returns the number of entries that have an object.
 fn values_of(bound: &BindingMap, object: &ObjId) -> usize
     ensures { result ≡ length (filter (λ o. same_id o object.now) (values bound.now)) }
 {

@@ -1,3 +1,4 @@
+// SPDX-License-Identifier: Apache-2.0 OR MIT
 //! The names of a registry and the objects for which they stand (Java RMI Specification, chapter 6).
 #![tactic(auto)]
 

@@ -167,7 +167,7 @@ impl Names {
         self.lookup(name).is_ok()
     }
 
-    /// Whether as many names as can be are bound.
+    /// Returns whether as many names are bound as the limit allows.
     fn is_full(&self) -> bool
         ensures { result ≡ nat_le MAX_NAMES (length self.now) }
     {

@@ -1,21 +1,31 @@
 -- What holds wherever words ask for a command.
-use Rattle.std.proofs.Common.{◌≡◌, ℕ, ◌≤◌, ◌<◌, ◌^◌, List, [], ◌∷◌, get_or, drop, Bool, true, false, Option, Some, None, codes, refl, ap, ap₂, sym, subst, ◌∙◌, arith}
+use Rattle.std.proofs.Common.{◌≡◌, ℕ, ◌≤◌, ◌<◌, ◌^◌, List, [], ◌∷◌, get_or, drop, length, Bool, true, false, Option, Some, None, codes, refl, ap, ap₂, sym, subst, ◌∙◌, arith}
 use Rattle.std.specs.Prelude.{slice_get}
 use Rattle.std.proofs.lemmas.Fmt.{decimal_injective}
 use Rattle.history.specs.declared.limits.TheConstants.{MAX_DURATION_MS}
+use Rattle.method_hash.specs.declared.method.Method.{Method}
+use Rattle.mod_utf.specs.Utf.{utf}
+use Rattle.wire_io.specs.declared.limits.TheConstants.{MAX_HOST_BYTES}
+use Rattle.rmi_words.proofs.ArgumentWords.{same_arguments}
 use Rattle.rmi_words.proofs.DrillWords.{one_drill}
+use Rattle.rmi_words.proofs.MethodTexts.{one_method}
 use Rattle.rmi_words.proofs.Naming.{IsOf, named_by, topic_in}
-use Rattle.rmi_words.specs.Clients.{ClientWords, IsAddressIn, IsClient, IsTextIn, IsToldBy, placed_words}
+use Rattle.rmi_words.specs.CallWords.{AreArguments, IsCall, IsMethodOf}
+use Rattle.rmi_words.specs.Clients.{ClientWords, IsAddressIn, IsClient, IsNamedIn, IsTextIn, IsToldBy, placed_words}
 use Rattle.rmi_words.specs.Command.{AskFor, IsAnswer, IsServe, IsWordOfDrill, word_of_text, words_of_topic}
+use Rattle.rmi_words.specs.HostWords.{IsAddress, IsHost, IsHostIn, IsHostInRange, IsOwnHost}
 use Rattle.rmi_words.specs.Options.{AreGivenBy, IsInRange, IsServeInRange, IsBindingOf, IsDurationOf, IsSmallOf, SpellsUpTo}
 use Rattle.rmi_words.specs.Values.{name_of}
+use Rattle.rmi_words.specs.declared.call_words.Argument.{Argument}
+use Rattle.rmi_words.specs.declared.call_words.CallWords.{CallWords}
 use Rattle.rmi_words.specs.declared.client.ClientCommand.{ClientCommand}
 use Rattle.rmi_words.specs.declared.client.ClientCommand.TheVariants.{List as ListNames, Lookup, Bind, Unbind}
 use Rattle.rmi_words.specs.declared.client.ServerAddress.{ServerAddress}
+use Rattle.rmi_words.specs.declared.host_words.HostWords.{HostWords}
 use Rattle.rmi_words.specs.declared.options.ServeWords.{ServeWords}
 use Rattle.rmi_words.specs.declared.options.LeaseOptions.{LeaseOptions}
 use Rattle.rmi_words.specs.declared.command.Command.{Command}
-use Rattle.rmi_words.specs.declared.command.Command.TheVariants.{Answer, Serve, Client, Replay, Show, Drill, World, Class, Help}
+use Rattle.rmi_words.specs.declared.command.Command.TheVariants.{Answer, Serve, Host, Client, Call, Replay, Show, Drill, World, Class, Help}
 use Rattle.rmi_words.specs.declared.command.ClassOutput.TheVariants as outputs
 use Rattle.rmi_words.specs.declared.command.HelpTopic.{HelpTopic}
 use Rattle.rmi_words.specs.declared.command.HelpTopic.TheVariants as topics
@@ -47,6 +57,24 @@ serve_in_range words serve asked = record {
   count_fits = asked.told.count_is.1;
   options = options_in_range serve.options asked.rest asked.told.options_are;
 }
+
+small_in_range : (n : ℕ) (word : Option (List ℕ)) → IsSmallOf n word → (1 ≤ n) × (n ≤ 65535)
+small_in_range n (Some word) small = (small.0, small.1)
+small_in_range n None small = absurd small
+
+short_host : (host : List ℕ) (word : Option (List ℕ)) → IsOwnHost host word → length (utf host) ≤ MAX_HOST_BYTES
+short_host host (Some word) is = is.1
+short_host host None is = absurd is
+
+-- So is what `host` is told.
+pub host_in_range : (words : List (List ℕ)) (host : HostWords) → AskFor words (Host host) → IsHostInRange host
+host_in_range words host asked =
+    let port = small_in_range host.port (slice_get asked.rest 2) asked.told.port_is in record {
+      port = port.0;
+      port_fits = port.1;
+      short = short_host host.host (slice_get asked.rest 1) asked.told.host_is;
+      options = options_in_range host.options (drop 3 asked.rest) asked.told.options_are;
+    }
 
 -- ---- one command
 
@@ -81,7 +109,9 @@ same_options words a b x y =
 first_is : (words : List (List ℕ)) (command : Command) → AskFor words command → get_or words 0 [] ≡ name_of command
 first_is words (Answer options) asked = ap (λ words. get_or words 0 []) asked.words_are
 first_is words (Serve serve) asked = ap (λ words. get_or words 0 []) asked.words_are
+first_is words (Host host) asked = ap (λ words. get_or words 0 []) asked.words_are
 first_is words (Client command) asked = ap (λ words. get_or words 0 []) asked.words_are
+first_is words (Call call) asked = ap (λ words. get_or words 0 []) asked.words_are
 first_is words Replay asked = ap (λ words. get_or words 0 []) asked
 first_is words Show asked = ap (λ words. get_or words 0 []) asked
 first_is words World asked = ap (λ words. get_or words 0 []) asked
@@ -138,12 +168,56 @@ same_bind words a b n m from from2 x y =
     ap₂ (λ s t. Bind s t from) (same_server words a b x.0.server_is y.0.server_is) (same_text n m words.name x.0.name_is y.0.name_is)
     ∙ ap (λ t. Bind b m t) (same_text from from2 words.from x.1 y.1)
 
+same_address : (a b : List ℕ) (word : Option (List ℕ)) → IsAddress a word → IsAddress b word → a ≡ b
+same_address a b (Some word) x y = x.0 ∙ sym y.0
+same_address a b None x y = absurd x
+
+same_own_host : (a b : List ℕ) (word : Option (List ℕ)) → IsOwnHost a word → IsOwnHost b word → a ≡ b
+same_own_host a b (Some word) x y = x.0 ∙ sym y.0
+same_own_host a b None x y = absurd x
+
+abbrev host_with : List ℕ → List ℕ → ℕ → LeaseOptions → HostWords
+host_with address host port options = record { address = address; host = host; port = port; options = options }
+
+same_host_in : (words : List (List ℕ)) (a b : HostWords) → IsHostIn a words → IsHostIn b words → a ≡ b
+same_host_in words a b x y =
+    let address = same_address a.address b.address (slice_get words 0) x.address_is y.address_is in
+    let host = same_own_host a.host b.host (slice_get words 1) x.host_is y.host_is in
+    let port = same_small a.port b.port (slice_get words 2) x.port_is y.port_is in
+    let options = same_options (drop 3 words) a.options b.options x.options_are y.options_are in
+    ap (λ (t : List ℕ). host_with t a.host a.port a.options) address
+    ∙ ap (λ (t : List ℕ). host_with b.address t a.port a.options) host
+    ∙ ap (λ (n : ℕ). host_with b.address b.host n a.options) port
+    ∙ ap (λ (o : LeaseOptions). host_with b.address b.host b.port o) options
+
+same_host : (words : List (List ℕ)) (a b : HostWords) → IsHost a words → IsHost b words → a ≡ b
+same_host words a b x y =
+    let rest : x.rest ≡ y.rest = ap (λ words. drop 1 words) (sym x.words_are ∙ y.words_are) in
+    same_host_in y.rest a b (subst (IsHostIn a) rest x.told) y.told
+
 -- Two commands of one word are told the same by the same words.
 same_told : (words : List (List ℕ)) (a b : ClientCommand) → IsClient a words → IsClient b words
     → ((seen : ClientWords) → IsToldBy a seen → IsToldBy b seen → a ≡ b) → a ≡ b
 same_told words a b x y same =
     let rest : x.rest ≡ y.rest = ap (λ words. drop 1 words) (sym x.words_are ∙ y.words_are) in
     same (placed_words y.rest) (subst (λ r. IsToldBy a (placed_words r)) rest x.told) y.told
+
+abbrev call_with : ServerAddress → List ℕ → Method → List Argument → CallWords
+call_with server name method arguments = record { server = server; name = name; method = method; arguments = arguments }
+
+same_call : (words : List (List ℕ)) (a b : CallWords) → IsCall a words → IsCall b words → a ≡ b
+same_call words a b x y =
+    let rest : x.rest ≡ y.rest = ap (λ words. drop 1 words) (sym x.words_are ∙ y.words_are) in
+    let named = subst (λ r. IsNamedIn a.server a.name (placed_words r)) rest x.name_is in
+    let server = same_server (placed_words y.rest) a.server b.server named.server_is y.name_is.server_is in
+    let name = same_text a.name b.name (slice_get y.rest 2) named.name_is y.name_is.name_is in
+    let method : a.method ≡ b.method = one_method (slice_get y.rest 3) a.method b.method (subst (λ r. IsMethodOf a.method (slice_get r 3)) rest x.method_is) y.method_is in
+    let told : AreArguments a.method.params a.arguments (drop 4 y.rest) = subst (λ r. AreArguments a.method.params a.arguments (drop 4 r)) rest x.arguments_are in
+    let arguments = same_arguments b.method.params a.arguments b.arguments (drop 4 y.rest) (subst (λ (m : Method). AreArguments m.params a.arguments (drop 4 y.rest)) method told) y.arguments_are in
+    ap (λ (s : ServerAddress). call_with s a.name a.method a.arguments) server
+    ∙ ap (λ (n : List ℕ). call_with b.server n a.method a.arguments) name
+    ∙ ap (λ (m : Method). call_with b.server b.name m a.arguments) method
+    ∙ ap (λ (xs : List Argument). call_with b.server b.name b.method xs) arguments
 
 same_drill : (words : List (List ℕ)) (text text2 : DrillText) (seed rounds seed2 rounds2 : ℕ) → IsWordOfDrill words (word_of_text text) seed rounds
     → IsWordOfDrill words (word_of_text text2) seed2 rounds2 → Drill text seed rounds ≡ Drill text2 seed2 rounds2
@@ -161,10 +235,12 @@ topic_is : (topic : HelpTopic) → topic_in (topic_word topic) ≡ topic
 topic_is topics.All = refl
 topic_is topics.Answer = refl
 topic_is topics.Serve = refl
+topic_is topics.Host = refl
 topic_is topics.List = refl
 topic_is topics.Lookup = refl
 topic_is topics.Bind = refl
 topic_is topics.Unbind = refl
+topic_is topics.Call = refl
 topic_is topics.Replay = refl
 topic_is topics.Show = refl
 topic_is topics.Drill = refl
@@ -186,6 +262,9 @@ asked_once words (Answer options) b x y =
 asked_once words (Serve serve) b x y =
     let of = same_name words (Serve serve) b x y in
     ap Serve (same_serve words serve of.0 x (subst (AskFor words) of.1 y)) ∙ sym of.1
+asked_once words (Host host) b x y =
+    let of = same_name words (Host host) b x y in
+    ap Host (same_host words host of.0 x (subst (AskFor words) of.1 y)) ∙ sym of.1
 asked_once words (Client (ListNames server)) b x y =
     let of = same_name words (Client (ListNames server)) b x y in
     ap Client (same_told words (ListNames server) (ListNames of.0) x (subst (AskFor words) of.1 y) (λ seen. same_list seen server of.0)) ∙ sym of.1
@@ -198,6 +277,9 @@ asked_once words (Client (Bind server name from)) b x y =
 asked_once words (Client (Unbind server name)) b x y =
     let of = same_name words (Client (Unbind server name)) b x y in
     ap Client (same_told words (Unbind server name) (Unbind of.0 of.1) x (subst (AskFor words) of.2 y) (λ seen. same_unbind seen server of.0 name of.1)) ∙ sym of.2
+asked_once words (Call call) b x y =
+    let of = same_name words (Call call) b x y in
+    ap Call (same_call words call of.0 x (subst (AskFor words) of.1 y)) ∙ sym of.1
 asked_once words Replay b x y = sym (same_name words Replay b x y)
 asked_once words Show b x y = sym (same_name words Show b x y)
 asked_once words (Drill Summary seed rounds) b x y =

@@ -8,15 +8,17 @@ use Rattle.std.proofs.lemmas.Fmt.{decimal_nonempty, digits_decimal}
 use Rattle.std.proofs.lemmas.Str.Parse.{IsNumeralModel, not_in_digits, numerals_by_value, tells_digits}
 use Rattle.clap.specs.Walk.{Row, Text, first_of}
 use Rattle.history.specs.declared.limits.TheConstants.{MAX_DURATION_MS}
-use Rattle.rmi_words.proofs.Found.{AreRead, Takes, answer_takes, bind_takes, describe_takes, drill_takes, first_is, found, help_takes, journal_takes, list_takes, lookup_takes, read, replay_takes, serve_takes, show_takes, suid_takes, suidtext_takes, unbind_takes, world_takes, wrong}
+use Rattle.rmi_words.proofs.CallPlaces.{call_from, call_passes, call_to, four_words}
+use Rattle.rmi_words.proofs.Found.{AreRead, Takes, answer_takes, bind_takes, call_enters, describe_takes, drill_takes, entered_found, entered_wrong, first_is, found, help_takes, host_takes, journal_takes, list_takes, lookup_takes, read, read_call, replay_takes, serve_takes, show_takes, suid_takes, suidtext_takes, unbind_takes, world_takes, wrong}
+use Rattle.rmi_words.proofs.HostPlaces.{host_from, host_passes, host_to, six_words, three_words}
 use Rattle.rmi_words.proofs.Places.{answer_ack, answer_binding, answer_lease, answer_passes, bare, bare_passes, bind_passes, bind_words, drill_n, drill_passes, drill_seed, help_command, help_passes, journal_n, journal_passes, journal_seed, level_of, list_passes, list_words, lookup_passes, lookup_words, rows_of, serve_ack, serve_binding, serve_count, serve_lease, serve_passes, serve_port, unbind_passes, unbind_words}
 use Rattle.rmi_words.proofs.Walking.{ArePlain}
 use Rattle.rmi_words.specs.Clients.{IsClient, IsToldBy, Reads, count_of_client, named_words, placed_words, word_of_client}
 use Rattle.rmi_words.specs.Command.{AskFor, AreInRange, IsAnswer, IsServe, IsWordOfDrill, words_of_topic}
-use Rattle.rmi_words.specs.Entries.{Entry, answer_entry, bind_entry, drill_entry, help_entry, journal_entry, list_entry, lookup_entry, serve_entry, unbind_entry}
+use Rattle.rmi_words.specs.Entries.{Entry, answer_entry, bind_entry, call_entry, drill_entry, help_entry, host_entry, journal_entry, list_entry, lookup_entry, serve_entry, unbind_entry}
 use Rattle.rmi_words.specs.Options.{AreGivenBy, IsBindingOf, IsDurationOf, IsSmallOf, SpellsUpTo}
 use Rattle.rmi_words.specs.Program.{faults_in, found_in, is_option}
-use Rattle.rmi_words.specs.Values.{AreOptionsOf, IsCommandIn, IsCommandOf, IsDrillOf, IsServeOf, IsToldIn, Values, name_of}
+use Rattle.rmi_words.specs.Values.{AreOptionsOf, IsCommandIn, IsCallOf, IsCommandOf, IsDrillOf, IsHostOf, IsServeOf, IsToldIn, Values, given_in, name_of}
 use Rattle.rmi_words.specs.declared.client.ClientCommand.{ClientCommand}
 use Rattle.rmi_words.specs.declared.client.ClientCommand.TheVariants.{List as ListNames, Lookup, Bind, Unbind}
 use Rattle.rmi_words.specs.declared.command.WordsFault.{WordsFault}
@@ -24,7 +26,7 @@ use Rattle.rmi_words.specs.declared.command.WordsFault.TheVariants.{Usage}
 use Rattle.rmi_words.specs.declared.options.LeaseOptions.{LeaseOptions}
 use Rattle.rmi_words.specs.declared.options.ServeWords.{ServeWords}
 use Rattle.rmi_words.specs.declared.command.Command.{Command}
-use Rattle.rmi_words.specs.declared.command.Command.TheVariants.{Answer, Serve, Client, Replay, Show, Drill, World, Class, Help}
+use Rattle.rmi_words.specs.declared.command.Command.TheVariants.{Answer, Serve, Host, Client, Call, Replay, Show, Drill, World, Class, Help}
 use Rattle.rmi_words.specs.declared.command.DrillText.TheVariants.{Summary, Journal}
 use Rattle.rmi_words.specs.declared.command.ClassOutput.TheVariants as outputs
 use Rattle.rmi_words.specs.declared.command.HelpTopic.{HelpTopic}
@@ -65,10 +67,12 @@ plain_topic : (topic : HelpTopic) → ArePlain (words_of_topic topic)
 plain_topic topics.All = tt
 plain_topic topics.Answer = (refl, tt)
 plain_topic topics.Serve = (refl, tt)
+plain_topic topics.Host = (refl, tt)
 plain_topic topics.List = (refl, tt)
 plain_topic topics.Lookup = (refl, tt)
 plain_topic topics.Bind = (refl, tt)
 plain_topic topics.Unbind = (refl, tt)
+plain_topic topics.Call = (refl, tt)
 plain_topic topics.Replay = (refl, tt)
 plain_topic topics.Show = (refl, tt)
 plain_topic topics.Drill = (refl, tt)
@@ -110,7 +114,9 @@ plain_client (Unbind server name) = refl
 pub asked_plain : (words : List (List ℕ)) (c : Command) → AskFor words c → ArePlain words
 asked_plain words (Answer options) a = subst ArePlain (sym a.words_are) (refl, plain_options options a.rest a.options_are)
 asked_plain words (Serve serve) a = subst ArePlain (sym a.words_are) (refl, plain_serve serve a.port a.count a.rest a.told.port_is a.told.count_is a.told.options_are)
+asked_plain words (Host host) a = subst ArePlain (sym a.words_are) (refl, plain_any a.rest a.plain)
 asked_plain words (Client c) a = subst ArePlain (sym a.words_are) (plain_client c, plain_any a.rest a.plain)
+asked_plain words (Call call) a = subst ArePlain (sym a.words_are) (refl, plain_any a.rest a.plain)
 asked_plain words Replay a = subst ArePlain (sym a) (refl, tt)
 asked_plain words Show a = subst ArePlain (sym a) (refl, tt)
 asked_plain words World a = subst ArePlain (sym a) (refl, tt)
@@ -127,10 +133,12 @@ topic_short : (topic : HelpTopic) → length (words_of_topic topic) ≤ 1
 topic_short topics.All = omega arith
 topic_short topics.Answer = omega arith
 topic_short topics.Serve = omega arith
+topic_short topics.Host = omega arith
 topic_short topics.List = omega arith
 topic_short topics.Lookup = omega arith
 topic_short topics.Bind = omega arith
 topic_short topics.Unbind = omega arith
+topic_short topics.Call = omega arith
 topic_short topics.Replay = omega arith
 topic_short topics.Show = omega arith
 topic_short topics.Drill = omega arith
@@ -181,7 +189,12 @@ asked_right words (Serve serve) a =
     let ws = a.port ∷ a.count ∷ a.rest in
     ap faults_in a.words_are ∙ wrong serve_entry 2 5 serve_takes ws (plain_serve serve a.port a.count a.rest a.told.port_is a.told.count_is a.told.options_are)
     ∙ serve_passes ws (omega arith) (omega (arith, a.told.options_are.no_more))
+asked_right words (Host host) a =
+    ap faults_in a.words_are ∙ wrong host_entry 3 6 host_takes a.rest (plain_any a.rest a.plain)
+    ∙ host_passes a.rest (three_words host a.rest a.told) (six_words host a.rest a.told)
 asked_right words (Client c) a = client_right words c a
+asked_right words (Call call) a =
+    ap faults_in a.words_are ∙ entered_wrong call_entry call_enters a.rest (plain_any a.rest a.plain) ∙ call_passes a.rest (four_words call.method a.rest a.method_is)
 asked_right words Replay a = right_alone replay_takes words a
 asked_right words Show a = right_alone show_takes words a
 asked_right words World a = right_alone world_takes words a
@@ -291,10 +304,29 @@ module _ (words : List (List ℕ)) (plain : ArePlain words) (right : faults_in w
       }
 
   -- What is found is asked for.
-  pub found_asked : (c : Command) → IsCommandOf p.0 c (values_in p.1) → AskFor words c
+  pub found_asked : (c : Command) → IsCommandOf p.0 c (given_in p.1) → AskFor words c
   found_asked (Answer options) g = let h = named _ g.0 in answer_to options words h.0 p.1 h.1 (read answer_entry 0 3 answer_takes words h.0 p plain right is h.1) g.1
   found_asked (Serve serve) g = let h = named _ g.0 in serve_to serve words h.0 p.1 h.1 (read serve_entry 2 5 serve_takes words h.0 p plain right is h.1) g.1
+  found_asked (Host host) g =
+      let h = named _ g.0 in
+      let r = read host_entry 3 6 host_takes words h.0 p plain right is h.1 in record {
+        rest = h.0;
+        words_are = h.1;
+        plain = any_plain h.0 r.plain;
+        told = host_to host h.0 r.some r.few (subst (λ (rows : List Row). IsHostOf host (values_in rows)) (sym r.rows_are) g.1);
+      }
   found_asked (Client c) g = client_asked c g.0 g.1
+  found_asked (Call call) g =
+      let h = named _ g.0 in
+      let r = read_call words h.0 p plain right is h.1 in
+      let told = call_to call h.0 r.some (subst (IsCallOf call) (ap given_in (sym r.rows_are)) g.1) in record {
+        rest = h.0;
+        words_are = h.1;
+        plain = any_plain h.0 r.plain;
+        name_is = told.0;
+        method_is = told.1;
+        arguments_are = told.2;
+      }
   found_asked Replay g = asked_alone replay_takes g.0
   found_asked Show g = asked_alone show_takes g.0
   found_asked World g = asked_alone world_takes g.0
@@ -318,7 +350,7 @@ module _ (words : List (List ℕ)) (plain : ArePlain words) (right : faults_in w
 pub record ComesTo (words : List (List ℕ)) (c : Command) : Type 0 where
   pub rows : List Row
   pub is : found_in words ≡ Some (name_of c, rows)
-  pub told : IsToldIn c (values_in rows)
+  pub told : IsToldIn c (given_in rows)
 
 small_from : (n : ℕ) (o : Option (List ℕ)) (w : List ℕ) → o ≡ Some w → SpellsUpTo 65535 n w → IsSmallOf n o
 small_from n o w is small = subst (IsSmallOf n) (sym is) small
@@ -342,6 +374,11 @@ asked_found words (Serve serve) a =
         options = options_from serve.options (values_in (rows_of serve_entry ws)) a.rest (serve_binding ws few) (serve_lease ws few) (serve_ack ws few) a.told.options_are;
       };
     }
+asked_found words (Host host) a = record {
+  rows = rows_of host_entry a.rest;
+  is = ap found_in a.words_are ∙ found host_entry 3 6 host_takes a.rest (plain_any a.rest a.plain);
+  told = host_from host a.rest a.told;
+}
 asked_found words (Client c) a =
     let p = placed c in
     let rows = rows_of p.entry a.rest in record {
@@ -349,6 +386,11 @@ asked_found words (Client c) a =
       is = ap found_in (begins_with c words a.rest a.words_are) ∙ found p.entry _ _ p.takes a.rest (plain_any a.rest a.plain) ∙ ap (λ (name : List ℕ). Some (name, rows)) (sym p.named);
       told = subst (IsToldBy c) (sym (p.words a.rest (omega (arith, a.count_is)))) a.told;
     }
+asked_found words (Call call) a = record {
+  rows = rows_of call_entry a.rest;
+  is = ap found_in a.words_are ∙ entered_found call_entry call_enters a.rest (plain_any a.rest a.plain);
+  told = call_from call words a;
+}
 asked_found words Replay a = record { rows = _; is = found_alone replay_takes words a; told = tt }
 asked_found words Show a = record { rows = _; is = found_alone show_takes words a; told = tt }
 asked_found words World a = record { rows = _; is = found_alone world_takes words a; told = tt }
@@ -382,7 +424,7 @@ some_pair a b e = cc
 nothing_asked : (words : List (List ℕ)) (p : Text × List Row) → found_in words ≡ Some p → ((c : Command) → IsCommandIn c (Some p) → ⊥) → (c : Command) → AskFor words c → ⊥
 nothing_asked words p is none c a =
     let comes = asked_found words c a in
-    let P : Text × List Row → Type 0 = λ q. IsCommandOf q.0 c (values_in q.1) in
+    let P : Text × List Row → Type 0 = λ q. IsCommandOf q.0 c (given_in q.1) in
     none c (subst P (some_pair _ _ (sym comes.is ∙ is)) (refl, comes.told))
 
 -- A command that is found in words that `clap` takes is asked for, and where none is, none is.

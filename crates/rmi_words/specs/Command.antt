@@ -1,11 +1,13 @@
 -- The command lines of the program.
 use Rattle.std.specs.Prelude.{◌≡◌, ℕ, ◌<◌, ◌≤◌, ◌^◌, codes, decimal, List, [], ◌∷◌}
+use Rattle.rmi_words.specs.CallWords.{IsCall}
 use Rattle.rmi_words.specs.Clients.{IsClient}
+use Rattle.rmi_words.specs.HostWords.{IsHost}
 use Rattle.rmi_words.specs.Options.{AreGivenBy, SpellsUpTo}
 use Rattle.rmi_words.specs.declared.options.ServeWords.{ServeWords}
 use Rattle.rmi_words.specs.declared.options.LeaseOptions.{LeaseOptions}
 use Rattle.rmi_words.specs.declared.command.Command.{Command}
-use Rattle.rmi_words.specs.declared.command.Command.TheVariants.{Answer, Serve, Client, Replay, Show, Drill, World, Class, Help}
+use Rattle.rmi_words.specs.declared.command.Command.TheVariants.{Answer, Serve, Host, Client, Call, Replay, Show, Drill, World, Class, Help}
 use Rattle.rmi_words.specs.declared.command.ClassOutput.{ClassOutput}
 use Rattle.rmi_words.specs.declared.command.ClassOutput.TheVariants as outputs
 use Rattle.rmi_words.specs.declared.command.DrillText.{DrillText}
@@ -65,10 +67,12 @@ abbrev pub words_of_topic : HelpTopic → List (List ℕ)
 words_of_topic topics.All = []
 words_of_topic topics.Answer = codes "answer" ∷ []
 words_of_topic topics.Serve = codes "serve" ∷ []
+words_of_topic topics.Host = codes "host" ∷ []
 words_of_topic topics.List = codes "list" ∷ []
 words_of_topic topics.Lookup = codes "lookup" ∷ []
 words_of_topic topics.Bind = codes "bind" ∷ []
 words_of_topic topics.Unbind = codes "unbind" ∷ []
+words_of_topic topics.Call = codes "call" ∷ []
 words_of_topic topics.Replay = codes "replay" ∷ []
 words_of_topic topics.Show = codes "show" ∷ []
 words_of_topic topics.Drill = codes "drill" ∷ []
@@ -83,7 +87,9 @@ words_of_topic topics.Help = codes "help" ∷ []
 abbrev pub AskFor : List (List ℕ) → Command → Type 0
 AskFor words (Answer options) = IsAnswer options words
 AskFor words (Serve serve) = IsServe serve words
+AskFor words (Host host) = IsHost host words
 AskFor words (Client command) = IsClient command words
+AskFor words (Call call) = IsCall call words
 AskFor words Replay = IsWord words (codes "replay")
 AskFor words Show = IsWord words (codes "show")
 AskFor words (Drill text seed rounds) = IsWordOfDrill words (word_of_text text) seed rounds

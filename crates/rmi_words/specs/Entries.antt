@@ -3,10 +3,12 @@ use Rattle.std.specs.Prelude.{ℕ, Bool, true, false, List, [], ◌∷◌, map, 
 use Rattle.rmi_words.specs.declared.table.WordEntry.{WordEntry}
 use Rattle.rmi_words.specs.declared.table.CommandEntry.{CommandEntry}
 
--- A word that a command takes: what `help` calls it, whether it has to be there, and what it says.
+-- A word that a command takes: what `help` calls it, whether it has to be there, whether any number of words may stand there, and what
+-- it says.
 pub record Word : Type 0 where
   pub name : List ℕ
   pub required : Bool
+  pub several : Bool
   pub says : List ℕ
 
 -- A command: the word that names it, the words that it takes, what it does, and a line that calls it.
@@ -17,7 +19,7 @@ pub record Entry : Type 0 where
   pub example : List ℕ
 
 abbrev pub word_of : WordEntry → Word
-word_of word = record { name = word.name.now; required = word.required; says = word.says.now }
+word_of word = record { name = word.name.now; required = word.required; several = word.several; says = word.says.now }
 
 abbrev pub entry_of : CommandEntry → Entry
 entry_of entry = record {
@@ -30,10 +32,13 @@ entry_of entry = record {
 -- ---- the words
 
 abbrev pub needed : List ℕ → List ℕ → Word
-needed name says = record { name = name; required = true; says = says }
+needed name says = record { name = name; required = true; several = false; says = says }
 
 abbrev pub free : List ℕ → List ℕ → Word
-free name says = record { name = name; required = false; says = says }
+free name says = record { name = name; required = false; several = false; says = says }
+
+abbrev pub repeated : List ℕ → List ℕ → Word
+repeated name says = record { name = name; required = false; several = true; says = says }
 
 abbrev pub binding_word : Word
 binding_word = free (codes "BINDING") (codes "whether clients may bind names: open or closed (closed)")
@@ -49,6 +54,12 @@ port_word = needed (codes "PORT") (codes "the port to listen on: 1 to 65535")
 
 abbrev pub count_word : Word
 count_word = needed (codes "COUNT") (codes "how many connections to serve: 1 to 65535")
+
+abbrev pub address_word : Word
+address_word = needed (codes "ADDRESS") (codes "the address to listen on, 0.0.0.0 for all: at most 255 bytes")
+
+abbrev pub own_host_word : Word
+own_host_word = needed (codes "HOST") (codes "the host that references name, by which clients reach this server: at most 255 bytes")
 
 abbrev pub seed_word : Word
 seed_word = needed (codes "SEED") (codes "the seed of the drill: 0 to 9223372036854775807")
@@ -67,6 +78,12 @@ name_word = needed (codes "NAME") (codes "a name of the registry: at most 255 UT
 
 abbrev pub from_word : Word
 from_word = needed (codes "FROM") (codes "the name whose reference is bound: at most 255 UTF-16 units")
+
+abbrev pub method_word : Word
+method_word = needed (codes "METHOD") (codes "the method's name, the types of its parameters and of its result: add(J)J")
+
+abbrev pub arg_word : Word
+arg_word = repeated (codes "ARG") (codes "an argument for each parameter: Z true or false, B S I J C a number (~5 is minus 5), L a string")
 
 abbrev pub command_word : Word
 command_word = free (codes "COMMAND") (codes "the command to explain (all commands)")
@@ -87,6 +104,14 @@ serve_entry = record {
   words = port_word ∷ count_word ∷ binding_word ∷ lease_word ∷ ack_word ∷ [];
   does = codes "listens on 127.0.0.1:PORT, serves COUNT connections over one object table, and prints the outline of its history";
   example = codes "rmi serve 1099 10 open";
+}
+
+abbrev pub host_entry : Entry
+host_entry = record {
+  name = codes "host";
+  words = address_word ∷ own_host_word ∷ port_word ∷ binding_word ∷ lease_word ∷ ack_word ∷ [];
+  does = codes "listens on ADDRESS:PORT, serves connections over one object table until the standard input ends, and prints what is exported then";
+  example = codes "rmi host 0.0.0.0 localhost 1099 open";
 }
 
 abbrev pub list_entry : Entry
@@ -119,6 +144,14 @@ unbind_entry = record {
   words = host_word ∷ registry_port_word ∷ name_word ∷ [];
   does = codes "unbinds a name of a registry";
   example = codes "rmi unbind localhost 1099 copy";
+}
+
+abbrev pub call_entry : Entry
+call_entry = record {
+  name = codes "call";
+  words = host_word ∷ registry_port_word ∷ name_word ∷ method_word ∷ arg_word ∷ [];
+  does = codes "calls a method of the object that a name of a registry stands for, and prints its result";
+  example = codes "rmi call localhost 1099 counter 'add(J)J' 5";
 }
 
 abbrev pub replay_entry : Entry
@@ -195,4 +228,4 @@ help_entry = record {
 
 -- All commands.
 abbrev pub entries : List Entry
-entries = answer_entry ∷ serve_entry ∷ list_entry ∷ lookup_entry ∷ bind_entry ∷ unbind_entry ∷ replay_entry ∷ show_entry ∷ drill_entry ∷ journal_entry ∷ world_entry ∷ suid_entry ∷ suidtext_entry ∷ describe_entry ∷ help_entry ∷ []
+entries = answer_entry ∷ serve_entry ∷ host_entry ∷ list_entry ∷ lookup_entry ∷ bind_entry ∷ unbind_entry ∷ call_entry ∷ replay_entry ∷ show_entry ∷ drill_entry ∷ journal_entry ∷ world_entry ∷ suid_entry ∷ suidtext_entry ∷ describe_entry ∷ help_entry ∷ []

@@ -1,7 +1,7 @@
 -- What `help` prints.
 use Rattle.std.specs.Prelude.{ℕ, Bool, true, false, List, [], ◌∷◌, ◌++◌, codes}
 use Rattle.std.specs.List.{flat_map}
-use Rattle.rmi_words.specs.Entries.{Word, Entry, entries, answer_entry, serve_entry, list_entry, lookup_entry, bind_entry, unbind_entry, replay_entry, show_entry, drill_entry, journal_entry, world_entry, suid_entry, suidtext_entry, describe_entry, help_entry}
+use Rattle.rmi_words.specs.Entries.{Word, Entry, entries, answer_entry, serve_entry, host_entry, list_entry, lookup_entry, bind_entry, unbind_entry, call_entry, replay_entry, show_entry, drill_entry, journal_entry, world_entry, suid_entry, suidtext_entry, describe_entry, help_entry}
 use Rattle.rmi_words.specs.declared.command.HelpTopic.{HelpTopic}
 use Rattle.rmi_words.specs.declared.command.HelpTopic.TheVariants as topics
 
@@ -10,10 +10,12 @@ abbrev pub entries_of : HelpTopic → List Entry
 entries_of topics.All = entries
 entries_of topics.Answer = answer_entry ∷ []
 entries_of topics.Serve = serve_entry ∷ []
+entries_of topics.Host = host_entry ∷ []
 entries_of topics.List = list_entry ∷ []
 entries_of topics.Lookup = lookup_entry ∷ []
 entries_of topics.Bind = bind_entry ∷ []
 entries_of topics.Unbind = unbind_entry ∷ []
+entries_of topics.Call = call_entry ∷ []
 entries_of topics.Replay = replay_entry ∷ []
 entries_of topics.Show = show_entry ∷ []
 entries_of topics.Drill = drill_entry ∷ []
@@ -24,13 +26,14 @@ entries_of topics.SuidText = suidtext_entry ∷ []
 entries_of topics.Describe = describe_entry ∷ []
 entries_of topics.Help = help_entry ∷ []
 
--- A word in the first line of its command: in brackets where it may be left out.
-abbrev pub word_usage : Bool → List ℕ → List ℕ
-word_usage true name = codes " " ++ name
-word_usage false name = codes " [" ++ name ++ codes "]"
+-- A word in the first line of its command: in brackets where it may be left out, with dots where any number of words may stand.
+abbrev pub word_usage : Bool → Bool → List ℕ → List ℕ
+word_usage true several name = codes " " ++ name
+word_usage false false name = codes " [" ++ name ++ codes "]"
+word_usage false true name = codes " [" ++ name ++ codes " ..]"
 
 abbrev pub usage_of : Word → List ℕ
-usage_of word = word_usage word.required word.name
+usage_of word = word_usage word.required word.several word.name
 
 -- A word's own line.
 abbrev pub text_of_line : List ℕ → List ℕ → List ℕ

@@ -1,7 +1,9 @@
+pub mod CallWords
 pub mod Clients
 pub mod Command
 pub mod Entries
 pub mod HelpText
+pub mod HostWords
 pub mod Options
 pub mod Program
 pub mod Texts

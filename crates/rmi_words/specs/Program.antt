@@ -1,15 +1,25 @@
 -- What `clap` reads of the program's commands.
-use Rattle.std.specs.Prelude.{◌≡◌, ◌==◌, ℕ, Bool, Option, List, [], ◌∷◌, fold, true, false, codes}
+use Rattle.std.specs.Prelude.{◌≡◌, ◌==◌, ℕ, Bool, Option, Some, List, [], ◌∷◌, fold, true, false, codes}
 use Rattle.clap.specs.Kinds.{Kinds}
 use Rattle.clap.specs.Walk.{Row, Rule, Text}
 use Rattle.clap.specs.Simple.{App, new_app, new_shape, new_rule, subcommand_of, subcommand_rows_of, with_subcommand, with_rule}
 use Rattle.clap.specs.Faults.{fault_of}
 use Rattle.clap.specs.declared.ArgMatches.{ArgMatches}
+use Rattle.clap.specs.declared.builder.action.ArgAction.{ArgAction}
+use Rattle.clap.specs.declared.builder.action.ArgAction.TheVariants.{Set, Append}
 use Rattle.rmi_words.specs.Entries.{Word, Entry, entries}
+
+-- At a place stands one word, or any number of them.
+abbrev pub action_of_word : Bool → ArgAction
+action_of_word true = Append
+action_of_word false = Set
 
 -- A word stands at a place of its own, and nowhere else.
 abbrev pub rule_of_word : Word → Rule
-rule_of_word word = record (new_rule word.name) { required = word.required }
+rule_of_word word = record (new_rule word.name) {
+  required = word.required;
+  action = Some (action_of_word word.several);
+}
 
 -- One word more.
 abbrev pub with_word : App → Word → App

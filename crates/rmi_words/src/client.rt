@@ -2,7 +2,7 @@
 ghost use Rattle.std.specs.Prelude.{◌≡◌, ◌≤◌, codes, length, option_map, IfOk};
 ghost use Rattle.history.specs.declared.limits.TheConstants.{MAX_NAME_UNITS};
 ghost use Rattle.rmi_words.specs.Clients.{IsAddressIn, IsTextIn, Reads, named_words};
-ghost use Rattle.rmi_words.specs.Values.{IsCommandOf, values_of};
+ghost use Rattle.rmi_words.specs.Values.{IsCommandOf, given_of, values_of};
 
 use crate::command::{Command, WordsFault};
 use crate::options::read_small_of;
@@ -57,7 +57,7 @@ pub enum ClientCommand {
 
 /// Returns what `list` is told.
 pub(crate) fn read_list(alloc: Global, values: &ArgMatches) -> Result<Command, WordsFault>
-    ensures { Reads (IsCommandOf (codes "list")) result (values_of values.now) }
+    ensures { Reads (IsCommandOf (codes "list")) result (given_of values.now) }
 {
     let server = read_server(alloc, values)?;
     Ok(Command::Client(ClientCommand::List { server }))
@@ -65,7 +65,7 @@ pub(crate) fn read_list(alloc: Global, values: &ArgMatches) -> Result<Command, W
 
 /// Returns what `lookup` is told.
 pub(crate) fn read_lookup(alloc: Global, values: &ArgMatches) -> Result<Command, WordsFault>
-    ensures { Reads (IsCommandOf (codes "lookup")) result (values_of values.now) }
+    ensures { Reads (IsCommandOf (codes "lookup")) result (given_of values.now) }
 {
     let server = read_server(alloc, values)?;
     let name = read_name(alloc, values.get_str("NAME"))?;
@@ -74,7 +74,7 @@ pub(crate) fn read_lookup(alloc: Global, values: &ArgMatches) -> Result<Command,
 
 /// Returns what `bind` is told.
 pub(crate) fn read_bind(alloc: Global, values: &ArgMatches) -> Result<Command, WordsFault>
-    ensures { Reads (IsCommandOf (codes "bind")) result (values_of values.now) }
+    ensures { Reads (IsCommandOf (codes "bind")) result (given_of values.now) }
 {
     let server = read_server(alloc, values)?;
     let name = read_name(alloc, values.get_str("NAME"))?;
@@ -84,7 +84,7 @@ pub(crate) fn read_bind(alloc: Global, values: &ArgMatches) -> Result<Command, W
 
 /// Returns what `unbind` is told.
 pub(crate) fn read_unbind(alloc: Global, values: &ArgMatches) -> Result<Command, WordsFault>
-    ensures { Reads (IsCommandOf (codes "unbind")) result (values_of values.now) }
+    ensures { Reads (IsCommandOf (codes "unbind")) result (given_of values.now) }
 {
     let server = read_server(alloc, values)?;
     let name = read_name(alloc, values.get_str("NAME"))?;
@@ -92,7 +92,7 @@ pub(crate) fn read_unbind(alloc: Global, values: &ArgMatches) -> Result<Command,
 }
 
 /// Returns where the words HOST and PORT say that a server is. The fault is Usage only where they say it of none.
-fn read_server(alloc: Global, values: &ArgMatches) -> Result<ServerAddress, WordsFault>
+pub(crate) fn read_server(alloc: Global, values: &ArgMatches) -> Result<ServerAddress, WordsFault>
     ensures { Reads IsAddressIn result (named_words (values_of values.now)) }
 {
     let host = read_text(alloc, values.get_str("HOST"))?;
@@ -103,7 +103,7 @@ fn read_server(alloc: Global, values: &ArgMatches) -> Result<ServerAddress, Word
 }
 
 /// Returns the name that a word is. The fault is Usage only where it is too long or left out.
-fn read_name(alloc: Global, word: Option<&str>) -> Result<Name, WordsFault>
+pub(crate) fn read_name(alloc: Global, word: Option<&str>) -> Result<Name, WordsFault>
     ensures { Reads IsTextIn result (option_map (λ text. text.now) word.entry) }
 {
     match Name::new(read_text(alloc, word)?) {

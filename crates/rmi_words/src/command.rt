@@ -1,5 +1,7 @@
 //! The commands that words may ask for.
+use crate::call_words::CallWords;
 use crate::client::ClientCommand;
+use crate::host_words::HostWords;
 use crate::options::{LeaseOptions, ServeWords};
 
 /// A command, with what the words say of it.
@@ -9,8 +11,12 @@ pub enum Command {
     Answer(LeaseOptions),
     /// `serve PORT COUNT [BINDING] [LEASE] [ACK]`: serve this many links at this port, on these options.
     Serve(ServeWords),
+    /// `host ADDRESS HOST PORT [BINDING] [LEASE] [ACK]`: serve links at this address and port until the input ends, on these options.
+    Host(HostWords),
     /// `list`, `lookup`, `bind` or `unbind`: ask this of a server.
     Client(ClientCommand),
+    /// `call HOST PORT NAME METHOD [ARG ..]`: call this method of an object, and print its result.
+    Call(CallWords),
     /// `replay`: print the outline of the history that the input spells as a journal.
     Replay,
     /// `show`: print the text of the graph that the input spells as a stream.
@@ -57,10 +63,12 @@ pub enum HelpTopic {
     All,
     Answer,
     Serve,
+    Host,
     List,
     Lookup,
     Bind,
     Unbind,
+    Call,
     Replay,
     Show,
     Drill,

@@ -43,28 +43,28 @@ fn push_head(text: &mut String, entry: &CommandEntry) -> Result<(), AllocError>
     text.push_str("\n")
 }
 
-/// Appends the words, each in brackets that may be left out.
+/// Appends the words, each in brackets that may be left out, with dots where any number of words may stand.
 fn push_usage(text: &mut String, words: &[WordEntry]) -> Result<(), AllocError>
     ensures { OnOk result (string_bytes text.new ≡ string_bytes text.old ++ flat_map usage_of (map word_of words.now)) }
 {
     for word in words {
-        push_word(text, word.required, word.name)?;
+        push_word(text, word.required, word.several, word.name)?;
     }
     Ok(())
 }
 
 /// Appends a word of the first line.
-fn push_word(text: &mut String, required: bool, name: &str) -> Result<(), AllocError>
-    ensures { OnOk result (string_bytes text.new ≡ string_bytes text.old ++ word_usage required name.now) }
+fn push_word(text: &mut String, required: bool, several: bool, name: &str) -> Result<(), AllocError>
+    ensures { OnOk result
+        (string_bytes text.new ≡ string_bytes text.old ++ word_usage required several name.now) }
 {
     if required {
         text.push_str(" ")?;
-        text.push_str(name)
-    } else {
-        text.push_str(" [")?;
-        text.push_str(name)?;
-        text.push_str("]")
+        return text.push_str(name);
     }
+    text.push_str(" [")?;
+    text.push_str(name)?;
+    text.push_str(if several { " ..]" } else { "]" })
 }
 
 /// Appends what a command does, and a line for each of its words.

@@ -4,15 +4,16 @@ ghost use Rattle.history.specs.declared.limits.TheConstants.{MAX_DURATION_MS};
 ghost use Rattle.journal.specs.Numbers.{BeginsPlainly};
 ghost use Rattle.journal.specs.Reading.{Finds};
 ghost use Rattle.journal.specs.Grammar.{SpellsBelow};
+ghost use Rattle.rmi_words.specs.CallWords.{SpellsUnit};
 ghost use Rattle.rmi_words.specs.Command.{AreInRange};
 ghost use Rattle.rmi_words.specs.Options.{SpellsUpTo};
 
 use history::limits::MAX_DURATION_MS;
 
-/// How many rounds a drill has at most.
+/// The most rounds of a drill.
 pub const MAX_ROUNDS: u64 = 1_000_000;
 
-/// Whether there is a first byte that is no plus sign, and no zero before further bytes.
+/// Returns whether there is a first byte that is no plus sign, and no zero before further bytes.
 fn begins_plainly(word: &[u8]) -> bool
     ensures { IsTrue result ↔ BeginsPlainly word.now }
 {
@@ -32,7 +33,7 @@ fn read_number(word: &str) -> Option<u64>
     }
 }
 
-/// Whether these are the numbers of a drill.
+/// Returns whether these are the numbers of a drill.
 fn are_in_range(seed: u64, rounds: u64) -> bool
     ensures { IsTrue result ↔ AreInRange seed rounds }
 {
@@ -81,5 +82,17 @@ pub(crate) fn read_small(word: &str) -> Option<u16>
     match read_up_to(word, 65_535) {
         Some(number) => Some(number as u16),
         None => None,
+    }
+}
+
+/// Returns the number of one 16-bit unit, 0 to 65535, that a word spells.
+pub(crate) fn read_unit(word: &str) -> Option<u16>
+    ensures { Finds SpellsUnit result word.now }
+{
+    let number = read_number(word)?;
+    if number < 1 << 16 {
+        Some(number as u16)
+    } else {
+        None
     }
 }

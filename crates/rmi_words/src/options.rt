@@ -10,20 +10,20 @@ use clap::ArgMatches;
 /// The options on which a space is served.
 #[derive(Clone, Copy, Debug, PartialEq, Eq)]
 pub struct LeaseOptions {
-    /// Whether clients may bind names.
+    /// True where clients may bind names.
     pub binding: bool,
     /// The longest lease that is granted, in milliseconds.
     pub lease_ms: u64,
-    /// How long a returned reference is awaited, in milliseconds.
+    /// The time that a returned reference is awaited, in milliseconds.
     pub ack_ms: u64,
 }
 
-/// What `serve` is told.
+/// The words of `serve`, as they were read.
 #[derive(Clone, Copy, Debug, PartialEq, Eq)]
 pub struct ServeWords {
     /// The port that is listened on.
     pub port: u16,
-    /// How many links are served.
+    /// The number of links that are served.
     pub count: u16,
     /// The options on which they are.
     pub options: LeaseOptions,
@@ -32,7 +32,7 @@ pub struct ServeWords {
 /// The longest lease that is granted where no word says it, in milliseconds.
 const LEASE_MS: u64 = 600_000;
 
-/// How long a returned reference is awaited where no word says it, in milliseconds.
+/// The time that a returned reference is awaited where no word says it, in milliseconds.
 const ACK_MS: u64 = 300_000;
 
 /// Returns the options that the words BINDING, LEASE and ACK give, or None where one of them gives none.
@@ -73,7 +73,8 @@ pub(crate) fn read_small_of(word: Option<&str>) -> Option<u16>
     }
 }
 
-/// Whether clients may bind names, as the word `open` or `closed` says, or none.
+/// Returns whether clients may bind names, as the word `open` or `closed` says. Where there is no word, they may not. Any other word gives
+/// None.
 fn read_binding(word: Option<&str>) -> Option<bool>
     ensures { Finds IsBindingOf result (option_map (λ text. text.now) word.entry) }
 {

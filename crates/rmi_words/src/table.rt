@@ -8,11 +8,13 @@ use crate::command::HelpTopic;
 /// A word that a command takes after its name.
 #[derive(Clone, Copy)]
 pub struct WordEntry {
-    /// What `help` calls it.
+    /// The name that `help` gives the word.
     pub name: &'static str,
-    /// Whether it has to be there. A word that may be left out stands after all that have to be there.
+    /// True where the word has to be there. A word that may be left out stands after all that have to be there.
     pub required: bool,
-    /// What it says, with its range and its default.
+    /// True where any number of words may stand there. Only the last word of a command is such.
+    pub several: bool,
+    /// The meaning of the word, with its range and its default.
     pub says: &'static str,
 }
 
@@ -23,16 +25,17 @@ pub struct CommandEntry {
     pub name: &'static str,
     /// The words after it, in order.
     pub words: &'static [WordEntry],
-    /// What it does.
+    /// A text that says what the command does.
     pub does: &'static str,
     /// A line that calls it.
     pub example: &'static str,
 }
 
-/// Whether clients may bind names.
+/// The word that says whether clients may bind names.
 const BINDING: WordEntry = WordEntry {
     name: "BINDING",
     required: false,
+    several: false,
     says: "whether clients may bind names: open or closed (closed)",
 };
 
@@ -40,13 +43,15 @@ const BINDING: WordEntry = WordEntry {
 const LEASE: WordEntry = WordEntry {
     name: "LEASE",
     required: false,
+    several: false,
     says: "the longest lease that is granted, in milliseconds: 1 to 1099511627776 (600000)",
 };
 
-/// How long a returned reference is awaited.
+/// The word for the time that a returned reference is awaited.
 const ACK: WordEntry = WordEntry {
     name: "ACK",
     required: false,
+    several: false,
     says: "how long a returned reference waits for its acknowledgement, in milliseconds: 1 to 1099511627776 (300000)",
 };
 
@@ -54,13 +59,15 @@ const ACK: WordEntry = WordEntry {
 const SEED: WordEntry = WordEntry {
     name: "SEED",
     required: true,
+    several: false,
     says: "the seed of the drill: 0 to 9223372036854775807",
 };
 
-/// How many rounds a drill has.
+/// The word for the number of rounds of a drill.
 const ROUNDS: WordEntry = WordEntry {
     name: "N",
     required: true,
+    several: false,
     says: "how many rounds the drill has: 1 to 1000000",
 };
 
@@ -68,20 +75,39 @@ const ROUNDS: WordEntry = WordEntry {
 const PORT: WordEntry = WordEntry {
     name: "PORT",
     required: true,
+    several: false,
     says: "the port to listen on: 1 to 65535",
 };
 
-/// How many connections are served.
+/// The word for the number of connections that are served.
 const COUNT: WordEntry = WordEntry {
     name: "COUNT",
     required: true,
+    several: false,
     says: "how many connections to serve: 1 to 65535",
+};
+
+/// The address that is listened on.
+const ADDRESS: WordEntry = WordEntry {
+    name: "ADDRESS",
+    required: true,
+    several: false,
+    says: "the address to listen on, 0.0.0.0 for all: at most 255 bytes",
+};
+
+/// The host that references name.
+const OWN_HOST: WordEntry = WordEntry {
+    name: "HOST",
+    required: true,
+    several: false,
+    says: "the host that references name, by which clients reach this server: at most 255 bytes",
 };
 
 /// The host of a registry.
 const HOST: WordEntry = WordEntry {
     name: "HOST",
     required: true,
+    several: false,
     says: "the registry's host, a name or an address: at most 255 UTF-16 units",
 };
 
@@ -89,6 +115,7 @@ const HOST: WordEntry = WordEntry {
 const REGISTRY_PORT: WordEntry = WordEntry {
     name: "PORT",
     required: true,
+    several: false,
     says: "the registry's port: 1 to 65535",
 };
 
@@ -96,6 +123,7 @@ const REGISTRY_PORT: WordEntry = WordEntry {
 const NAME: WordEntry = WordEntry {
     name: "NAME",
     required: true,
+    several: false,
     says: "a name of the registry: at most 255 UTF-16 units",
 };
 
@@ -103,18 +131,36 @@ const NAME: WordEntry = WordEntry {
 const FROM: WordEntry = WordEntry {
     name: "FROM",
     required: true,
+    several: false,
     says: "the name whose reference is bound: at most 255 UTF-16 units",
+};
+
+/// The method that is called.
+const METHOD: WordEntry = WordEntry {
+    name: "METHOD",
+    required: true,
+    several: false,
+    says: "the method's name, the types of its parameters and of its result: add(J)J",
+};
+
+/// The arguments of a call.
+const ARG: WordEntry = WordEntry {
+    name: "ARG",
+    required: false,
+    several: true,
+    says: "an argument for each parameter: Z true or false, B S I J C a number (~5 is minus 5), L a string",
 };
 
 /// The command that is explained.
 const COMMAND: WordEntry = WordEntry {
     name: "COMMAND",
     required: false,
+    several: false,
     says: "the command to explain (all commands)",
 };
 
 /// All commands, in the order in which `help` prints them.
-static COMMANDS: [CommandEntry; 15] = [
+static COMMANDS: [CommandEntry; 17] = [
     CommandEntry {
         name: "answer",
         words: &[BINDING, LEASE, ACK],
@@ -126,6 +172,12 @@ static COMMANDS: [CommandEntry; 15] = [
         words: &[PORT, COUNT, BINDING, LEASE, ACK],
         does: "listens on 127.0.0.1:PORT, serves COUNT connections over one object table, and prints the outline of its history",
         example: "rmi serve 1099 10 open",
+    },
+    CommandEntry {
+        name: "host",
+        words: &[ADDRESS, OWN_HOST, PORT, BINDING, LEASE, ACK],
+        does: "listens on ADDRESS:PORT, serves connections over one object table until the standard input ends, and prints what is exported then",
+        example: "rmi host 0.0.0.0 localhost 1099 open",
     },
     CommandEntry {
         name: "list",
@@ -150,6 +202,12 @@ static COMMANDS: [CommandEntry; 15] = [
         words: &[HOST, REGISTRY_PORT, NAME],
         does: "unbinds a name of a registry",
         example: "rmi unbind localhost 1099 copy",
+    },
+    CommandEntry {
+        name: "call",
+        words: &[HOST, REGISTRY_PORT, NAME, METHOD, ARG],
+        does: "calls a method of the object that a name of a registry stands for, and prints its result",
+        example: "rmi call localhost 1099 counter 'add(J)J' 5",
     },
     CommandEntry {
         name: "replay",
@@ -215,19 +273,21 @@ pub fn commands_of(topic: HelpTopic) -> &'static [CommandEntry]
         HelpTopic::All => COMMANDS.as_slice(),
         HelpTopic::Answer => &COMMANDS[0..1],
         HelpTopic::Serve => &COMMANDS[1..2],
-        HelpTopic::List => &COMMANDS[2..3],
-        HelpTopic::Lookup => &COMMANDS[3..4],
-        HelpTopic::Bind => &COMMANDS[4..5],
-        HelpTopic::Unbind => &COMMANDS[5..6],
-        HelpTopic::Replay => &COMMANDS[6..7],
-        HelpTopic::Show => &COMMANDS[7..8],
-        HelpTopic::Drill => &COMMANDS[8..9],
-        HelpTopic::Journal => &COMMANDS[9..10],
-        HelpTopic::World => &COMMANDS[10..11],
-        HelpTopic::Suid => &COMMANDS[11..12],
-        HelpTopic::SuidText => &COMMANDS[12..13],
-        HelpTopic::Describe => &COMMANDS[13..14],
-        HelpTopic::Help => &COMMANDS[14..15],
+        HelpTopic::Host => &COMMANDS[2..3],
+        HelpTopic::List => &COMMANDS[3..4],
+        HelpTopic::Lookup => &COMMANDS[4..5],
+        HelpTopic::Bind => &COMMANDS[5..6],
+        HelpTopic::Unbind => &COMMANDS[6..7],
+        HelpTopic::Call => &COMMANDS[7..8],
+        HelpTopic::Replay => &COMMANDS[8..9],
+        HelpTopic::Show => &COMMANDS[9..10],
+        HelpTopic::Drill => &COMMANDS[10..11],
+        HelpTopic::Journal => &COMMANDS[11..12],
+        HelpTopic::World => &COMMANDS[12..13],
+        HelpTopic::Suid => &COMMANDS[13..14],
+        HelpTopic::SuidText => &COMMANDS[14..15],
+        HelpTopic::Describe => &COMMANDS[15..16],
+        HelpTopic::Help => &COMMANDS[16..17],
     }
 }
 

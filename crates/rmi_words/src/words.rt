@@ -6,12 +6,14 @@ ghost use Rattle.clap.specs.Words.{subcommand_rows_of};
 ghost use Rattle.rmi_words.specs.Clients.{Reads};
 ghost use Rattle.rmi_words.specs.Command.{word_of_text};
 ghost use Rattle.rmi_words.specs.Program.{AreTaken, faults_in, is_option};
-ghost use Rattle.rmi_words.specs.Values.{IsCommandIn, IsCommandOf, IsOwnOf, IsTopicOf, values_of};
+ghost use Rattle.rmi_words.specs.Values.{IsCommandIn, IsCommandOf, IsOwnOf, IsTopicOf, given_of};
 ghost use Rattle.rmi_words.specs.declared.command.Command.{Command as Commands};
 
+use crate::call_words::read_call;
 use crate::client::{read_bind, read_list, read_lookup, read_unbind};
 use crate::command::{ClassOutput, Command, DrillText, HelpTopic, WordsFault};
 use crate::declared::declared_program;
+use crate::host_words::read_host;
 use crate::numbers::read_drill;
 use crate::options::{read_lease_options, read_serve};
 use clap::ArgMatches;
@@ -58,14 +60,14 @@ impl Words {
     }
 }
 
-/// Whether one of the words begins with `-`.
+/// Returns whether one of the words begins with `-`.
 fn has_option(words: &[String]) -> bool
     ensures { result ≡ list_any (λ word. is_option (string_bytes word)) words.now }
 {
     words.iter().any(|word| is_option(word.as_str()))
 }
 
-/// Whether the word begins with `-`.
+/// Returns whether the word begins with `-`.
 fn is_option(word: &str) -> bool
     ensures { result ≡ is_option word.now }
 {
@@ -110,13 +112,15 @@ fn command_of(alloc: Global, matches: &ArgMatches) -> Result<Command, WordsFault
 
 /// Returns the command of this name. The fault is Usage only where what its words tell it is out of range.
 fn read_command(alloc: Global, name: &str, values: &ArgMatches) -> Result<Command, WordsFault>
-    ensures { Reads (IsCommandOf name.now) result (values_of values.now) }
+    ensures { Reads (IsCommandOf name.now) result (given_of values.now) }
 {
     match name {
         "list" => read_list(alloc, values),
         "lookup" => read_lookup(alloc, values),
         "bind" => read_bind(alloc, values),
         "unbind" => read_unbind(alloc, values),
+        "call" => read_call(alloc, values),
+        "host" => read_host(alloc, values),
         _ => match read_own(name, values) {
             Some(command) => Ok(command),
             None => Err(WordsFault::Usage),
@@ -124,9 +128,9 @@ fn read_command(alloc: Global, name: &str, values: &ArgMatches) -> Result<Comman
     }
 }
 
-/// Returns the command of this name that asks nothing of a server, where what its words tell it is in range.
+/// Returns the command of this name whose words are read without memory, where what they tell it is in range.
 fn read_own(name: &str, values: &ArgMatches) -> Option<Command>
-    ensures { Finds (IsOwnOf name.now) result (values_of values.now) }
+    ensures { Finds (IsOwnOf name.now) result (given_of values.now) }
 {
     match name {
         "answer" => Some(Command::Answer(read_lease_options(values)?)),
@@ -146,7 +150,7 @@ fn read_own(name: &str, values: &ArgMatches) -> Option<Command>
 
 /// Returns the drill of which this text is printed, where the words SEED and N are in range.
 fn read_drill_of(values: &ArgMatches, text: DrillText) -> Option<Command>
-    ensures { Finds (IsOwnOf (word_of_text text)) result (values_of values.now) }
+    ensures { Finds (IsOwnOf (word_of_text text)) result (given_of values.now) }
 {
     let (seed, rounds) = read_drill(values.get_str("SEED")?, values.get_str("N")?)?;
     Some(Command::Drill { text, seed, rounds })
@@ -160,10 +164,12 @@ fn read_topic(word: Option<&str>) -> Option<HelpTopic>
         None => Some(HelpTopic::All),
         Some("answer") => Some(HelpTopic::Answer),
         Some("serve") => Some(HelpTopic::Serve),
+        Some("host") => Some(HelpTopic::Host),
         Some("list") => Some(HelpTopic::List),
         Some("lookup") => Some(HelpTopic::Lookup),
         Some("bind") => Some(HelpTopic::Bind),
         Some("unbind") => Some(HelpTopic::Unbind),
+        Some("call") => Some(HelpTopic::Call),
         Some("replay") => Some(HelpTopic::Replay),
         Some("show") => Some(HelpTopic::Show),
         Some("drill") => Some(HelpTopic::Drill),

@@ -26,9 +26,9 @@ pub struct SampleHand<'t, R: Wait + Sync> {
     shared: Arc<Mutex<SampleWorker>>,
     /// The number of its connection.
     pub by: u32,
-    /// How many invocations it was given.
+    /// The number of invocations that the hand was given.
     pub calls: u64,
-    /// How its last call changed the shared numbers, None before the first.
+    /// The change that its last call made to the shared numbers. It is None before the first call.
     pub last: Option<CountersChange>,
 }
 

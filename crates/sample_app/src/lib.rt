@@ -1,3 +1,4 @@
+// SPDX-License-Identifier: Apache-2.0 OR MIT
 //! The sample: kinds of objects that the program serves, the space that has one of each, the worker that does their calls, and
 //! the hands of many connections, which share its numbers.
 #![tactic(auto)]

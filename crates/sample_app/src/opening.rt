@@ -79,7 +79,7 @@ fn name_of(alloc: Global, name: &[u8]) -> Result<Name, AllocError>
     }
 }
 
-/// What binds a name to the object of the space with this number.
+/// Returns the request that binds a name to the object of the space with this number.
 fn binding(alloc: Global, config: &SpaceConfig, name: &[u8], number: i64) -> Result<Ask, AllocError>
     requires { length name.now ≤ MAX_NAME_UNITS }
     ensures { IfOk result (λ ask. ask ≡ (bind_event config.now name.now number).ask) }

@@ -1,4 +1,4 @@
-//! What calls ask of sample objects.
+//! The calls of sample objects.
 ghost use Rattle.std.specs.Prelude.{◌≡◌};
 ghost use Rattle.sample_app.specs.Does.{call_of, echo_of, add_of, get_of, make_of, same_slot};
 
@@ -7,7 +7,7 @@ use class_desc::{Item, Slot};
 use jrmp_frames::{Arg, Arguments};
 use ser_values::Value;
 
-/// What a call asks of a sample object.
+/// A call of a sample object.
 #[derive(Clone, Copy, Debug, PartialEq, Eq)]
 pub enum SampleCall {
     /// `echo`: give the argument back.
@@ -20,7 +20,8 @@ pub enum SampleCall {
     Make,
 }
 
-/// What a call asks for: None where it is of none of the sample kinds' methods, or doesn't have its arguments.
+/// Returns the call of a sample object that an invocation is. It is None where the method is none of the sample
+/// kinds', or where the call doesn't have the method's arguments.
 pub fn sample_call(call: &Invocation) -> Option<SampleCall>
     ensures { result ≡ call_of call.now }
 {
@@ -80,7 +81,7 @@ fn make_of(arguments: &Arguments) -> Option<SampleCall>
     }
 }
 
-/// Whether two references name the same node, or both none.
+/// Returns whether two references name the same node, or both none.
 fn same_slot(a: Slot, b: Slot) -> bool
     ensures { result ≡ same_slot a b }
 {

@@ -23,16 +23,16 @@ const COUNTER_KIND: u32 = 1;
 pub struct SampleWorker {
     alloc: Global,
     counters: Counters,
-    /// How many invocations it was given.
+    /// The number of invocations that the worker was given.
     pub calls: u64,
 }
 
-/// What a worker's objects had counted before a call of it, and after it. It is told to contracts alone.
+/// The counts of a worker's objects before a call of it, and after it. Only contracts see them.
 #[derive(Drop)]
 pub struct CountersChange {
-    /// What they had counted before.
+    /// The counts before the call.
     pub before: Snapshot<Counters>,
-    /// What they had counted after.
+    /// The counts after the call.
     pub after: Snapshot<Counters>,
 }
 

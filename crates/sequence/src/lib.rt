@@ -1,3 +1,4 @@
+// SPDX-License-Identifier: Apache-2.0 OR MIT
 //! The small lists and texts that the other crates speak in.
 #![tactic(auto)]
 

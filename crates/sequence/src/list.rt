@@ -34,7 +34,7 @@ pub trait TryCopy {
 
 /// A value whose equality with another of its type can be tested.
 pub trait Same {
-    /// Whether the two are equal.
+    /// Returns whether the two are equal.
     fn is_same(&self, other: &Self) -> bool
         ensures { IsTrue result ↔ (self.now ≡ other.now) };
 }
@@ -272,7 +272,7 @@ impl<T: Same> Same for Sequence<T> {
     }
 }
 
-/// Whether two slices have equal items in one order.
+/// Returns whether two slices have equal items in one order.
 fn are_same<T: Same>(a: &[T], b: &[T]) -> bool
     ensures { IsTrue result ↔ (a.now ≡ b.now) }
 {

@@ -12,7 +12,7 @@ use std::alloc::Global;
 use wire_io::pull::Pull;
 use wire_io::source::Source;
 
-/// What a code begins in the outermost place.
+/// The construct that a code begins in the outermost place.
 #[derive(Clone, Copy, Debug, PartialEq, Eq)]
 pub(crate) enum Head {
     /// A block of so many bytes.
@@ -21,7 +21,7 @@ pub(crate) enum Head {
     Code(u8, u64),
 }
 
-/// What a code at a position begins. A block's length is taken.
+/// Returns the construct that a code at a position begins. It takes a block's length.
 #[tactic(auto, unfolding(crate::specs::Heads::one_head))]
 fn one_head<S: Source>(pull: &mut Pull<'_, S>, code: u8, at: u64) -> Result<Head, StreamFault>
     ensures lent { pull.new.source.ghost_name ≡ pull.old.source.ghost_name }
@@ -39,7 +39,7 @@ fn one_head<S: Source>(pull: &mut Pull<'_, S>, code: u8, at: u64) -> Result<Head
     }
 }
 
-/// What the next code begins.
+/// Takes the next code, and returns the construct that it begins.
 #[tactic(auto, unfolding(crate::specs::Heads::any_head))]
 fn any_head<S: Source>(pull: &mut Pull<'_, S>) -> Result<Head, StreamFault>
     ensures lent { pull.new.source.ghost_name ≡ pull.old.source.ghost_name }
@@ -51,7 +51,7 @@ fn any_head<S: Source>(pull: &mut Pull<'_, S>) -> Result<Head, StreamFault>
     one_head(pull, code, at)
 }
 
-/// Whether it is an empty block's.
+/// Returns whether it is the head of an empty block.
 fn is_empty(head: Head) -> bool
     ensures { result ≡ is_empty head }
 {
@@ -61,7 +61,7 @@ fn is_empty(head: Head) -> bool
     }
 }
 
-/// What comes next, empty blocks passed over.
+/// Returns the next head, and passes over empty blocks.
 pub(crate) fn next_head<S: Source>(pull: &mut Pull<'_, S>) -> Result<Head, StreamFault>
     ensures lent { pull.new.source.ghost_name ≡ pull.old.source.ghost_name }
     ensures reads { ReadsTaken S.half pull.old pull.new result (λ end. head_at end) (λ x rest. (x, rest)) }
@@ -91,7 +91,7 @@ fn no_block(code: u8) -> StreamKind
     }
 }
 
-/// How many bytes of a block are next, at least one, where so many of the present block are left.
+/// Returns the number of bytes of a block that come next, at least one, where so many of the present block are left.
 #[tactic(auto, unfolding(crate::specs::Wants::opened_at))]
 fn opened<S: Source>(pull: &mut Pull<'_, S>, block: u32) -> Result<u32, StreamFault>
     ensures lent { pull.new.source.ghost_name ≡ pull.old.source.ghost_name }

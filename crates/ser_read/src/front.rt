@@ -1,4 +1,4 @@
-//! What stands of a class's description between its name and its fields.
+//! The bytes of a class's description between its name and its fields.
 ghost use Rattle.std.specs.Prelude.{◌≡◌};
 ghost use Rattle.ser_read.specs.Fronts.{front_at};
 ghost use Rattle.ser_read.specs.Here.{ReadsTaken, StopsTaken};
@@ -15,7 +15,7 @@ pub(crate) struct DescFront {
     pub(crate) suid: u64,
     /// The flags.
     pub(crate) flags: u8,
-    /// How many fields it has, below 2^15.
+    /// The number of fields, below 2^15.
     pub(crate) fields: u16,
 }
 

@@ -1,3 +1,4 @@
+// SPDX-License-Identifier: Apache-2.0 OR MIT
 //! Graphs from serialization streams (Java Object Serialization Specification, chapter 6).
 //!
 //! A small call spends most of its time here, so inline marks part what each value passes through, which stands in its callers, from what

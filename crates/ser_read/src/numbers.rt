@@ -20,19 +20,19 @@ use std::alloc::{AllocError, Global};
 use wire_io::pull::Pull;
 use wire_io::source::Source;
 
-/// How many numbers are taken at once at most, of at most eight bytes each.
+/// The most numbers that are taken at once. Each has at most eight bytes.
 const BLOCK: u32 = 512;
 
-/// What is read from a fixed number of bytes.
+/// A value that is read from a fixed number of bytes.
 pub(crate) trait Number: Drop {
     /// Reading it from bytes.
     ghost read: { Step Self };
-    /// What so many bytes spell.
+    /// The value that so many bytes spell.
     ghost value: { List ℕ → Self };
 
     ghost WIDTH: { ℕ };
 
-    /// How many bytes it has.
+    /// The number of its bytes.
     const WIDTH: usize;
 
     /// The next one.

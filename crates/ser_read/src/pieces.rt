@@ -27,7 +27,7 @@ pub(crate) fn bad(kind: StreamKind, at: u64) -> StreamFault
     StreamFault::Bad { kind, at }
 }
 
-/// Whether a node of a code may stand in a place for the first time.
+/// Returns whether a place takes a node of a code for the first time.
 pub(crate) fn admits_code(place: SlotPlace, code: u8) -> bool
     ensures { result ≡ admits_code place code }
 {

@@ -15,10 +15,11 @@ use std::alloc::{AllocError, Global};
 use wire_io::pull::Pull;
 use wire_io::source::Source;
 
-/// How many bytes are asked for at once at most: for as many a Pull makes room at once, so a piece is not moved while it grows.
+/// The most bytes that are taken at once. A Pull makes room for as many at once, so a piece is not moved while it
+/// grows.
 const PIECE: u64 = 0x1000;
 
-/// How many bytes of a text are few.
+/// The most bytes of a text that count as few.
 const FEW: u16 = 64;
 
 /// The next byte.
@@ -197,7 +198,7 @@ fn units<S: Source>(alloc: Global, pull: &mut Pull<'_, S>, n: u64) -> Result<Uni
     }
 }
 
-/// Whether so many bytes of a text are few.
+/// Returns whether so many bytes of a text are few.
 fn is_few(n: u16) -> bool
     ensures { result ≡ true → n ≤ FEW }
 {

@@ -25,14 +25,14 @@ use std::marker::Model;
 use wire_io::pull::Pull;
 use wire_io::source::Source;
 
-/// How far a reader has come.
+/// The state of a reader.
 #[derive(Drop)]
 pub(crate) struct Stand {
     /// The nodes so far.
     table: Table,
     /// The items so far.
     items: Vec<Item>,
-    /// How many bytes of the present block are left.
+    /// The number of bytes of the present block that are left.
     block: u32,
 }
 

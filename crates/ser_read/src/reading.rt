@@ -42,7 +42,7 @@ fn slot<S: Source>(
     coded(alloc, pull, table, place, left, at, code)
 }
 
-/// What a code begins in a place, whose levels may be so many.
+/// Reads the construct that a code begins in a place, which may have so many levels.
 #[cycle(reading)]
 #[inline(always)]
 #[tactic(auto, unfolding(stream_grammar::specs::Reading::coded))]
@@ -65,7 +65,7 @@ pub(crate) fn coded<S: Source>(
     }
 }
 
-/// What a code other than null's begins in a place, whose levels may be so many.
+/// Reads the construct that a code other than null's begins in a place, which may have so many levels.
 #[cycle(reading)]
 #[inline(never)]
 #[tactic(auto, unfolding(stream_grammar::specs::Reading::coded))]
@@ -101,7 +101,7 @@ fn not_null<S: Source>(
     }
 }
 
-/// What a code of a node that gets a handle begins.
+/// Reads the construct that the code of a node with a handle begins.
 #[cycle(reading)]
 #[tactic(auto, unfolding(stream_grammar::specs::Reading::fresh_at))]
 fn fresh<S: Source>(

@@ -1,4 +1,4 @@
-//! What is read of an object's class.
+//! The parts of an object's class that are read.
 ghost use Rattle.std.specs.Prelude.{◌≡◌, ◌≤◌, ◌∷◌, [], ◌++◌, length, reverse, IfOk};
 ghost use Rattle.ser_read.specs.Codes.{codes_of};
 
@@ -11,7 +11,7 @@ use std::slice;
 /// The types of fields, in their order.
 type CodeList = Sequence<TypeCode>;
 
-/// How many types stand in a row itself at most, so that most classes take no memory here.
+/// The most types that a row holds itself. So most classes take no memory here.
 const FEW: usize = 8;
 
 /// Where the types of fields stand.
@@ -21,7 +21,7 @@ enum HeldCodes {
     Few {
         /// The types, and behind them any.
         all: [TypeCode; FEW],
-        /// How many there are.
+        /// The number of types.
         count: usize,
     },
     /// In a list.
@@ -67,12 +67,12 @@ impl Codes {
     }
 }
 
-/// What an object's part has of one class of its chain.
+/// The content of an object's part for one class of its chain.
 #[derive(Drop)]
 pub(crate) struct ClassRow {
     /// The types of the class's fields.
     pub(crate) codes: Codes,
-    /// Whether the class writes a note.
+    /// True where the class writes a note.
     pub(crate) note: bool,
 }
 

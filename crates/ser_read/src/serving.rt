@@ -24,7 +24,7 @@ pub enum Want {
     Slot,
 }
 
-/// What a reader gives for a want.
+/// Returns the reader's item for a want.
 #[tactic(auto, unfolding(crate::specs::Wants::want_at))]
 fn serve_one<S: Source>(
     alloc: Global,
@@ -50,7 +50,7 @@ fn serve_one<S: Source>(
     }
 }
 
-/// What a reader gives for wants, one after the other.
+/// Returns the reader's items for wants, one after the other.
 pub(crate) fn serve_all<S: Source>(
     alloc: Global,
     pull: &mut Pull<'_, S>,

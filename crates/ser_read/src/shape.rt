@@ -1,4 +1,4 @@
-//! What an object of a class has.
+//! The shape of a class's objects.
 ghost use Rattle.std.specs.Prelude.{◌≡◌, ◌∷◌, [], ◌&&◌, ◌||◌, not, true, None, if◌then◌else◌, ℕ, Bool, List, Option, Some, suc, IfOk, IfSome, option_map, reverse, slice_get};
 ghost use Rattle.class_desc.specs.ClassDesc.{has_flag, lacks_flag};
 ghost use Rattle.class_desc.specs.declared.slot.Slot.{Slot};
@@ -21,7 +21,7 @@ use ser_values::Node;
 use ser_values::limits::PARTS;
 use std::alloc::{AllocError, Global};
 
-/// What one step up a chain finds.
+/// The result of one step up a chain.
 #[derive(Drop)]
 pub(crate) enum Climb {
     /// Null, which is above the highest superclass.
@@ -32,7 +32,7 @@ pub(crate) enum Climb {
     Class {
         /// The class's row.
         row: ClassRow,
-        /// Whether it is serializable or a proxy.
+        /// True where it is serializable or a proxy.
         is_serial: bool,
         /// Its superclass.
         parent: Slot,
@@ -44,7 +44,7 @@ pub(crate) enum Climb {
 struct Chain {
     /// The classes' rows.
     rows: Rows,
-    /// Whether each class is serializable or a proxy.
+    /// True where each class is serializable or a proxy.
     is_serial: bool,
 }
 
@@ -57,14 +57,14 @@ pub(crate) struct ClassShape {
     pub(crate) fault: Option<StreamKind>,
 }
 
-/// Whether both hold.
+/// Returns whether both hold.
 fn both(a: bool, b: bool) -> bool
     ensures { result ≡ (a && b) }
 {
     a && b
 }
 
-/// What a node of a chain is.
+/// Returns the step up a chain at a node of it.
 #[inline(never)]
 fn link_of(alloc: Global, node: &Node) -> Result<Climb, AllocError>
     ensures { IfOk result (λ climb. (above : Slot → List Row × Bool) → shown (chain_above above (Some node.now)) ≡ climb_by above climb) }

@@ -119,7 +119,7 @@ fn other_run(bytes: &[u8]) -> usize
     bytes.len()
 }
 
-/// Whether a byte is an ASCII character's other than zero.
+/// Returns whether a byte is an ASCII character's other than zero.
 fn is_plain(byte: u8) -> bool
     ensures { result ≡ is_plain byte }
 {

@@ -32,9 +32,9 @@ pub(crate) struct Table {
     /// The type of the elements of the array class that each node's text or name says, so that no text is looked through
     /// at each node that names it.
     elements: Vec<Option<TypeCode>>,
-    /// How many parts the objects have.
+    /// The number of parts that the objects have.
     parts: usize,
-    /// How many entries the lists have.
+    /// The number of entries that the lists have.
     entries: usize,
     /// The descriptions that are still being read, the outermost first.
     unread: Vec<u32>,
@@ -44,7 +44,7 @@ pub(crate) struct Table {
     ghost few_entries: { entries ≤ ENTRIES },
 }
 
-/// Whether a number is among some, at most 200.
+/// Returns whether a number is among some, at most 200.
 #[tactic(auto, unfolding(ser_values::specs::Node::has))]
 fn has(numbers: &[u32], number: u32) -> bool
     ensures { result ≡ has numbers.now number }
@@ -111,7 +111,7 @@ impl Table {
         }
     }
 
-    /// Whether no further node has room.
+    /// Returns whether there is no room for a further node.
     pub(crate) fn is_full(&self) -> bool
         ensures { result ≡ not (nat_lt (length self.now.nodes.items) NODES) }
     {
@@ -190,7 +190,7 @@ impl Table {
         let _last = self.unread.pop();
     }
 
-    /// Whether an object of so many parts has no room.
+    /// Returns whether there is no room for an object of so many parts.
     pub(crate) fn lacks_parts(&self, more: usize) -> bool
         requires { more ≤ 2 ^ 62 }
         ensures { result ≡ nat_lt PARTS (self.now.parts + more) }
@@ -227,7 +227,7 @@ impl Table {
         self.nodes.get(number as usize)
     }
 
-    /// What the text or the name of the node of a number says of an array's elements.
+    /// Returns the type of an array's elements, by the text or the name of the node of a number.
     pub(crate) fn elements_at(&self, number: u32) -> Option<TypeCode>
         ensures { result ≡ elements_at (slice_get self.now.nodes.items number) }
     {
@@ -247,7 +247,7 @@ impl Table {
         }
     }
 
-    /// Whether a node is the description of an enum's class.
+    /// Returns whether a node is the description of an enum's class.
     pub(crate) fn is_enum(&self, number: u32) -> bool
         ensures { result ≡ is_enum (slice_get self.now.nodes.items number) }
     {
@@ -257,7 +257,7 @@ impl Table {
         }
     }
 
-    /// Whether a field of a code may have such a type text.
+    /// Returns whether a field of a code may have such a type text.
     pub(crate) fn fits_type(&self, code: TypeCode, slot: Slot) -> bool
         ensures { result ≡ fits_type self.now.nodes.items code slot }
     {

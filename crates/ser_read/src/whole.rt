@@ -97,7 +97,7 @@ pub fn read_to_end<S: Source>(alloc: Global, pull: &mut Pull<'_, S>) -> Result<G
     // Of told bytes that go on past the stop, it is the first fault before it, or that there are too many.
     ensures limited { (bytes : List ℕ) → (S.half pull.old.source.now).left ≡ Some bytes → pull.old.stop - pull.old.at < length bytes
         → IsErrAnd result (λ e. Fails (TooLarge Bytes pull.old.stop) e (going_on (stream_at pull.old.stop (take (pull.old.stop - pull.old.at) bytes)))) }
-    // What was taken is a stream of the graph, told or not, or comes to the fault.
+    // The bytes that were taken are a stream of the graph, told or not, or come to the fault.
     ensures taken { IfOk result (λ graph. TakesStream (pull_state S.half pull.old) (pull_state S.half pull.new) graph.nodes graph.items) }
     ensures stops { IfErr result (λ e. BreaksWhole (pull_state S.half pull.old) (pull_state S.half pull.new) e stream_at) }
     // Each stream that is told to its end before the stop is read, unless the outside fails.

@@ -2,7 +2,7 @@
 use crate::fault::{Large, StreamFault, StreamKind};
 use std::fmt;
 
-/// What there is too much of, as `bytes`.
+/// Writes the word for what there is too much of, as `bytes`.
 impl fmt::Display for Large {
     ghost use Rattle.std.specs.Prelude.{Some};
     ghost use Rattle.ser_read.specs.Words.{words_of_large};

@@ -159,7 +159,7 @@ fn set_in_nodes(
     }
 }
 
-/// Whether a node is the text of some units.
+/// Returns whether a node is the text of some units.
 fn is_text_of(node: &Node, units: &Units) -> bool
     ensures { IsTrue result ↔ (node.now ≡ nodes.Text units.now) }
 {

@@ -17,7 +17,7 @@ use sequence::{TryCopy, Units};
 use std::alloc::{AllocError, Global};
 use std::mem;
 
-/// How many parts a node has, if there is one.
+/// Returns the number of parts of a node. Where there is no node, it is 0.
 fn parts_at(node: Option<&Node>) -> usize
     ensures told { result ≡ parts_or (option_map (λ node. node.now) node.entry) }
     ensures bound { result < 2 ^ 63 }
@@ -28,7 +28,7 @@ fn parts_at(node: Option<&Node>) -> usize
     }
 }
 
-/// Whether the nodes of an order have few enough parts in all.
+/// Returns whether the nodes of an order have few enough parts in all.
 #[tactic(auto, unfolding(crate::specs::Finished::parts_at))]
 fn has_few_parts(loose: &Loose, order: &[u32]) -> bool
     ensures { result ≡ nat_le (parts_at loose.now.nodes.now order.now) PARTS }

@@ -11,7 +11,7 @@ use sequence::ByteList;
 use std::alloc::{AllocError, Global};
 use std::mem;
 
-/// How many bytes of block data items begin with.
+/// Returns the number of bytes of block data with which items begin.
 fn front_len(items: &[Item]) -> usize
     ensures { result ≡ front_len items.now }
 {
@@ -21,7 +21,7 @@ fn front_len(items: &[Item]) -> usize
     }
 }
 
-/// Whether items begin with bytes of block data.
+/// Returns whether items begin with bytes of block data.
 fn begin_with_bytes(items: &[Item]) -> bool
     ensures { result ≡ begin_with_bytes items.now }
 {

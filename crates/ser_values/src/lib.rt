@@ -1,3 +1,4 @@
+// SPDX-License-Identifier: Apache-2.0 OR MIT
 //! Graphs of the values in a serialization stream: nodes in the order of their handles, and items
 //! (Java Object Serialization Specification, chapter 6).
 #![tactic(auto)]

@@ -38,7 +38,7 @@ impl<'a> Loose<'a> {
         Ok(Loose { nodes, elements })
     }
 
-    /// How many nodes there are.
+    /// Returns the number of nodes.
     pub(crate) fn count(&self) -> usize
         ensures { result ≡ length self.now.nodes.now }
     {
@@ -52,7 +52,7 @@ impl<'a> Loose<'a> {
         self.nodes.get(number as usize)
     }
 
-    /// What the text or the name of the node of a number says of an array's elements.
+    /// Returns the type of an array's elements, by the text or the name of the node of a number.
     pub(crate) fn elements(&self, number: u32) -> Option<TypeCode>
         ensures { result ≡ elements_at (slice_get self.now.nodes.now number) }
     {

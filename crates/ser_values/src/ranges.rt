@@ -9,7 +9,7 @@ use crate::value::{Part, Value, Values};
 use class_desc::{ClassDesc, FieldDesc, Item};
 use sequence::Sequence;
 
-/// What has numbers.
+/// A value that has numbers.
 pub(crate) trait Ranged {
     /// Each number is in the range of its type.
     ghost fits: { Self → Type 0 };

@@ -44,7 +44,7 @@ fn slot_by(places: &[u32], slot: Slot) -> Slot
     }
 }
 
-/// What names nodes, and can be given their new numbers.
+/// A value that names nodes, and can be given their new numbers.
 pub(crate) trait Renumber {
     /// The same value under new numbers.
     ghost by: { (ℕ → ℕ) → Self → Self };

@@ -5,7 +5,7 @@ ghost use Rattle.ser_values.specs.Walk.{front};
 
 use std::alloc::{AllocError, Global};
 
-/// What a walk knows of a node.
+/// The state of a node in a walk.
 #[derive(Clone, Copy, Debug, PartialEq, Eq)]
 pub(crate) enum Mark {
     /// It has no handle.
@@ -55,7 +55,7 @@ impl Seen {
         })
     }
 
-    /// Whether a node has a handle.
+    /// Returns whether a node has a handle.
     pub(crate) fn is_seen(&self, number: u32) -> bool
         requires kept { IsKept self.now }
         requires within { number < length self.now.marks.items }
@@ -64,7 +64,7 @@ impl Seen {
         self.marks[number as usize] != Mark::New
     }
 
-    /// Whether a node is an unread description.
+    /// Returns whether a node is an unread description.
     pub(crate) fn is_unread(&self, number: u32) -> bool
         requires kept { IsKept self.now }
         requires within { number < length self.now.marks.items }

@@ -47,7 +47,7 @@ pub fn is_text(node: &Node) -> bool
     }
 }
 
-/// Whether a node may be written for the first time in a place.
+/// Returns whether a node may be written for the first time in a place.
 #[tactic(auto, unfolding(crate::specs::Node::admits))]
 pub(crate) fn admits(place: SlotPlace, node: &Node) -> bool
     ensures { result ≡ admits place node.now }
@@ -60,7 +60,7 @@ pub(crate) fn admits(place: SlotPlace, node: &Node) -> bool
     }
 }
 
-/// Whether null may stand in a place.
+/// Returns whether a place takes null.
 #[tactic(auto, unfolding(crate::specs::Node::admits_null))]
 pub(crate) fn admits_null(place: SlotPlace) -> bool
     ensures { result ≡ admits_null place }
@@ -73,7 +73,7 @@ pub(crate) fn admits_null(place: SlotPlace) -> bool
     }
 }
 
-/// Whether a node that has a handle may be named in a place.
+/// Returns whether a place may name a node that has a handle.
 #[tactic(auto, unfolding(crate::specs::Node::takes))]
 pub(crate) fn takes(place: SlotPlace, unread: bool, node: &Node) -> bool
     ensures { result ≡ takes place unread node.now }
@@ -86,14 +86,14 @@ pub(crate) fn takes(place: SlotPlace, unread: bool, node: &Node) -> bool
     }
 }
 
-/// Whether a text can be written with a length of 16 bits.
+/// Returns whether a text can be written with a length of 16 bits.
 fn is_short(text: &Units) -> bool
     ensures { result ≡ is_short text.now }
 {
     encoded_len(text) < 65536
 }
 
-/// Whether each of some texts can be written so.
+/// Returns whether each of some texts can be written with a length of 16 bits.
 #[tactic(auto, unfolding(crate::specs::Shape::are_short))]
 fn are_short(names: &[Units]) -> bool
     ensures { result ≡ are_short names.now }
@@ -106,7 +106,7 @@ fn are_short(names: &[Units]) -> bool
     true
 }
 
-/// Whether no bytes among items are empty, and no two stand side by side.
+/// Returns whether no bytes among items are empty, and no two lie side by side.
 #[tactic(auto, unfolding(crate::specs::Shape::joined_from))]
 pub(crate) fn is_joined(items: &[Item]) -> bool
     ensures { result ≡ is_joined items.now }
@@ -126,7 +126,7 @@ pub(crate) fn is_joined(items: &[Item]) -> bool
     true
 }
 
-/// Whether a value has the type of a code.
+/// Returns whether a value has the type of a code.
 fn fits_value(code: TypeCode, value: Value) -> bool
     ensures { result ≡ fits_value code value }
 {
@@ -145,7 +145,7 @@ fn fits_value(code: TypeCode, value: Value) -> bool
     }
 }
 
-/// Whether each field has a value of its type.
+/// Returns whether each field has a value of its type.
 #[tactic(auto, unfolding(crate::specs::Shape::fit_values), using(crate::proofs::Shapes::fit_len))]
 fn fit_values(fields: &[FieldDesc], values: &[Value]) -> bool
     ensures { result ≡ fit_values fields.now values.now }
@@ -163,7 +163,7 @@ fn fit_values(fields: &[FieldDesc], values: &[Value]) -> bool
     true
 }
 
-/// Whether a part fits a class with these fields, which writes a note or none.
+/// Returns whether a part fits a class with these fields. The class writes a note or none.
 fn fits_part(fields: &[FieldDesc], writes: bool, part: &Part) -> bool
     ensures { result ≡ fits_part fields.now writes (Some part.now) }
 {
@@ -197,7 +197,7 @@ fn above(node: &Node, part: &Part) -> Option<Slot>
     }
 }
 
-/// Whether an object has one part, with a note alone.
+/// Returns whether an object has one part, with a note alone.
 fn is_external(parts: &[Part]) -> bool
     ensures { result ≡ is_external parts.now }
 {
@@ -207,7 +207,7 @@ fn is_external(parts: &[Part]) -> bool
     }
 }
 
-/// Whether elements have the type that a class's name says.
+/// Returns whether elements have the type that a class's name says.
 fn fit_elements(values: &Values, code: Option<TypeCode>) -> bool
     ensures { result ≡ fit_elements values.now code }
 {
@@ -229,7 +229,7 @@ fn fit_elements(values: &Values, code: Option<TypeCode>) -> bool
     }
 }
 
-/// How many parts a node has.
+/// Returns the number of parts of a node.
 pub(crate) fn parts_of(node: &Node) -> usize
     ensures told { result ≡ parts_of node.now }
     ensures bound { result < 2 ^ 63 }
@@ -256,7 +256,7 @@ pub fn fits_node(code: TypeCode, node: &Node, elements: Option<TypeCode>) -> boo
 }
 
 impl Loose<'_> {
-    /// Whether a field of a code may have such a type text.
+    /// Returns whether a field of a code may have such a type text.
     fn fits_type(&self, code: TypeCode, slot: Slot) -> bool
         ensures { result ≡ fits_type self.now.nodes.now code slot }
     {
@@ -269,7 +269,7 @@ impl Loose<'_> {
         }
     }
 
-    /// Whether fields have short names and type texts that fit.
+    /// Returns whether fields have short names and type texts that fit.
     #[tactic(auto, unfolding(crate::specs::Shape::are_typed))]
     fn are_typed(&self, fields: &[FieldDesc]) -> bool
         ensures { result ≡ are_typed self.now.nodes.now fields.now }
@@ -295,7 +295,7 @@ impl Loose<'_> {
         }
     }
 
-    /// Whether there is a part for each description of a class's chain, the highest superclass first.
+    /// Returns whether there is a part for each description of a class's chain, the highest superclass first.
     #[tactic(auto, unfolding(crate::specs::Shape::fits_chain))]
     fn fits_chain(&self, parts: &[Part], class: Slot) -> bool
         ensures { result ≡ fits_chain self.now.nodes.now parts.now (length parts.now) class }
@@ -312,7 +312,7 @@ impl Loose<'_> {
         slot == Slot::Null
     }
 
-    /// Whether an object's class and parts fit each other.
+    /// Returns whether an object's class and parts fit each other.
     fn fits_object(&self, class: u32, parts: &[Part], chained: bool) -> bool
         ensures { result ≡ fits_object (slice_get self.now.nodes.now class) parts.now chained }
     {
@@ -329,7 +329,7 @@ impl Loose<'_> {
         }
     }
 
-    /// Whether an array's class and elements fit each other.
+    /// Returns whether an array's class and elements fit each other.
     fn fits_array(&self, class: u32, values: &Values) -> bool
         ensures { result ≡ fits_array (slice_get self.now.nodes.now class) values.now }
     {
@@ -341,7 +341,7 @@ impl Loose<'_> {
         }
     }
 
-    /// Whether a node is the description of an enum's class.
+    /// Returns whether a node is the description of an enum's class.
     fn is_enum(&self, class: u32) -> bool
         ensures { result ≡ is_enum (slice_get self.now.nodes.now class) }
     {
@@ -351,7 +351,7 @@ impl Loose<'_> {
         }
     }
 
-    /// Whether a node keeps the rules for its kind.
+    /// Returns whether a node keeps the rules for its kind.
     #[tactic(auto, unfolding(crate::specs::Shape::is_shaped))]
     pub(crate) fn is_shaped(&self, node: &Node) -> bool
         ensures { result ≡ is_shaped self.now.nodes.now node.now }

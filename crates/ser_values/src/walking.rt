@@ -15,7 +15,7 @@ use crate::value::{Part, Value, Values};
 use class_desc::{FieldDesc, Item, Slot, is_primitive};
 use std::alloc::{AllocError, Global};
 
-/// What is left to do in a walk.
+/// A task that is left in a walk.
 #[derive(Clone, Copy, Debug)]
 pub(crate) enum Task {
     /// Write what a slot names in a place, at most so many levels deep.
@@ -161,7 +161,7 @@ fn push_after(stack: &mut Vec<Task>, node: &Node, left: u32) -> Result<(), Alloc
     }
 }
 
-/// Whether a node without a handle may get one in a place, so many levels above the limit.
+/// Returns whether a node without a handle may get one in a place, so many levels above the limit.
 fn is_new(loose: &Loose, left: u32, place: SlotPlace, node: &Node) -> bool
     ensures { result ≡ is_new loose.now.nodes.now left place node.now }
 {

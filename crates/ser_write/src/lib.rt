@@ -1,3 +1,4 @@
+// SPDX-License-Identifier: Apache-2.0 OR MIT
 //! The canonical writer of serialization streams (Java Object Serialization Specification, 6.4).
 #![tactic(auto)]
 

@@ -1,4 +1,4 @@
-//! What is written of a node in one piece.
+//! The pieces in which a node is written.
 ghost use Rattle.std.specs.Prelude.{◌≡◌, ◌∷◌, ◌++◌, OnErr, OnOk};
 ghost use Rattle.ser_write.specs.Canonical.{Begins, code_of};
 ghost use Rattle.ser_write.specs.Nodes.{class_of, element_bytes, behind_handle, own_title, slots_of};

@@ -38,7 +38,7 @@ pub(crate) fn put_32(out: &mut ByteList, number: usize) -> Result<(), AllocError
     ])
 }
 
-/// What has one spelling in bytes.
+/// A value that has one spelling in bytes.
 pub(crate) trait Spelled {
     /// The bytes.
     ghost bytes: { Self → List ℕ };

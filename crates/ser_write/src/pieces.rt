@@ -1,4 +1,4 @@
-//! What is written of a node by itself.
+//! The bytes that are written of a node by itself.
 ghost use Rattle.std.specs.Prelude.{◌≡◌, ◌∷◌, ◌++◌, ℕ, suc, IfOk, OnErr, OnOk, option_map, reverse, slice_get, take, drop};
 ghost use Rattle.std.specs.Int.{w16, to_be_bytes};
 ghost use Rattle.std.specs.List.{flat_map};
@@ -200,7 +200,7 @@ pub(crate) fn node_at(nodes: &[Node], number: u32) -> Option<&Node>
     nodes.get(number as usize)
 }
 
-/// Whether a class is externalizable.
+/// Returns whether a class is externalizable.
 pub(crate) fn is_external_class(node: Option<&Node>) -> bool
     ensures { result ≡ is_external_class (option_map (λ n. n.now) node.entry) }
 {
@@ -210,7 +210,7 @@ pub(crate) fn is_external_class(node: Option<&Node>) -> bool
     }
 }
 
-/// Whether a slot's description has a write method, and its superclass.
+/// Returns whether a slot's description has a write method, and its superclass.
 #[tactic(auto, unfolding(stream_grammar::specs::Spelled::writers))]
 fn writer_at(nodes: &[Node], slot: Slot) -> Option<(bool, Slot)>
     ensures { (n : ℕ) → writers nodes.now (suc n) slot ≡ writers_by (writers nodes.now n) result }

@@ -3,7 +3,7 @@ use history::{Ask, Refused, Turn};
 use sequence::{Sequence, TryCopy};
 use std::alloc::{AllocError, Global};
 
-/// How a turn ended.
+/// The end of a turn.
 #[derive(Debug, Drop)]
 pub enum AskedEnd {
     /// The event was taken, and answered so.
@@ -19,9 +19,9 @@ pub enum AskedEnd {
 pub struct Asked {
     /// The moment that was handed in.
     pub moment: u64,
-    /// What was asked.
+    /// The request.
     pub ask: Ask,
-    /// How it ended.
+    /// The end of the turn.
     pub end: AskedEnd,
 }
 

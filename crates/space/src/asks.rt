@@ -1,4 +1,4 @@
-//! Whether an ask is effective, whether there is room for it, and what it is answered.
+//! Effective requests, the room that a request needs, and its reply.
 ghost use Rattle.std.specs.Prelude.{◌≡◌, ◌+◌, ◌<◌, ◌^◌, option_and_then, IfOk};
 ghost use Rattle.history.specs.declared.limits.TheConstants.{END_OF_OBJECT_COUNT};
 ghost use Rattle.history.specs.Names.{name_in};
@@ -17,14 +17,14 @@ use object_ids::{FullKind, ObjId, ObjIds};
 use rmi_registry::Names;
 use std::alloc::{AllocError, Global};
 
-/// Whether an object is exported.
+/// Returns whether an object is exported.
 pub(crate) fn is_exported(exports: &Exports, object: &ObjId) -> bool
     ensures { result ≡ is_exported exports.now.rows object.now }
 {
     exports.find(*object).is_some()
 }
 
-/// What the name in an ask stands for, if there is a name and it stands for something.
+/// Returns the object for which the name in a request stands, if there is a name and it stands for something.
 pub(crate) fn stood_for(names: &Names, ask: &Ask) -> Option<ObjId>
     ensures { result ≡ option_and_then (object_of names.now) (name_in ask.now) }
 {
@@ -37,7 +37,7 @@ pub(crate) fn stood_for(names: &Names, ask: &Ask) -> Option<ObjId>
     }
 }
 
-/// Whether an ask of a connection is effective, where its name stands for `stood`.
+/// Returns whether a request of a connection is effective, where its name stands for `stood`.
 pub(crate) fn is_effective(
     exports: &Exports,
     runs: &Runs,
@@ -64,7 +64,7 @@ pub(crate) fn is_effective(
     }
 }
 
-/// How many objects an ask exports.
+/// Returns the number of objects that a request exports.
 pub(crate) fn opens(effective: bool, ask: &Ask) -> u64
     ensures value { result ≡ opens effective ask.now }
     ensures small { result < 2 ^ 63 }
@@ -116,7 +116,8 @@ pub(crate) fn room_refusal(
     }
 }
 
-/// What an ask is answered where it is taken, the next object is the space's k-th, and the ask's name stands for `stood`.
+/// Returns the reply to a request that is taken. The next object is the space's k-th, and the request's name stands
+/// for `stood`.
 pub(crate) fn reply_at(
     alloc: Global,
     config: &SpaceConfig,
@@ -216,8 +217,8 @@ fn found_reply(exports: &Exports, stood: Option<ObjId>) -> Reply
     }
 }
 
-/// How many of the space's withdrawals are told as gone once an ask is answered. That is all of them; but an Abandon tells none, and
-/// leaves the number as it was.
+/// Returns the number of the space's withdrawals that are reported as gone once a request has its reply. Those are
+/// all of them. But an Abandon reports none, and leaves the number as it was.
 pub(crate) fn reported_after(reported: usize, all: usize, ask: &Ask) -> usize
     ensures { result ≡ reported_after reported all ask.now }
 {

@@ -1,4 +1,4 @@
-//! What the lease table is told of an ask.
+//! The lease table's part of a request.
 ghost use Rattle.std.specs.Prelude.{◌≡◌, ◌<◌, ◌++◌, ◌∷◌, filter, true, IfOk, OnOk, OnErr};
 ghost use Rattle.std.specs.List.{list_all};
 ghost use Rattle.history.specs.LeaseCalls.{call_with};
@@ -143,14 +143,14 @@ fn take_clean(
     }
 }
 
-/// Whether some objects are all exported.
+/// Returns whether some objects are all exported.
 fn are_all_exported(exports: &Exports, named: &[ObjId]) -> bool
     ensures { result ≡ list_all (is_exported exports.now.rows) named.now }
 {
     named.iter().all(|object| is_exported(exports, object))
 }
 
-/// Whether some objects are all exported, so that those of them that are exported are all of them.
+/// Returns whether some objects are all exported. Then those of them that are exported are all of them.
 #[tactic(auto, using(crate::proofs::Refusals::filter_all))]
 fn are_exported(exports: &Exports, named: &ObjIds) -> bool
     ensures { result ≡ true → filter (is_exported exports.now.rows) named.now ≡ named.now }

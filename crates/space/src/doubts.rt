@@ -97,8 +97,9 @@ fn copy_of_objects(alloc: Global, objects: &[ObjId]) -> Result<Vec<ObjId>, Alloc
     Ok(copy)
 }
 
-/// Whether time that passes to a moment may take what keeps some object: a lease may end, or the wait of a reference has ended. Where it takes
-/// nothing, only the objects from which the ask takes something are in doubt. It takes no memory.
+/// Returns whether time that passes to a moment may take what keeps some object. It may where a lease may end, or
+/// where the wait of a reference has ended. Where time takes nothing, only the objects from which the request takes
+/// something are in doubt. The function takes no memory.
 pub(crate) fn takes_time(exports: &Exports, leases: &Leases, now: u64) -> bool
     ensures { result ≡ false → (taken : List ObjId) → AreInDoubt leases.now now exports.now.waits taken taken }
 {

@@ -61,7 +61,7 @@ fn put_line_at(
     put
 }
 
-/// How many entries the tables of a space have.
+/// The numbers of entries in the tables of a space.
 #[derive(Clone, Copy)]
 struct Counts {
     objects: u64,

@@ -1,3 +1,4 @@
+// SPDX-License-Identifier: Apache-2.0 OR MIT
 //! A space of exported objects: it takes one event after another, and answers each by the whole list of events
 //! before it (Java RMI Specification, chapters 6, 9 and 10).
 #![tactic(auto)]

@@ -14,7 +14,7 @@ use history::{Event, Refused, SpaceConfig, Turn};
 use object_ids::ObjId;
 use std::alloc::{AllocError, Global};
 
-/// What a list of events is answered, up to the first that is refused.
+/// The answers to a list of events, up to the first that is refused.
 #[derive(Debug, Drop)]
 pub struct Turns {
     /// The turns of the events that were taken, in their order.

@@ -1,4 +1,4 @@
-//! What an ask does to the leases and to the names, in the last step that may be refused.
+//! The effects of requests on the leases and the names, in the last step that may be refused.
 ghost use Rattle.std.specs.Prelude.{◌≡◌, ◌<◌, ◌++◌, length, true, option_and_then, OnOk, OnErr};
 ghost use Rattle.history.specs.LeaseCalls.{call_with};
 ghost use Rattle.history.specs.Names.{name_in, is_name_change};
@@ -46,7 +46,7 @@ pub(crate) fn settle(
     }
 }
 
-/// Whether an ask changes what a name stands for, where it is effective.
+/// Returns whether a request, where it is effective, changes what a name stands for.
 fn changes_name(ask: &Ask) -> bool
     ensures { result ≡ is_name_change ask.now }
 {

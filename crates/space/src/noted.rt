@@ -24,8 +24,8 @@ use sequence::NameList;
 use std::alloc::{AllocError, Global};
 
 impl Space {
-    /// What `turn` does and answers, and beside it the entry of the turn. All memory is taken before the event
-    /// is appended: where there is none, the space is as it was. Its conditions are those of `turn`.
+    /// Does what `turn` does, and returns its answer with the entry of the turn. It takes all memory before it
+    /// appends the event. Where there is none, the space is as it was. Its conditions are those of `turn`.
     pub fn turn_noted(
         &mut self,
         by: u32,
@@ -80,7 +80,7 @@ fn take_note(alloc: Global, names: &Names, ask: &Ask) -> Result<Note, AllocError
     Ok(Note { ask, ids, names })
 }
 
-/// How many objects an ask makes by a return, whose identifiers it may be answered.
+/// Returns the number of objects that a request makes by a return. The reply may have their identifiers.
 fn made_by(ask: &Ask) -> usize
     ensures { result ≡ made_by ask.now }
 {

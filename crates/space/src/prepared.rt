@@ -1,4 +1,4 @@
-//! What a turn answers and adds, found before anything changes.
+//! The answer of a turn and what it adds, found before anything changes.
 ghost use Rattle.std.specs.Prelude.{◌≡◌, ◌+◌, ◌≤◌, ◌<◌, true, drop, length, map, option_and_then, None, Some, IfOk, IfErr, vec_len, vec_capacity};
 ghost use Rattle.rmi_registry.specs.Bindings.{names_in, object_of};
 ghost use Rattle.history.specs.Names.{name_in};
@@ -17,12 +17,12 @@ use history::{Ask, Refused, Reply, Turn};
 use object_ids::{ObjId, ObjIds};
 use std::alloc::{AllocError, Global};
 
-/// What is known of an ask that may be taken, by the limits of the history and of the exported objects.
+/// The facts of a request that may be taken, by the limits of the history and of the exported objects.
 #[derive(Clone, Copy)]
 pub(crate) struct Admitted {
-    /// What its name stands for, if there is a name and it stands for something.
+    /// The object for which its name stands, if there is a name and it stands for something.
     pub stood: Option<ObjId>,
-    /// Whether it is effective.
+    /// True where it is effective.
     pub effective: bool,
 }
 
@@ -74,7 +74,7 @@ impl Drop for Listed {
     }
 }
 
-/// What a turn tells as gone.
+/// The objects that a turn reports as gone.
 pub(crate) struct Untold {
     /// The objects of the withdrawals that are still to be told, with room for those in doubt.
     pub gone: Vec<ObjId>,
@@ -109,17 +109,17 @@ impl Untold {
     }
 }
 
-/// What a turn answers and adds.
+/// The answer of a turn and what it adds.
 pub(crate) struct Prepared {
-    /// How many objects it exports.
+    /// The number of objects that it exports.
     pub opened: u64,
-    /// How many are exported then, before any is withdrawn.
+    /// The number of objects that are exported then, before any is withdrawn.
     pub objects: usize,
     /// The objects that it is about.
     pub listed: Listed,
-    /// What it tells as gone.
+    /// The objects that it reports as gone.
     pub untold: Untold,
-    /// What it is answered.
+    /// Its reply.
     pub reply: Reply,
 }
 
@@ -159,8 +159,8 @@ impl Prepared {
     }
 }
 
-/// What a turn at a moment answers and adds, where the ask's name stands for `stood`. It is refused where the references that it returns would pass
-/// the limit of those that await.
+/// Finds the answer of a turn at a moment and what it adds, where the request's name stands for `stood`. It is
+/// refused where the references that it returns would pass the limit of those that await.
 pub(crate) fn prepare(
     tables: &Tables,
     stood: Option<ObjId>,

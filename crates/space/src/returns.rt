@@ -141,7 +141,8 @@ pub(crate) fn new_ids(
     Ok(ids)
 }
 
-/// Whether the references that await at a moment, with those of a return to so many new objects and to these exported ones, pass their limit.
+/// Returns whether a return would pass the limit of the references that await at a moment. It refers to so many new
+/// objects and to these exported ones.
 fn is_past(
     alloc: Global,
     exports: &Exports,
@@ -158,8 +159,8 @@ fn is_past(
         && most < waiting + new_waits(alloc, exports, now, uid, live) as u128
 }
 
-/// How many of these objects, each counted once, do not wait at a moment as listed in a return. Many are counted with memory, and
-/// where there is none, one by one.
+/// Returns the number of these objects, each counted once, that do not wait at a moment as listed in a return. It
+/// counts many with memory. Where there is none, it counts them one by one.
 fn new_waits(alloc: Global, exports: &Exports, now: u64, uid: &Uid, live: &[ObjId]) -> usize
     ensures value { result ≡ length (filter (λ o. not (is_waiting now o uid.now exports.now.waits)) (distinct same_id live.now)) }
     ensures bound { result ≤ length live.now }
@@ -174,7 +175,8 @@ fn new_waits(alloc: Global, exports: &Exports, now: u64, uid: &Uid, live: &[ObjI
     }
 }
 
-/// How many of these objects, each counted once, do not wait at a moment as listed in a return, each compared with all that follow.
+/// Returns the number of these objects, each counted once, that do not wait at a moment as listed in a return. It
+/// compares each with all that follow.
 fn counted_one_by_one(exports: &Exports, now: u64, uid: &Uid, live: &[ObjId]) -> usize
     ensures value { result ≡ length (filter (λ o. not (is_waiting now o uid.now exports.now.waits)) (distinct same_id live.now)) }
     ensures bound { result ≤ length live.now }
@@ -188,7 +190,8 @@ fn counted_one_by_one(exports: &Exports, now: u64, uid: &Uid, live: &[ObjId]) ->
     count
 }
 
-/// How many of these objects, each counted once, do not wait at a moment as listed in a return, with a list of those that were met.
+/// Returns the number of these objects, each counted once, that do not wait at a moment as listed in a return. It
+/// keeps a list of those that it has met.
 fn counted_with_memory(
     alloc: Global,
     exports: &Exports,
@@ -203,7 +206,8 @@ fn counted_with_memory(
     counted_from_last(&mut seen, exports, now, uid, live)
 }
 
-/// How many of these objects, each counted once, do not wait at a moment as listed in a return, from the last to the first. None was seen before.
+/// Returns the number of these objects, each counted once, that do not wait at a moment as listed in a return. It
+/// counts from the last to the first. None was seen before.
 fn counted_from_last(
     seen: &mut IndexSet<ObjId>,
     exports: &Exports,
@@ -241,7 +245,7 @@ fn is_first_new_wait(
     Ok(is_new && !exports.is_waiting(*object, *uid, now))
 }
 
-/// Whether an object does not wait at a moment as listed in a return, and is none of the others.
+/// Returns whether an object does not wait at a moment as listed in a return, and is none of the others.
 fn is_new_wait(exports: &Exports, now: u64, uid: &Uid, object: &ObjId, others: &[ObjId]) -> bool
     ensures { result ≡ (not (list_any (same_id object.now) others.now) && not (is_waiting now object.now uid.now exports.now.waits)) }
 {

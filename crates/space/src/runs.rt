@@ -27,9 +27,9 @@ type Counts = IndexMap<Run, u32>;
 
 /// The calls that connections run. Contracts see them as a `RunTable`, whose list is in no order that matters.
 pub struct Runs {
-    /// How many there are of each.
+    /// The number of running calls of each connection and object.
     counts: Counts,
-    /// How many there are.
+    /// The number of all running calls.
     total: usize,
 }
 
@@ -63,7 +63,7 @@ impl Runs {
         }
     }
 
-    /// How many run.
+    /// Returns the number of running calls.
     pub fn len(&self) -> usize
         ensures { result ≡ length self.now.items }
     {
@@ -78,14 +78,14 @@ impl Runs {
         self.counts.reserve(1)
     }
 
-    /// Whether a connection runs a call of an object.
+    /// Returns whether a connection runs a call of an object.
     pub fn is_running(&self, by: u32, object: &ObjId) -> bool
         ensures { result ≡ list_any (is_run by object.now) self.now.items }
     {
         self.count(by, object) > 0
     }
 
-    /// How many calls of an object a connection runs.
+    /// Returns the number of calls of an object that a connection runs.
     pub fn count(&self, by: u32, object: &ObjId) -> usize
         ensures value { result ≡ length (filter (is_run by object.now) self.now.items) }
         ensures within { result ≤ length self.now.items }
@@ -145,7 +145,7 @@ pub(crate) fn act_on_runs(runs: &mut Runs, effective: bool, by: u32, ask: &Ask)
     }
 }
 
-/// How many calls of an object a connection runs, by the counts.
+/// Returns the number of calls of an object that a connection runs, by the counts.
 fn count_of(counts: &Counts, run: &Run) -> u32
     ensures { result ≡ length (filter (is_run run.now.by run.now.object) (all_calls counts.now)) }
 {

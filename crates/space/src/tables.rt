@@ -1,4 +1,4 @@
-//! What a space keeps, and what a turn does to it.
+//! The tables of a space, and the effects of a turn on them.
 ghost use Rattle.std.specs.Prelude.{◌≡◌, ◌<◌, ◌++◌, ◌∷◌, [], true, Ok, Err, IfOk, IfErr, OnOk, OnErr};
 ghost use Rattle.history.specs.Steps.{Step};
 ghost use Rattle.history.specs.declared.limits.TheConstants.{END_OF_TIME};
@@ -22,7 +22,7 @@ use object_ids::ObjIds;
 use rmi_registry::Names;
 use std::alloc::Global;
 
-/// What a space keeps of the events that it took.
+/// The record that a space keeps of the events that it took.
 #[derive(Drop)]
 pub struct Tables {
     /// Where it takes memory.
@@ -45,9 +45,9 @@ pub struct Tables {
     pub events: SpaceEvents,
     /// The withdrawals, in their order.
     pub withdrawn: Withdrawals,
-    /// How many withdrawals were told as gone.
+    /// The number of withdrawals that were reported as gone.
     pub reported: usize,
-    /// How many objects were ever exported.
+    /// The number of objects that were ever exported.
     pub added: u64,
 }
 

@@ -107,7 +107,7 @@ fn put_objects(
     Ok(())
 }
 
-/// What the outline says of an exported object.
+/// Returns the outline's row of an exported object.
 fn row_of(leases: &Leases, now: u64, object: &ExportRow) -> ObjectRow
     ensures { ForEachLog leases.now (λ lease moment calls. result ≡ held_row lease (max now moment) calls object.now) }
 {

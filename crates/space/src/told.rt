@@ -45,7 +45,7 @@ impl ToldWithdrawals {
         }
     }
 
-    /// How many there are.
+    /// Returns the number of withdrawals.
     pub(crate) fn len(&self) -> usize
         ensures value { result ≡ length self.now }
         ensures few { result ≤ 2 ^ 62 }

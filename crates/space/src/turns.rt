@@ -115,7 +115,8 @@ impl Space {
         }
     }
 
-    /// What `turn` does and answers. Where the turn is `noted`, a copy of the objects that it tells as gone is beside it.
+    /// Does what `turn` does, and returns its answer. Where the turn is `noted`, it also returns a copy of the
+    /// objects that the turn reports as gone.
     pub(crate) fn turn_with(
         &mut self,
         by: u32,
@@ -143,7 +144,7 @@ impl Space {
         }
     }
 
-    /// Whether the space keeps its events, so that its journal and its outline can be read.
+    /// Returns whether the space keeps its events, so that its journal and its outline can be read.
     pub fn is_stored(&self) -> bool
         ensures { result ≡ self.now.configuration.stored }
     {
@@ -157,15 +158,15 @@ impl Space {
         self.tables.moment
     }
 
-    /// How many calls of an object a connection runs.
+    /// Returns the number of calls of an object that a connection runs.
     pub fn running(&self, by: u32, object: ObjId) -> u32
         ensures { result ≡ running_calls_by (places self.now.configuration self.now.events) by object }
     {
         self.tables.runs.count(by, &object) as u32
     }
 
-    /// How many events there are. They are a legal history, what turns leave of the empty one, and none of them is of a
-    /// later moment than 2^62 - 1. The rows are those of the history's table.
+    /// Returns the number of events. They are a legal history, one that turns make of the empty one. None of them is
+    /// of a later moment than 2^62 - 1. The rows are those of the history's table.
     pub fn len(&self) -> u64
         ensures value { result ≡ length self.now.events }
         ensures legal { IsLegal self.now.configuration self.now.events }

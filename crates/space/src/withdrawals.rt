@@ -69,7 +69,7 @@ impl Withdrawals {
         }
     }
 
-    /// How many there are.
+    /// Returns the number of withdrawals.
     pub fn len(&self) -> usize
         ensures { result ≡ length self.now.items }
     {

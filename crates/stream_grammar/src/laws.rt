@@ -7,7 +7,7 @@ pub fn streams_have_one_reading()
     ensures { HaveOneReading }
 {}
 
-/// What a stream is of is a graph.
+/// A stream is always a stream of a graph.
 pub fn streams_are_of_graphs()
     ensures { AreOfGraphs }
 {}
@@ -27,7 +27,7 @@ pub fn faults_stand_in_bytes()
     ensures { FaultsStand }
 {}
 
-/// What reading knows of the reference at a position, as how many handles were given, is one.
+/// Bytes determine all that reading knows of the reference at a position, as the number of handles that were given.
 pub fn reading_comes_to_one()
     ensures { ComesToOne }
 {}

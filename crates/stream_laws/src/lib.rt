@@ -1,4 +1,5 @@
-//! What holds of writing and reading together, and of the faults that bytes show.
+// SPDX-License-Identifier: Apache-2.0 OR MIT
+//! Laws of writing and reading together, and of the faults that bytes show.
 #![tactic(auto)]
 
 mod descriptions;

@@ -1,3 +1,4 @@
+// SPDX-License-Identifier: Apache-2.0 OR MIT
 //! The serialVersionUID that a class has by default, and its description, from an outline of the class in text
 //! (Java Object Serialization Specification, 4.6).
 #![tactic(auto)]

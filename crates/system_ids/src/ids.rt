@@ -24,7 +24,7 @@ pub const COLLECTOR_ID: ObjId = ObjId {
     space: KNOWN_SPACE,
 };
 
-/// Whether two identifiers are the same.
+/// Returns whether two identifiers are the same.
 fn same(id: ObjId, other: ObjId) -> bool
     ensures { result ≡ same_id id other }
 {
@@ -34,14 +34,14 @@ fn same(id: ObjId, other: ObjId) -> bool
         && id.space.count == other.space.count
 }
 
-/// Whether an object is the registry.
+/// Returns whether an object is the registry.
 pub fn is_registry(id: ObjId) -> bool
     ensures { result ≡ same_id id registry_id }
 {
     same(id, REGISTRY_ID)
 }
 
-/// Whether an object is the registry or the collector.
+/// Returns whether an object is the registry or the collector.
 pub fn is_system(id: ObjId) -> bool
     ensures { result ≡ is_system id }
 {

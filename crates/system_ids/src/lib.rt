@@ -1,3 +1,4 @@
+// SPDX-License-Identifier: Apache-2.0 OR MIT
 //! The two objects that every server has of itself, the registry and the collector: their identifiers and their methods.
 #![tactic(auto)]
 

@@ -120,7 +120,7 @@ impl Model for Book {
     ghost invariant = { λ b. IsBook b.kinds b.hashes b.system };
 }
 
-/// Whether values of the type are floats or doubles.
+/// Returns whether values of the type are floats or doubles.
 fn is_float(code: TypeCode) -> bool
     ensures { result ≡ is_float code }
 {
@@ -130,7 +130,7 @@ fn is_float(code: TypeCode) -> bool
     }
 }
 
-/// Whether a result is a float or a double.
+/// Returns whether a result is a float or a double.
 fn returns_float(result_type: Option<TypeCode>) -> bool
     ensures { result ≡ returns_float result_type }
 {
@@ -140,14 +140,14 @@ fn returns_float(result_type: Option<TypeCode>) -> bool
     }
 }
 
-/// Whether some parameter is a float or a double.
+/// Returns whether some parameter is a float or a double.
 fn takes_float(params: &[TypeCode]) -> bool
     ensures { result ≡ list_any is_float params.now }
 {
     params.iter().any(|code| is_float(*code))
 }
 
-/// Whether a method has a parameter or a result that is a float or a double.
+/// Returns whether a method has a parameter or a result that is a float or a double.
 fn uses_float(method: &Method) -> bool
     ensures { result ≡ uses_float method.now }
 {
@@ -161,7 +161,7 @@ fn first_float(methods: &[Method]) -> Option<usize>
     methods.iter().position(|method| uses_float(method))
 }
 
-/// Whether a kind has such a method.
+/// Returns whether a kind has a method with a parameter or a result that is a float or a double.
 fn has_float(kind: &Kind) -> bool
     ensures { result ≡ has_float kind.now }
 {
@@ -216,14 +216,14 @@ fn system_hashes() -> SystemHashes
     }
 }
 
-/// Whether two hashes are the same.
+/// Returns whether two hashes are the same.
 fn same(a: &i64, b: &i64) -> bool
     ensures { result ≡ int_eq a.now b.now }
 {
     *a == *b
 }
 
-/// Whether the operation is the one beside which a method is called by its hash.
+/// Returns whether the operation is the one beside which a method is called by its hash.
 fn is_by_hash(operation: &i32) -> bool
     ensures { result ≡ int_eq operation.now minus_one }
 {
@@ -315,7 +315,7 @@ fn first_hash(hashes: &[i64], hash: i64) -> Option<usize>
     hashes.iter().position(|other| *other == hash)
 }
 
-/// What is wrong with the kind at this place, the first that has a method with floats.
+/// Returns the fault of the kind at this index. It is the first kind that has a method with floats.
 fn float_fault(kinds: &[Kind], kind: usize) -> BookFault
     requires first { position has_float kinds.now ≡ Some kind }
     requires few_kinds { length kinds.now < 2 ^ 32 }

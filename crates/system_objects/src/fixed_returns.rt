@@ -21,7 +21,7 @@ use sequence::{ByteList, Units};
 use ser_write::write_blocks_onto;
 use std::alloc::{AllocError, Global};
 
-/// How many bytes there is room for when a Return is begun: as many as most of them have.
+/// The number of bytes for which a new Return has room. Most Returns have no more.
 const RETURN_ROOM: usize = 512;
 
 /// Begins a normal Return.
@@ -177,14 +177,14 @@ fn remote() -> &'static [u16]
     ]
 }
 
-/// Whether units are equal.
+/// Returns whether units are equal.
 fn are_equal(units: &[u16], others: &[u16]) -> bool
     ensures { IsTrue result ↔ (units.now ≡ others.now) }
 {
     units == others
 }
 
-/// Whether the interface is `java.rmi.Remote`.
+/// Returns whether the interface is `java.rmi.Remote`.
 fn is_remote(interface: &Units) -> bool
     ensures { result ≡ same_text interface.now (codes "java.rmi.Remote") }
 {

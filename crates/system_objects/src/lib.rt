@@ -1,3 +1,4 @@
+// SPDX-License-Identifier: Apache-2.0 OR MIT
 //! The registry and the collector as a connection serves them: what their calls ask for and what they are answered, and the book of the kinds of objects.
 #![tactic(auto)]
 

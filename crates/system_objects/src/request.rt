@@ -1,4 +1,4 @@
-//! What a call of the registry or the collector asks for.
+//! The requests that calls of the registry and the collector make.
 ghost use Rattle.std.specs.Prelude.{◌≡◌, [], None, IfOk};
 ghost use Rattle.history.specs.declared.asks.Ask.TheVariants.{Dirty};
 ghost use Rattle.system_ids.specs.declared.methods.SystemMethod.TheVariants.{Collector};
@@ -239,7 +239,7 @@ fn kept_name(alloc: Global, name: &Name) -> Result<ReplyContext, AllocError>
 
 // ---- calls of the registry
 
-/// What a bind asks for.
+/// Returns the request of a bind.
 fn bind(alloc: Global, setup: &Setup, arguments: &Arguments) -> Result<SystemRequest, NoRequest>
     ensures { FindsRequest result (bind_of (name_and_object (terms_of [] setup.now) (text_in arguments.now 0) (live_ref_in arguments.now 1))) 0 }
 {
@@ -248,7 +248,7 @@ fn bind(alloc: Global, setup: &Setup, arguments: &Arguments) -> Result<SystemReq
     Ok(SystemRequest::Asks(Ask::Bind { name, object }, kept))
 }
 
-/// What a rebind asks for.
+/// Returns the request of a rebind.
 fn rebind(alloc: Global, setup: &Setup, arguments: &Arguments) -> Result<SystemRequest, NoRequest>
     ensures { FindsRequest result (rebind_of (name_and_object (terms_of [] setup.now) (text_in arguments.now 0) (live_ref_in arguments.now 1))) 0 }
 {
@@ -256,7 +256,7 @@ fn rebind(alloc: Global, setup: &Setup, arguments: &Arguments) -> Result<SystemR
     Ok(SystemRequest::Asks(Ask::Rebind { name, object }, ReplyContext::Nothing))
 }
 
-/// What an unbind asks for.
+/// Returns the request of an unbind.
 fn unbind(alloc: Global, setup: &Setup, arguments: &Arguments) -> Result<SystemRequest, NoRequest>
     ensures { FindsRequest result (unbind_of (name_to_unbind (terms_of [] setup.now) (text_in arguments.now 0))) 0 }
 {
@@ -265,7 +265,7 @@ fn unbind(alloc: Global, setup: &Setup, arguments: &Arguments) -> Result<SystemR
     Ok(SystemRequest::Asks(Ask::Unbind { name }, kept))
 }
 
-/// What a lookup asks for.
+/// Returns the request of a lookup.
 fn lookup(alloc: Global, arguments: &Arguments, uid: Uid) -> Result<SystemRequest, NoRequest>
     ensures { FindsRequest result (lookup_of uid (name_to_find (text_in arguments.now 0))) 0 }
 {
@@ -274,7 +274,7 @@ fn lookup(alloc: Global, arguments: &Arguments, uid: Uid) -> Result<SystemReques
     Ok(SystemRequest::Asks(Ask::Lookup { name, uid }, kept))
 }
 
-/// What a call of the registry asks for.
+/// Returns the request of a call of the registry.
 fn registry_request(
     alloc: Global,
     setup: &Setup,
@@ -295,7 +295,7 @@ fn registry_request(
 
 // ---- calls of the collector
 
-/// What a clean asks for.
+/// Returns the request of a clean.
 fn clean(alloc: Global, arguments: &Arguments) -> Result<SystemRequest, NoRequest>
     ensures { FindsRequest result (clean_of (number_in arguments.now 1) (truth_in arguments.now 3) (vmid_in arguments.now 2) (objids_in arguments.now 0)) 0 }
 {
@@ -330,7 +330,8 @@ fn kept_client(alloc: Global, client: &Vmid) -> Result<ReplyContext, AllocError>
     Ok(ReplyContext::Client(client.copy(alloc)?))
 }
 
-/// What a dirty of this number, this client, this duration and these objects asks for, and the part of it that its Return needs.
+/// Returns the request of a dirty of this number, this client, this duration and these objects, and the part of it
+/// that its Return needs.
 fn dirty_with(
     alloc: Global,
     client: Vmid,
@@ -350,7 +351,7 @@ fn dirty_with(
     Ok((ask, kept))
 }
 
-/// What a dirty asks for.
+/// Returns the request of a dirty.
 #[tactic(auto, using(crate::proofs::SystemAsks::no_objects))]
 fn dirty(
     alloc: Global,
@@ -374,7 +375,7 @@ fn dirty(
     Ok(SystemRequest::AsksForNew(ask, kept))
 }
 
-/// What a call of the collector asks for.
+/// Returns the request of a call of the collector.
 #[tactic(auto, unfolding(crate::specs::SystemRequests::client_draws))]
 fn collector_request(
     alloc: Global,

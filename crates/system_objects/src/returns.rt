@@ -14,7 +14,7 @@ use sequence::{ByteList, Units};
 use ser_values::Graph;
 use std::alloc::{AllocError, Global};
 
-/// How many bytes a Return has at most.
+/// The most bytes of a Return.
 pub const RETURN_BYTES: usize = 1 << 30;
 
 // ---- normal Returns

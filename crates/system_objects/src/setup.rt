@@ -1,11 +1,11 @@
-//! What a connection is told beforehand.
+//! The settings of a connection.
 use object_ids::UidDraw;
 use sequence::Units;
 
 /// The identifiers that a connection draws begin at a moment below this one, in milliseconds: so the drawing doesn't end.
 pub const DRAWS_BEGIN_BELOW: u64 = 1 << 61;
 
-/// What a connection is told beforehand. Serving it draws identifiers, and changes nothing else of it.
+/// The settings of a connection. Serving the connection draws identifiers, and changes nothing else of them.
 pub struct Setup {
     /// The number of the connection.
     pub by: u32,
@@ -17,11 +17,11 @@ pub struct Setup {
     pub host: Units,
     /// The server's own port.
     pub port: i32,
-    /// Whether clients may bind names.
+    /// True where clients may bind names.
     pub binding: bool,
     /// Where identifiers come from.
     pub draw: UidDraw,
-    /// What stands for the address of a client that names no virtual machine.
+    /// The bytes that replace the address of a client that names no virtual machine.
     pub mark: [u8; 8],
 }
 

@@ -1,4 +1,4 @@
-//! What calls of the registry and the collector are answered.
+//! The Returns to calls of the registry and the collector.
 ghost use Rattle.std.specs.Prelude.{◌≡◌, ◌≤◌, length, [], Some, slice_get, IfOk};
 ghost use Rattle.mod_utf.specs.Utf.{utf};
 ghost use Rattle.wire_io.specs.declared.limits.TheConstants.{MAX_HOST_BYTES};

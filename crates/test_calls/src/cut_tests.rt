@@ -12,10 +12,10 @@ const CUT: &str =
     "collector dirty ids 00000001 id 0000000000000011 in_space number 8000000000000000 lease client_after | 1000
 call add 77 03 000000 77 00 77 05 0000000005 | 54";
 
-/// How many bytes there are before the acknowledgement is written.
+/// The number of bytes before the acknowledgement is written.
 const ACKNOWLEDGED: usize = 7;
 
-/// How many bytes an opening has. A connection may end behind it.
+/// The number of bytes of an opening. A connection may end behind it.
 const OPENING: usize = 13;
 
 /// Looks whether a connection that sends so many bytes, and no more, ended so.

@@ -1,3 +1,4 @@
+// SPDX-License-Identifier: Apache-2.0 OR MIT
 //! Tests of the crates that calls stand on.
 //!
 //! A case is a line of text with what it must give, and one loop runs all lines of its kind.

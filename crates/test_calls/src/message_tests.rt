@@ -12,7 +12,7 @@ use std::process::Abort;
 use wire_io::mem::MemSource;
 use wire_io::pull::Pull;
 
-/// What a call begins with after its code, up to its head: the stream's magic number and version.
+/// The bytes of a call after its code and up to its head: the stream's magic number and version.
 const MAGIC: &str = "ACED0005";
 
 /// The head in the lines of tables, for which `H` stands: object 17 of a space, the operation -1 and a hash.
@@ -69,7 +69,7 @@ fn source_of(rt: &impl Abort, alloc: Global, front: &str, digits: &str) -> MemSo
     )
 }
 
-/// What a line says of a call: its bytes, or the text of a fault, which begins with a small letter.
+/// The wanted result of a call, as a line says it: its bytes, or the text of a fault, which begins with a small letter.
 fn wanted_of(rt: &impl Abort, alloc: Global, wanted: &str) -> ByteList {
     match wanted.as_bytes().first() {
         Some(b'a'..=b'z') => {
@@ -128,7 +128,7 @@ fn put_rewritten(
     put_again(rt, alloc, out, &mut pull, method);
 }
 
-/// What is written of the call that digits spell, of a method of this text.
+/// Returns the bytes that are written of the call that digits spell, of a method of this text.
 fn rewritten(rt: &impl Abort, alloc: Global, digits: &str, text: &str) -> ByteList {
     let method = Method::parse(alloc, text.as_bytes()).expect(rt, text);
     let mut out = ByteList::new(alloc);
@@ -161,7 +161,7 @@ const UID: Uid = Uid {
 
 const UID_BYTES: &str = "00000006 0000000000000006 8000";
 
-/// What a return holds, by its name.
+/// Returns the body of a return, by its name.
 fn body_of(rt: &impl Abort, alloc: Global, name: &str) -> Body {
     match name {
         "void" => Body::Void,
@@ -171,19 +171,19 @@ fn body_of(rt: &impl Abort, alloc: Global, name: &str) -> Body {
     }
 }
 
-/// What a return holds, whether it is a normal one, and what stands before and after its identifier.
+/// Rows of returns: the body, `normal` or another word, and the bytes before and after the identifier.
 const RETURNS: &str = "void | normal | 77 0F 01 |
 five | normal | 77 17 01 | 0000000000000005
 truth | normal | 77 10 01 | 01
 null | exceptional | 77 0F 02 | 70";
 
-/// What is written of a return of this name.
+/// Returns the bytes that are written of a return of this name.
 fn written(rt: &impl Abort, alloc: Global, normal: bool, name: &str) -> ByteList {
     let body = body_of(rt, alloc, name);
     return_bytes(alloc, normal, UID, &body).expect(rt, "memory")
 }
 
-/// What is to be written of a return, before and after its identifier.
+/// Returns the wanted bytes of a return, from those before and after its identifier.
 fn wanted_return(rt: &impl Abort, alloc: Global, front: &str, back: &str) -> ByteList {
     let mut wanted = bytes_of(rt, alloc, "51ACED0005", front);
     put_digits(rt, &mut wanted, UID_BYTES);

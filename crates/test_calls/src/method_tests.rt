@@ -114,7 +114,7 @@ a()[[V 5
 a()L; 4
 a()La 5";
 
-/// Where a text breaks; 1,000,000 where it doesn't.
+/// The place at which a text breaks, 1,000,000 where it doesn't.
 fn break_of(alloc: Global, text: &[u8]) -> usize {
     match Method::parse(alloc, text) {
         Err(MethodFault::BadDescriptor { at }) => at,
@@ -185,7 +185,7 @@ add(J)J | add | J | J
 get()J | get | | J
 done()V | done | |";
 
-/// Whether these are types of these letters.
+/// Returns whether these are types of these letters.
 fn are_lettered(codes: &[TypeCode], letters: &str) -> bool {
     let mut left = letters.as_bytes();
     for code in codes {
@@ -197,7 +197,7 @@ fn are_lettered(codes: &[TypeCode], letters: &str) -> bool {
     left.is_empty()
 }
 
-/// Whether a method has these parts.
+/// Returns whether a method has these parts.
 fn has_parts(method: &Method, name: &str, params: &str, answer: &str) -> bool {
     let told = match &method.result {
         Some(code) => are_lettered(&[*code], answer),

@@ -13,7 +13,7 @@ use std::process::Abort;
 use wire_io::mem::MemSource;
 use wire_io::pull::Pull;
 
-/// What a return begins with after its code: the stream's magic number and version.
+/// The bytes of a return after its code: the stream's magic number and version.
 const MAGIC: &str = "ACED0005";
 
 /// The identifier in the lines of tables, for which `U` stands.
@@ -115,7 +115,8 @@ fn put_written(
     put(rt, out, bytes.as_slice());
 }
 
-/// What is written of the return that digits spell, for a result of this type, or the text of the fault.
+/// Returns the bytes that are written of the return that digits spell, for a result of this type, or the text of the
+/// fault.
 fn rewritten(rt: &impl Abort, alloc: Global, letter: &str, digits: &str) -> ByteList {
     let mut out = ByteList::new(alloc);
     let mut source = source_of(alloc, bytes_of(rt, alloc, digits));
@@ -127,7 +128,8 @@ fn rewritten(rt: &impl Abort, alloc: Global, letter: &str, digits: &str) -> Byte
     out
 }
 
-/// What a line says of a return: its bytes, or the text of a fault, which begins with a small letter.
+/// The wanted result of a return, as a line says it: its bytes, or the text of a fault, which begins with a small
+/// letter.
 fn wanted_of(rt: &impl Abort, alloc: Global, wanted: &str) -> ByteList {
     let mut out = ByteList::new(alloc);
     match wanted.as_bytes().first() {
@@ -156,7 +158,7 @@ fn returns_are_read(rt: HostRuntime) {
     }
 }
 
-/// Whether reading a front of a return answers that it ends too early, at its length.
+/// Returns whether reading a front of a return answers that it ends too early, at its length.
 fn is_short(alloc: Global, letter: &str, front: ByteList) -> bool {
     let at = front.len() as u64;
     let mut source = source_of(alloc, front);

@@ -1,4 +1,4 @@
-//! What a space and a worker were asked, as words.
+//! The requests to a space and the calls of a worker, as words.
 use crate::texts::{cut, listed, put};
 use call_dispatch::Recorded;
 use history::Refused;
@@ -8,7 +8,7 @@ use space::{Ask, Asked, AskedEnd, Space, journal};
 use std::alloc::Global;
 use std::process::Abort;
 
-/// Whether a word is a name and the number of this object.
+/// Returns whether a word is a name and the number of this object.
 fn is_numbered(object: &ObjId, name: &str, word: &str) -> bool {
     match word.strip_prefix(name) {
         Some(number) => number.parse::<i64>().ok() == Some(object.number),
@@ -16,7 +16,8 @@ fn is_numbered(object: &ObjId, name: &str, word: &str) -> bool {
     }
 }
 
-/// Whether a word tells the end of a call: `made` and the number of new objects; `listed` and the object that the Return lists.
+/// Returns whether a word tells the end of a call. The word is `made` and the number of new objects, or `listed` and
+/// the object that the Return lists.
 fn is_finish(made: &Kinds, listed: &ObjIds, word: &str) -> bool {
     match listed.first() {
         Some(object) => {
@@ -29,7 +30,7 @@ fn is_finish(made: &Kinds, listed: &ObjIds, word: &str) -> bool {
     }
 }
 
-/// Whether a word tells what was asked.
+/// Returns whether a word tells a request.
 fn is_ask(ask: &Ask, word: &str) -> bool {
     match ask {
         Ask::Begin { .. } => word == "begin",
@@ -58,7 +59,7 @@ fn table_of(kind: FullKind) -> &'static str {
     }
 }
 
-/// Whether a word tells an entry: what was asked; where it was refused, the limit.
+/// Returns whether a word tells an entry. It tells the request, or the limit where the request was refused.
 fn is_entry(entry: &Asked, word: &str) -> bool {
     match &entry.end {
         AskedEnd::Turned(_) => is_ask(&entry.ask, word),
@@ -71,7 +72,7 @@ fn is_entry(entry: &Asked, word: &str) -> bool {
     }
 }
 
-/// Whether these words tell the entries, one for each.
+/// Returns whether these words tell the entries, one for each.
 pub(crate) fn are_entries(asked: &[Asked], words: &str) -> bool {
     let mut left = words;
     for entry in asked {
@@ -84,7 +85,8 @@ pub(crate) fn are_entries(asked: &[Asked], words: &str) -> bool {
     left.is_empty()
 }
 
-/// Whether a word tells a call of the worker: the place of the method that was invoked; `gone` and the object that nobody refers to.
+/// Returns whether a word tells a call of the worker. The word is the place of the method that was invoked, or `gone`
+/// and the object that nobody refers to.
 fn is_call(call: &Recorded, word: &str) -> bool {
     match call {
         Recorded::Invoked(call, _) => word.parse::<u32>().ok() == Some(call.method),
@@ -92,7 +94,7 @@ fn is_call(call: &Recorded, word: &str) -> bool {
     }
 }
 
-/// Whether these words tell the calls of the worker, one for each.
+/// Returns whether these words tell the calls of the worker, one for each.
 pub(crate) fn are_invoked(calls: &[Recorded], words: &str) -> bool {
     let mut left = words;
     for call in calls {
@@ -110,7 +112,8 @@ const OPENED: &str = "space 600000 300000 7 9
 0 0 open 0 pinned
 ";
 
-/// Whether these lines, separated by `;`, are the events of a space since there was its one object. No lines say nothing of it.
+/// Returns whether these lines, separated by `;`, are the events of a space since it has its one object. No lines say
+/// nothing of the events.
 pub(crate) fn are_events(rt: &impl Abort, alloc: Global, space: &Space, lines: &str) -> bool {
     if lines.is_empty() {
         return true;

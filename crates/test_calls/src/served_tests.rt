@@ -28,10 +28,11 @@ const METHODS: &str = "echo(Ljava/lang/Object;)Ljava/lang/Object;
 add(J)J
 done()V";
 
-/// What the words of the tables stand for: a Ping and its answer; an array of objects up to its length; a call's front up to the object, and the rest of its head for each
-/// method; a Return's front, its identifier without the count, an exception up to its message, and messages; pieces of references; heads
-/// of calls of the registry and of the collector, and of a new object; their methods; references of other servers; identifiers of objects,
-/// leases and clients.
+/// The meanings of the words of the tables: a Ping and its answer; an array of objects up to its length; a call's front
+/// up to the object, and the rest of its head for each method; a Return's front, its identifier without the count, an
+/// exception up to its message, and messages; pieces of references; heads of calls of the registry and of the
+/// collector, and of a new object; their methods; references of other servers; identifiers of objects, leases and
+/// clients.
 const WORDS: &str = "opening 4A524D49 0002 4B 0000 00000000
 ack 4E 0009 3132372E302E302E31 000004D2
 ping 52
@@ -82,8 +83,9 @@ client_after 73 72 0011 6A6176612E726D692E6467632E564D4944 F8865BAFA4A56DB6 02 0
 client 73 72 0011 6A6176612E726D692E6467632E564D4944 F8865BAFA4A56DB6 02 0002 5B 0004 61646472 74 0002 5B42 4C 0003 756964 74 0015 4C6A6176612F726D692F7365727665722F5549443B 70 78 70 75 72 0002 5B42 ACF317F8060854E0 02 0000 70 78 70 00000008
 identifier 73 72 0013 6A6176612E726D692E7365727665722E554944 0F12700DBF364F12 02 0003 53 0005 636F756E74 4A 0004 74696D65 49 0006 756E69717565 70 78 70";
 
-/// What a connection gets after its opening; how its invocations come out; what it is answered after the acknowledgement; what
-/// the space is asked; the methods that are invoked, by their places; and the end.
+/// Rows of connections. Each has the bytes that a connection gets after its opening, the outcomes of its invocations,
+/// and the bytes that it is answered after the acknowledgement. Then come the requests to the space, the methods that
+/// are invoked, by their places, and the end.
 const LINES: &str = "call echo 70 | null | return 0F 01 uid 8000 70 | begin finish | 0 | Ended
 call add 77 08 0000000000000005 | 6 | return 17 01 uid 8000 0000000000000006 | begin finish | 1 | Ended
 call done | void | return 0F 01 uid 8000 | begin finish | 2 | Ended
@@ -164,7 +166,7 @@ fn reference(rt: &impl Abort, alloc: Global) -> Graph {
     read_to_end(alloc, &mut pull).expect(rt, "a reference")
 }
 
-/// How an invocation comes out: a number where it is no word.
+/// The outcome of an invocation. A word that names none is a number.
 fn outcome_of(rt: &impl Abort, alloc: Global, word: &str) -> Outcome {
     match word {
         "void" => Outcome::Void,
@@ -180,7 +182,7 @@ fn outcome_of(rt: &impl Abort, alloc: Global, word: &str) -> Outcome {
     }
 }
 
-/// How invocations come out.
+/// The outcomes of invocations.
 pub(crate) fn outcomes_of(rt: &impl Abort, alloc: Global, words: &str) -> OutcomeList {
     let mut outcomes = OutcomeList::new(alloc);
     for word in words.split(' ') {
@@ -229,7 +231,7 @@ fn this_host(rt: &impl Abort, alloc: Global) -> Units
     host
 }
 
-/// What a connection is told beforehand.
+/// The settings of a connection.
 pub(crate) fn setup(rt: &impl Abort, alloc: Global, binding: bool) -> Setup
     ensures draw { result.draw ≡ record { unique = pos 2; time = pos 2; drawn = 0 } }
     ensures peer_host { length (utf result.peer_host) ≤ 255 }
@@ -247,8 +249,8 @@ pub(crate) fn setup(rt: &impl Abort, alloc: Global, binding: bool) -> Setup
     }
 }
 
-/// What a line says of a connection: what its space is beforehand, and the moments of its turns; what is written, what the space is asked, and
-/// what the worker is; and the events that the space has then.
+/// The contents of a row of connections: the state of the space beforehand, and the moments of its turns; the bytes
+/// that are written, the requests to the space, and the calls of the worker; and the events that the space has then.
 #[derive(Clone, Copy)]
 struct Wanted<'a> {
     ground: &'a str,
@@ -259,7 +261,7 @@ struct Wanted<'a> {
     events: &'a str,
 }
 
-/// What a connection is served over.
+/// The streams and the clock that serve a connection.
 #[derive(Drop)]
 struct Wires {
     source: MemSource,
@@ -277,7 +279,7 @@ fn wires_of(rt: &impl Abort, alloc: Global, input: &[u8], moments: &str) -> Wire
     }
 }
 
-/// Whether these words tell a port's entries.
+/// Returns whether these words tell a port's entries.
 fn are_asked(rt: &impl Abort, alloc: Global, port: DirectPort<'_>, entries: &str) -> bool {
     let asked = port.into_asked().to_list(alloc).expect(rt, "memory");
     are_entries(asked.as_slice(), entries)
@@ -374,7 +376,7 @@ pub(crate) fn end_of(
     serve(rt, alloc, book, input, OutcomeList::new(alloc), wanted)
 }
 
-/// Whether an end is told by this text.
+/// Returns whether an end is told by this text.
 pub(crate) fn is_told(rt: &impl Abort, alloc: Global, end: ConnEnd, text: &str) -> bool {
     let told = format!(in alloc; "{end:?}").expect(rt, "memory");
     told.as_str() == text

@@ -3,9 +3,11 @@ use crate::served_tests::{book, check_over};
 use std::alloc::Global;
 use std::process::Abort;
 
-/// What the space is beforehand, and the moments of the turns, all 0 where none is told; what a connection gets after its opening; how its invocations come out; what it is
-/// answered after the acknowledgement; what the space is asked; what the worker is; and the end; and, in some lines, the events of the space,
-/// separated by `;`. Here names are bound and references held.
+/// Rows of connections to a space where names are bound and references held. Each has the state of the space
+/// beforehand, and the moments of the turns, all 0 where it tells none. Then come the bytes that a connection gets
+/// after its opening, the outcomes of its invocations, and the bytes that it is answered after the acknowledgement.
+/// Then come the requests to the space, the calls of the worker, and the end. Some rows also have the events of the
+/// space, separated by `;`.
 const SYSTEM: &str =
     "open | | registry list | | return 0F 01 uid 8000 texts 00000000 | list | | Ended
 open | | registry lookup name_a | | return 0F 02 uid 8000 exception 001D =java.rmi.NotBoundException:_a 78 70 | lookup | | Ended

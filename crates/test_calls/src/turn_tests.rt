@@ -1,4 +1,5 @@
-//! When a connection's turns are made: before the answer is written that tells of them, and at the moment that the clock has then.
+//! The moments at which a connection makes its turns: before the answer is written that tells of them, and at the
+//! moment that the clock has then.
 ghost use Rattle.std.specs.Prelude.{◌≡◌, None, true};
 ghost use Rattle.wire_io.specs.Wire.{untold_write};
 

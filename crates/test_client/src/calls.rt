@@ -1,16 +1,16 @@
-//! What `call` sends over the two links that it dials, when it reads the clock, what it answers, and what it leaves.
+//! The bytes that `call` sends over the two links that it dials, its readings of the clock, its answer, and the state
+//! that it leaves.
 ghost use Rattle.std.specs.List.{AllByRecursion};
 ghost use Rattle.wire_io.specs.Links.{IsNew};
 
 use crate::sessions::{caller, no_arguments};
 use crate::talks::{Wires, check_left, put_command_end, put_link, server_place};
-use crate::texts::{must, name, put};
+use crate::texts::{must, name, put, put_returned};
 use class_desc::{Item, Items, TypeCode};
 use client_talk::{Caller, CommandEnd, MethodCall, Request, call};
-use jrmp_frames::Body;
 use rmi_client::Answer;
 use sequence::ByteList;
-use ser_values::{Builder, Graph, Value};
+use ser_values::{Builder, Graph};
 use std::alloc::Global;
 use std::process::Abort;
 use test_support::texts::{cut, moments_of};
@@ -92,7 +92,7 @@ fn first_number(word: &str) -> i64 {
 }
 
 /// The call of this method of what `echo` stands for.
-fn request(rt: &impl Abort, alloc: Global, word: &str) -> Request {
+pub(crate) fn request(rt: &impl Abort, alloc: Global, word: &str) -> Request {
     Request {
         caller: Caller {
             alloc,
@@ -103,26 +103,6 @@ fn request(rt: &impl Abort, alloc: Global, word: &str) -> Request {
         place: server_place(rt, alloc),
         name: name(rt, alloc, b"echo"),
         method: method(rt, alloc, word),
-    }
-}
-
-/// Appends the text of a value.
-fn put_value(rt: &impl Abort, alloc: Global, out: &mut ByteList, value: Value) {
-    match value {
-        Value::Long(number) => {
-            let text = format!(in alloc; "number {number}").expect(rt, "memory");
-            put(rt, out, text.as_bytes());
-        }
-        _ => put(rt, out, b"another value"),
-    }
-}
-
-/// Appends the text of what a call answers.
-fn put_returned(rt: &impl Abort, alloc: Global, out: &mut ByteList, answer: &Answer) {
-    match &answer.body {
-        Body::Void => put(rt, out, b"void"),
-        Body::Prim(value) => put_value(rt, alloc, out, *value),
-        Body::Tree(_) => put(rt, out, b"tree"),
     }
 }
 
@@ -140,6 +120,23 @@ fn put_called(
         Ok(answer) => put_returned(rt, alloc, out, answer),
         Err(end) => put_command_end(rt, alloc, out, end),
     }
+}
+
+/// Calls the method of this name at these moments; gives how often the clock was read, and what is answered.
+pub(crate) fn text_of_call(
+    rt: &impl Abort,
+    alloc: Global,
+    wires: &mut Wires,
+    word: &str,
+    moments: &str,
+) -> ByteList {
+    let moments = moments_of(alloc, moments).expect(rt, "moments");
+    let mut ticks = MemClock::new(moments);
+    let request = request(rt, alloc, word);
+    let called = call(&mut wires.dialer, &mut ticks, &mut wires.talked, &request);
+    let mut out = ByteList::new(alloc);
+    put_called(rt, alloc, &mut out, ticks.calls(), &called);
+    out
 }
 
 /// The links to two servers that send these bytes, on each of which these writes fail.
@@ -167,12 +164,7 @@ fn calls_talk_over_two_links(rt: HostRuntime) {
             dialer: MemDialer::new(rt.alloc(), links),
             talked: Vec::new(rt.alloc()),
         };
-        let moments = moments_of(rt.alloc(), moments).expect(&rt, "moments");
-        let mut ticks = MemClock::new(moments);
-        let request = request(&rt, rt.alloc(), word);
-        let called = call(&mut wires.dialer, &mut ticks, &mut wires.talked, &request);
-        let mut out = ByteList::new(rt.alloc());
-        put_called(&rt, rt.alloc(), &mut out, ticks.calls(), &called);
+        let out = text_of_call(&rt, rt.alloc(), &mut wires, word, moments);
         let found = out.as_slice();
         assert!(rt; found == wanted.as_bytes(), "{line}");
         check_left(&rt, rt.alloc(), &wires, sent);

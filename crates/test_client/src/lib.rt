@@ -1,3 +1,4 @@
+// SPDX-License-Identifier: Apache-2.0 OR MIT
 //! Tests of a client's sessions and commands, and of the server's replies that they read, over links in memory.
 //!
 //! A case is a line of text: what is read or called, what the server sends, what the client sends, and the answer or the end. One loop runs all
@@ -6,6 +7,12 @@
 
 #[cfg(test)]
 mod calls;
+#[cfg(test)]
+mod changes;
+#[cfg(test)]
+mod faults;
+#[cfg(test)]
+mod readings;
 #[cfg(test)]
 mod replies;
 #[cfg(test)]

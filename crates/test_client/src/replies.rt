@@ -1,4 +1,4 @@
-//! What a server sends, and what reading it as a reply answers.
+//! The bytes that a server sends, and the answers of reading them as a reply.
 ghost use Rattle.std.specs.Prelude.{◌≤◌};
 ghost use Rattle.wire_io.specs.declared.limits.TheConstants.{LAST_POSITION};
 
@@ -53,7 +53,7 @@ fn put_done(rt: &impl Abort, alloc: Global, out: &mut ByteList, done: &Result<()
     }
 }
 
-/// What a server sends, and how many bytes of it were read.
+/// The bytes that a server sends, and the number of them that were read.
 #[derive(Drop)]
 struct Input {
     source: MemSource,

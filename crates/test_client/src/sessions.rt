@@ -1,14 +1,16 @@
-//! What a client sends over a link in memory, and what its calls answer there.
-use crate::texts::{must, name, put, put_answer, put_at, put_end, put_reference, units};
+//! The bytes that a client sends over a link in memory, and the answers of its calls there.
+use crate::texts::{
+    must, name, put, put_answer, put_at, put_end, put_reference, put_returned, put_units, units,
+};
 use crate::words::wire_of;
-use class_desc::Items;
+use class_desc::{Items, TypeCode};
 use dgc_client::Plan;
 use java_shapes::LiveRef;
 use jrmp_frames::CallHead;
 use mod_utf::utf::encoded_len;
 use object_ids::{ObjId, ObjIds, Uid, Vmid};
 use rmi_client::{ClientEnd, Session};
-use sequence::{ByteList, Kinds};
+use sequence::{ByteList, Kinds, Units};
 use ser_values::{Builder, Graph};
 use std::alloc::Global;
 use std::process::Abort;
@@ -28,12 +30,12 @@ ping ping : : 4E 0000 00000000 53 : 4A524D49 0002 4B 0001 68 00000000 52 52 : be
 ping ping : : 4E 0000 00000000 51 : 4A524D49 0002 4B 0001 68 00000000 52 : begun not return at 7 over
 ping ack : 2 : 4E 0000 00000000 53 : 4A524D49 0002 4B 0001 68 00000000 : begun write fault after 0 over
 ack ping : : 4E 0000 00000000 53 : 4A524D49 0002 4B 0001 68 00000000 54 00000001 0000000000000002 0003 52 : begun ok ok
-call ack : : 4E 0000 00000000 51 ACED0005 77 0F 01 00000006 0000000000000006 8000 : 4A524D49 0002 4B 0001 68 00000000 50 ACED0005 77 22 0000000000000010 00000007 0000000000000009 0000 FFFFFFFF 0000000000000005 54 00000001 0000000000000002 0003 : begun answer 6/6/-32768 ok
+call ack : : 4E 0000 00000000 51 ACED0005 77 0F 01 00000006 0000000000000006 8000 : 4A524D49 0002 4B 0001 68 00000000 50 ACED0005 77 22 0000000000000010 00000007 0000000000000009 0000 FFFFFFFF 0000000000000005 54 00000001 0000000000000002 0003 : begun answer 6/6/-32768 void ok
 unbind call : : 4E 0000 00000000 51 ACED0005 77 0F 02 00000006 0000000000000006 8000 70 : 4A524D49 0002 4B 0001 68 00000000 50 ACED0005 77 22 0000000000000000 00000000 0000000000000000 0000 00000004 44154DC9D4E63BDF 74 0004 6563686F : begun wrong shape at 30 over
 unbind : : 4E 0000 00000000 51 ACED0005 77 0F 01 00000006 0000000000000006 8000 : 4A524D49 0002 4B 0001 68 00000000 50 ACED0005 77 22 0000000000000000 00000000 0000000000000000 0000 00000004 44154DC9D4E63BDF 74 0004 6563686F : begun ok
 lookup ping : : 4E 0000 00000000 51 ACED0005 77 0F 01 00000006 0000000000000006 8000 70 : 4A524D49 0002 4B 0001 68 00000000 50 ACED0005 77 22 0000000000000000 00000000 0000000000000000 0000 00000002 44154DC9D4E63BDF 74 0004 6563686F : begun wrong shape at 30 over
 lookup ping : : 4E 0000 00000000 51 ACED0005 77 0F 02 00000006 0000000000000006 8000 73 72 0013 6A6176612E6C616E672E5468726F7761626C65 D5C635273977B8CB 03 0001 4C 000D 64657461696C4D657373616765 74 0012 4C6A6176612F6C616E672F537472696E673B 70 78 70 74 0002 6869 78 53 : 4A524D49 0002 4B 0001 68 00000000 50 ACED0005 77 22 0000000000000000 00000000 0000000000000000 0000 00000002 44154DC9D4E63BDF 74 0004 6563686F 52 : begun remote fault java.lang.Throwable: hi ok
-list : : 4E 0000 00000000 51 ACED0005 77 0F 01 00000006 0000000000000006 8000 75 72 0013 5B4C6A6176612E6C616E672E537472696E673B ADD256E7E91D7B47 02 0000 70 78 70 00000002 74 0004 6563686F 71 007E0002 : 4A524D49 0002 4B 0001 68 00000000 50 ACED0005 77 22 0000000000000000 00000000 0000000000000000 0000 00000001 44154DC9D4E63BDF : begun 2 names
+list : : 4E 0000 00000000 51 ACED0005 77 0F 01 00000006 0000000000000006 8000 75 72 0013 5B4C6A6176612E6C616E672E537472696E673B ADD256E7E91D7B47 02 0000 70 78 70 00000002 74 0004 6563686F 71 007E0002 : 4A524D49 0002 4B 0001 68 00000000 50 ACED0005 77 22 0000000000000000 00000000 0000000000000000 0000 00000001 44154DC9D4E63BDF : begun 2 names echo
 lookup ack : : ACK NORMAL ECHO PROXY LIVE 01 78 : HEAD 0001 68 00000000 REG 00000002 NAMING 74 =echo 54 00000001 0000000000000002 0003 : begun 127.0.0.1 1099 16:7/9/0 flagged ok
 lookup ping : : ACK NORMAL REMOTE PROXY LIVE 00 78 53 : HEAD 0001 68 00000000 REG 00000002 NAMING 74 =echo 52 : begun 127.0.0.1 1099 16:7/9/0 ok
 lookup ping : 2 : ACK NORMAL ECHO PROXY LIVE 01 78 : HEAD 0001 68 00000000 : begun write fault after 0 over
@@ -61,9 +63,25 @@ FFFFFFFFFFFFFFFF : 0
 const WHOLES: &str = "lookup : ACK NORMAL ECHO PROXY LIVE 01 78
 lookup : ACK THROWN FAULT 74 =hi 78 70
 list : ACK NORMAL STRINGS 00000002 74 =echo 71 007E0002
+bind : ACK NORMAL
+bind : ACK THROWN FAULT 74 =hi 78 70
 unbind : ACK NORMAL
+call : ACK NORMAL
+call : ACK THROWN FAULT 74 =hi 78 70
+number : ACK LONG 000000000000000C
+object : ACK NORMAL ECHO PROXY LIVE 01 78
+ping : ACK 53
 dirty : ACK NORMAL LEASE 00000000000927C0 HOLDER
 clean : ACK NORMAL";
+
+/// A call, what the server sends, and what is answered: lists of as many texts as make 65,536 nodes with the array and its class, and of one more; arrays in one another, 200 levels
+/// deep and 201.
+const LARGE: &str = "list : ACK NORMAL STRINGS 0000FFFE 65534*740000 : begun 65534 names
+list : ACK NORMAL STRINGS 0000FFFF 65535*740000 : begun too large nodes at 196681
+object : ACK NORMAL NESTED 00000001 199*7571007E000000000001 70 : begun answer 6/6/-32768 tree
+object : ACK NORMAL NESTED 00000001 200*7571007E000000000001 70 : begun too large depth at 2069
+lookup ping : ACK NORMAL NESTED 00000001 200*7571007E000000000001 70 : begun too large depth at 2069 over
+bind ping : ACK THROWN NESTED 00000001 200*7571007E000000000001 70 : begun too large depth at 2069 over";
 
 /// The session of a test.
 type Tested = Session<MemSource, MemSink>;
@@ -97,8 +115,14 @@ fn object(number: i64) -> ObjId {
     }
 }
 
-/// Calls a method without parameters and without a result.
-fn put_call(rt: &impl Abort, alloc: Global, out: &mut ByteList, session: &mut Tested) {
+/// Calls a method without parameters, with a result of this type or without one.
+fn put_call(
+    rt: &impl Abort,
+    alloc: Global,
+    out: &mut ByteList,
+    session: &mut Tested,
+    want: Option<TypeCode>,
+) {
     let head = CallHead {
         id: object(16),
         operation: -1,
@@ -106,8 +130,12 @@ fn put_call(rt: &impl Abort, alloc: Global, out: &mut ByteList, session: &mut Te
     };
     let arguments = no_arguments(rt, alloc);
     put(rt, out, b" ");
-    match session.call(&head, &arguments, None) {
-        Ok(answer) => put_answer(rt, alloc, out, &answer),
+    match session.call(&head, &arguments, want) {
+        Ok(answer) => {
+            put_answer(rt, alloc, out, &answer);
+            put(rt, out, b" ");
+            put_returned(rt, alloc, out, &answer);
+        }
         Err(end) => put_end(rt, alloc, out, &end),
     }
 }
@@ -121,13 +149,23 @@ fn put_lookup(rt: &impl Abort, alloc: Global, out: &mut ByteList, session: &mut 
     }
 }
 
+/// Appends how many names there are, and the first one, unless it is empty.
+fn put_names(rt: &impl Abort, alloc: Global, out: &mut ByteList, names: &[Units]) {
+    let text = format!(in alloc; " {} names", names.len()).expect(rt, "memory");
+    put(rt, out, text.as_bytes());
+    match names {
+        [first, ..] if !first.is_empty() => {
+            put(rt, out, b" ");
+            put_units(rt, out, first);
+        }
+        _ => {}
+    }
+}
+
 /// Lists the names.
 fn put_list(rt: &impl Abort, alloc: Global, out: &mut ByteList, session: &mut Tested) {
     match session.list() {
-        Ok(names) => {
-            let text = format!(in alloc; " {} names", names.len()).expect(rt, "memory");
-            put(rt, out, text.as_bytes());
-        }
+        Ok(names) => put_names(rt, alloc, out, names.as_slice()),
         Err(end) => {
             put(rt, out, b" ");
             put_end(rt, alloc, out, &end);
@@ -222,7 +260,9 @@ fn put_talk(rt: &impl Abort, alloc: Global, out: &mut ByteList, session: &mut Te
         "" => {}
         "ping" => put_done(rt, alloc, out, &session.ping()),
         "ack" => put_done(rt, alloc, out, &session.ack(uid)),
-        "call" => put_call(rt, alloc, out, session),
+        "call" => put_call(rt, alloc, out, session, None),
+        "number" => put_call(rt, alloc, out, session, Some(TypeCode::Long)),
+        "object" => put_call(rt, alloc, out, session, Some(TypeCode::Object)),
         "lookup" => put_lookup(rt, alloc, out, session),
         "list" => put_list(rt, alloc, out, session),
         "bind" => put_bind(rt, alloc, out, session),
@@ -289,15 +329,20 @@ fn sessions_talk(rt: HostRuntime) {
     }
 }
 
+/// The text of what these calls answer over a session that is begun for them, where a server sends these bytes.
+pub(crate) fn text_of_talk(rt: &impl Abort, alloc: Global, calls: &str, server: &[u8]) -> ByteList {
+    let mut out = ByteList::new(alloc);
+    let halves = halves_of(rt, alloc, server, "");
+    drop(talk(rt, alloc, &mut out, halves, calls));
+    out
+}
+
 /// The text of what the client takes where a server grants a lease of this duration.
 fn text_of_grant(rt: &impl Abort, alloc: Global, value: &str) -> ByteList {
     let mut server = wire_of(rt, alloc, "ACK NORMAL LEASE");
     put(rt, &mut server, wire_of(rt, alloc, value).as_slice());
     put(rt, &mut server, &[0x70]);
-    let mut out = ByteList::new(alloc);
-    let halves = halves_of(rt, alloc, server.as_slice(), "");
-    drop(talk(rt, alloc, &mut out, halves, "dirty"));
-    out
+    text_of_talk(rt, alloc, "dirty", server.as_slice())
 }
 
 /// The lease has no client: it is taken all the same.
@@ -314,6 +359,18 @@ fn granted_durations_are_bounded(rt: HostRuntime) {
     }
 }
 
+#[test]
+fn answers_that_are_too_large_are_refused(rt: HostRuntime) {
+    for line in LARGE.split('\n') {
+        let (calls, rest) = cut(line, ':');
+        let (server, wanted) = cut(rest, ':');
+        let server = wire_of(&rt, rt.alloc(), server);
+        let out = text_of_talk(&rt, rt.alloc(), calls, server.as_slice());
+        let found = out.as_slice();
+        assert!(rt; found == wanted.as_bytes(), "{line}");
+    }
+}
+
 /// Makes a call whose answer is cut short behind these bytes.
 fn check_cut(rt: &impl Abort, alloc: Global, call: &str, server: &[u8]) {
     let mut wanted = ByteList::new(alloc);
@@ -323,9 +380,7 @@ fn check_cut(rt: &impl Abort, alloc: Global, call: &str, server: &[u8]) {
         "begun truncated at"
     };
     put_at(rt, alloc, &mut wanted, word, server.len() as u64);
-    let mut out = ByteList::new(alloc);
-    let halves = halves_of(rt, alloc, server, "");
-    drop(talk(rt, alloc, &mut out, halves, call));
+    let out = text_of_talk(rt, alloc, call, server);
     must(rt, out.as_slice() == wanted.as_slice(), call);
 }
 

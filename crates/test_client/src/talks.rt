@@ -1,4 +1,4 @@
-//! What a client's commands send over links that they dial, what they answer, and what they leave.
+//! The bytes that a client's commands send over links that they dial, their answers, and the state that they leave.
 ghost use Rattle.std.specs.List.{AllByRecursion};
 ghost use Rattle.wire_io.specs.Links.{IsNew};
 
@@ -74,27 +74,47 @@ pub(crate) struct Wires {
     pub(crate) talked: Vec<Halves<MemSource, MemSink>>,
 }
 
+/// The indices of the reads and of the writes that fail on a link.
+#[derive(Drop)]
+pub(crate) struct Failing {
+    pub(crate) reads: Kinds,
+    pub(crate) writes: Kinds,
+}
+
 /// A link whose end is at this host, to a server that sends these bytes.
-fn link_of(rt: &impl Abort, alloc: Global, server: &str, failing: &str) -> MemLink
+fn link_of(rt: &impl Abort, alloc: Global, server: &str, failing: Failing) -> MemLink
     ensures { IsNew result }
 {
     let host = units(rt, alloc, b"127.0.0.1");
     assert!(rt; encoded_len(&host) <= 255, "a short host");
-    let failing = numbers_of(alloc, failing).expect(rt, "numbers");
+    let Failing { reads, writes } = failing;
     Link {
-        source: MemSource::new(
-            wire_of(rt, alloc, server),
-            Kinds::new(alloc),
-            Kinds::new(alloc),
-        ),
-        sink: MemSink::new(alloc, failing),
+        source: MemSource::new(wire_of(rt, alloc, server), Kinds::new(alloc), reads),
+        sink: MemSink::new(alloc, writes),
         clock: MemClock::new(MomentList::new(alloc)),
         host,
         port: 40_000,
     }
 }
 
-/// Appends a link to a server that sends these bytes, where it is not `none`.
+/// Appends a link to a server that sends these bytes, on which these reads and writes fail, where it is not `none`.
+pub(crate) fn put_failing(
+    rt: &impl Abort,
+    alloc: Global,
+    links: &mut MemLinks,
+    server: &str,
+    failing: Failing,
+)
+    requires { AllByRecursion IsNew links.old }
+    ensures { AllByRecursion IsNew links.new }
+{
+    if server != "none" {
+        let pushed = links.push(link_of(rt, alloc, server, failing));
+        must(rt, pushed.is_ok(), "memory");
+    }
+}
+
+/// Appends a link to a server that sends these bytes, on which these writes fail, where it is not `none`.
 pub(crate) fn put_link(
     rt: &impl Abort,
     alloc: Global,
@@ -105,10 +125,11 @@ pub(crate) fn put_link(
     requires { AllByRecursion IsNew links.old }
     ensures { AllByRecursion IsNew links.new }
 {
-    if server != "none" {
-        let pushed = links.push(link_of(rt, alloc, server, failing));
-        must(rt, pushed.is_ok(), "memory");
-    }
+    let failing = Failing {
+        reads: Kinds::new(alloc),
+        writes: numbers_of(alloc, failing).expect(rt, "numbers"),
+    };
+    put_failing(rt, alloc, links, server, failing);
 }
 
 /// The links to two servers that send these bytes.
@@ -181,7 +202,7 @@ fn put_done(rt: &impl Abort, alloc: Global, out: &mut ByteList, done: &Result<()
     }
 }
 
-/// Where the server is.
+/// The place of the server.
 pub(crate) fn server_place(rt: &impl Abort, alloc: Global) -> Place {
     Place {
         host: units(rt, alloc, b"127.0.0.1"),
@@ -237,7 +258,7 @@ fn put_unbind(
 }
 
 /// Runs a command, and appends what it answers.
-fn put_command(
+pub(crate) fn put_command(
     rt: &impl Abort,
     alloc: Global,
     out: &mut ByteList,
@@ -282,13 +303,14 @@ fn check_sent(rt: &impl Abort, alloc: Global, talked: &[Halves<MemSource, MemSin
     must(rt, rest.is_empty(), rest);
 }
 
-/// Stops where the halves of a link that was dialled were not left.
+/// Stops where the halves of a link that was dialled were not left, or the dialer was asked again after it failed.
 pub(crate) fn check_left(rt: &impl Abort, alloc: Global, wires: &Wires, sent: &str) {
     must(
         rt,
         wires.talked.len() == wires.dialer.dialed(),
         "halves of each link",
     );
+    must(rt, wires.dialer.faults() <= 1, "dialled again");
     check_sent(rt, alloc, &wires.talked, sent);
 }
 

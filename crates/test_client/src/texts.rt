@@ -1,11 +1,13 @@
 //! Bytes from text, and the texts of answers and ends. A test stops where there is no memory.
 use history::Name;
 use java_shapes::LiveRef;
+use jrmp_frames::Body;
 use mod_utf::utf::units_of_ascii;
 use object_ids::Uid;
 use rmi_client::{Answer, ClientEnd, ReplyKind};
 use sequence::{ByteList, Units};
 use ser_read::StreamFault;
+use ser_values::Value;
 use std::alloc::Global;
 use std::process::Abort;
 use test_support::texts;
@@ -117,5 +119,25 @@ pub(crate) fn put_reference(rt: &impl Abort, alloc: Global, out: &mut ByteList, 
     put_uid(rt, alloc, out, found.id.space);
     if found.result {
         put(rt, out, b" flagged");
+    }
+}
+
+/// Appends the text of a value.
+fn put_value(rt: &impl Abort, alloc: Global, out: &mut ByteList, value: Value) {
+    match value {
+        Value::Long(number) => {
+            let text = format!(in alloc; "number {number}").expect(rt, "memory");
+            put(rt, out, text.as_bytes());
+        }
+        _ => put(rt, out, b"another value"),
+    }
+}
+
+/// Appends the text of what a call answers: its result.
+pub(crate) fn put_returned(rt: &impl Abort, alloc: Global, out: &mut ByteList, answer: &Answer) {
+    match &answer.body {
+        Body::Void => put(rt, out, b"void"),
+        Body::Prim(value) => put_value(rt, alloc, out, *value),
+        Body::Tree(_) => put(rt, out, b"tree"),
     }
 }

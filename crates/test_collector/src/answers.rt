@@ -1,4 +1,4 @@
-//! What events are answered, as lines.
+//! The answers to events, as lines.
 use history::{Refused, Reply, Turn};
 use journal::Word;
 use journal::outline::put_line;

@@ -116,14 +116,14 @@ const UNACKNOWLEDGED: &str = "space 600000 300000 7 9
 1 300000 tick
 ";
 
-/// How many units a history may have, a script, and what is answered at its end.
+/// Rows of scripts: the most units of the history, the script, and the answers at its end.
 const COMPUTED: [(u64, &str, &str); 3] = [
     (11, LATE_DIRTY, "> done\n> gone 17\n"),
     (10, LATE_DIRTY, "> history full\n"),
     (100, UNACKNOWLEDGED, "> done\n> gone 17\n"),
 ];
 
-/// Whether a text is a script and its end.
+/// Returns whether a text is a script and its end.
 fn ends_so(text: &ByteList, script: &str, end: &str) -> bool {
     text.as_slice().strip_prefix(script.as_bytes()) == Some(end.as_bytes())
 }
@@ -136,7 +136,7 @@ fn definitions_are_computed(rt: HostRuntime) {
     }
 }
 
-/// Whether a client holds object 16 after some events.
+/// Returns whether a client holds object 16 after some events.
 fn is_16_held(rt: &impl Abort, alloc: Global, lines: &str) -> bool {
     let config = config_of(rt, "space 600000 300000 7 9");
     let object = ObjId {

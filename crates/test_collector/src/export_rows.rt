@@ -29,7 +29,7 @@ fn numbered(number: i64) -> ObjId {
     }
 }
 
-/// How many objects a withdrawal at a moment takes away.
+/// Returns the number of objects that a withdrawal at a moment takes away.
 fn withdrawn(
     alloc: Global,
     exports: &mut Exports,
@@ -83,7 +83,7 @@ const MOMENTS: [(u64, u32, usize, usize); 4] = [
     (120, 0, 1, 1),
 ];
 
-/// Whether a moment leaves a table as it is told.
+/// Returns whether a moment leaves a table as the row tells.
 fn is_left(
     rt: &impl Abort,
     alloc: Global,
@@ -227,7 +227,7 @@ fn spelled(rt: &impl Abort, alloc: Global, words: &str) -> Vec<u32> {
     numbers
 }
 
-/// Whether objects have these numbers, in this order.
+/// Returns whether objects have these numbers, in this order.
 fn are_numbered(objects: &[ObjId], numbers: &[u32]) -> bool {
     let all = objects
         .iter()
@@ -236,7 +236,7 @@ fn are_numbered(objects: &[ObjId], numbers: &[u32]) -> bool {
     all && objects.len() == numbers.len()
 }
 
-/// Whether the references in a return that await are of these objects.
+/// Returns whether the references in a return that await are of these objects.
 fn returns_so(
     rt: &impl Abort,
     alloc: Global,
@@ -248,7 +248,7 @@ fn returns_so(
     are_numbered(awaited.as_slice(), numbers)
 }
 
-/// Whether at a moment so many references await, and the waits of these objects have ended.
+/// Returns whether at a moment so many references await, and the waits of these objects have ended.
 fn waits_so(
     rt: &impl Abort,
     alloc: Global,

@@ -55,12 +55,12 @@ fn draws_go_on_in_the_next_moment(rt: HostRuntime) {
     must_draw(&rt, &mut draw, 7, -32_768);
 }
 
-/// Whether a copy of a machine's identifier is the same.
+/// Returns whether a copy of a machine's identifier is the same.
 fn is_copied(rt: &impl Abort, alloc: Global, vmid: &Vmid) -> bool {
     vmid.copy(alloc).expect(rt, MEMORY).is_same(vmid)
 }
 
-/// Whether a copy of a list of objects is the same.
+/// Returns whether a copy of a list of objects is the same.
 fn are_copied(rt: &impl Abort, alloc: Global, ids: &ObjIds) -> bool {
     ids.copy(alloc).expect(rt, MEMORY).is_same(ids)
 }

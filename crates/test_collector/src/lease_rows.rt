@@ -534,8 +534,9 @@ const STRONG_CLEAN_LEFT: &str = "1 9 dirty aa@3/4/5 6 100 16,17
 > freed 17
 ";
 
-// What is granted: from 1 to the configured lease what is asked, and the configured lease otherwise. A dirty that asks for less goes on with the
-// tenure and leaves the end of the lease, and so does one without objects; one that comes when the lease has ended opens another tenure.
+// The durations that dirties are granted. One that asks for 1 to the configured lease is granted what it asks for, any
+// other the configured lease. A dirty that asks for less goes on with the tenure and leaves the end of the lease, and
+// so does one without objects. One that comes when the lease has ended opens another tenure.
 const GRANTED: &str = "1 0 dirty 01@3/4/5 1 50 16
 > granted 50
 1 20 dirty 01@3/4/5 2 10 17
@@ -596,7 +597,7 @@ const GRANTED: &str = "1 0 dirty 01@3/4/5 1 50 16
 > lease 07@3/4/5 until 150
 ";
 
-/// What the lines of a script make of a table with this configured lease.
+/// Returns the text that the lines of a script make of a table with this configured lease.
 fn told(rt: &impl Abort, alloc: Global, lease: u64, script: &str) -> ByteList {
     assert!(rt; 1 <= lease && lease <= 100, "a duration");
     let mut leases = Leases::fresh(alloc, lease);

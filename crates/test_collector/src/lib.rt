@@ -1,3 +1,4 @@
+// SPDX-License-Identifier: Apache-2.0 OR MIT
 //! Tests of the collector's crates, over what they offer to callers: identifiers, the definitions of histories, lease tables, export
 //! tables, and spaces. Most are transcripts: a journal's lines, each with what it is answered.
 #![tactic(auto)]

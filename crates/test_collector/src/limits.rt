@@ -8,7 +8,7 @@ const DIRTIES: &str = "space 600000 300000 7 9
 *63 1 5 dirty -@7/9/0 1 0 1*65536
 ";
 
-/// What follows after the answers of them.
+/// The lines that follow the answers to those calls.
 const FULL_HISTORY: &str = "?
 events 63 units 4128831 now 5
 lease -@7/9/0 until 600005
@@ -32,7 +32,7 @@ fn full_history(alloc: Global) -> Result<String, AllocError> {
     Ok(script)
 }
 
-/// What follows after 4,096 names are bound, of the units from 256 on.
+/// The lines that follow once 4,096 names are bound, of the units from 256 on.
 const FULL_NAMES: &str = "0 0 bind \"b\" 16
 > names full
 0 0 rebind \"b\" 16

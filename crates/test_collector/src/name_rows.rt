@@ -50,8 +50,9 @@ const ROWS: &str = "0 0 list
 > names \"b\" \"\\u0000\" \"\\udc00\\ud800\" \"\"
 ";
 
-/// What a registry of 4,095 other names, each of one unit with its own object, makes of two long names. In a line `~` stands for 254 units.
-/// A line `? NUMBER` asks how many names stand for an object, and how many there are.
+/// A script for a registry that has 4,095 other names, each of one unit with its own object. It binds two long names.
+/// In a line `~` means 254 units. A line `? NUMBER` asks for the number of names that stand for an object, and for the
+/// number of all names.
 const FULL: &str = "0 0 bind \"~\\u0001\" 16
 > bound
 0 0 bind \"~\\u0002\" 17
@@ -84,7 +85,7 @@ fn fill(rt: &impl Abort, alloc: Global, names: &mut Names, count: u16) {
     }
 }
 
-/// What a registry of so many names of one unit makes of some lines.
+/// Returns the text that some lines make of a registry with so many names of one unit.
 fn told(rt: &impl Abort, alloc: Global, count: u16, lines: &str) -> ByteList {
     let mut names = Names::fresh(alloc);
     fill(rt, alloc, &mut names, count);
@@ -122,7 +123,7 @@ fn put_row(rt: &impl Abort, alloc: Global, names: &mut Names, line: &str, text: 
     }
 }
 
-/// What a line asks.
+/// Returns the request of a line.
 fn ask_of(rt: &impl Abort, alloc: Global, line: &str) -> Ask {
     let line = in_full(alloc, line).expect(rt, MEMORY);
     let event = read_event(alloc, SPACE, line.as_slice()).expect(rt, MEMORY);

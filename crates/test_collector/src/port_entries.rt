@@ -110,7 +110,7 @@ fn lists_of_events(rt: HostRuntime) {
     must(&rt, kind == Some(5), "the last");
 }
 
-/// Whether an answer is that of the entry of an opening at the moment 4.
+/// Returns whether an answer is that of the entry of an opening at the moment 4.
 fn is_entered(answer: &Result<Turn, Refused>, entry: &Asked) -> bool {
     match (answer, &entry.end) {
         (Ok(turn), AskedEnd::Turned(copy)) => {
@@ -120,7 +120,7 @@ fn is_entered(answer: &Result<Turn, Refused>, entry: &Asked) -> bool {
     }
 }
 
-/// Whether an opening at the moment 4 is answered as its entry says.
+/// Returns whether an opening at the moment 4 is answered as its entry says.
 fn is_noted(space: &mut Space) -> bool {
     match space.turn_noted(2, 4, opening()) {
         Ok(noted) => is_entered(&noted.0, &noted.1),

@@ -9,7 +9,7 @@ use sequence::ByteList;
 use std::alloc::AllocError;
 use std::process::Abort;
 
-/// What a test can't do without.
+/// The message where a test finds no memory.
 pub(crate) const MEMORY: &str = "memory";
 
 /// Stops where this does not hold.

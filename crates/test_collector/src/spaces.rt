@@ -280,7 +280,7 @@ withdrawn 17 place 8
 ",
 ];
 
-/// What becomes of an object that a call returned.
+/// Scripts that tell what becomes of an object that a call returned.
 const RETURNED: [&str; 9] = [
     // a dirty that was sent before a clean, and came after it
     "space 600000 300000 7 9
@@ -574,7 +574,7 @@ withdrawn 17 place 5
 ",
 ];
 
-/// What asks of names are answered; a name keeps its object, and so does a lookup until it is acknowledged.
+/// A script of requests about names, with their answers. A name keeps its object, and so does a lookup until it is acknowledged.
 const NAMED: &str = "space 600000 300000 7 9
 0 0 open 1 pinned
 > opened 16

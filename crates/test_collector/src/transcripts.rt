@@ -15,7 +15,7 @@ use space::{Space, journal, outline, summary};
 use std::alloc::{AllocError, Global};
 use std::process::Abort;
 
-/// What the inputs of a transcript make of a space, as a transcript.
+/// Returns the transcript of a space that takes the inputs of a transcript.
 pub(crate) fn transcript(rt: &impl Abort, alloc: Global, script: &str) -> ByteList {
     let (first, lines) = script.split_once('\n').expect(rt, "lines");
     let config = config_of(rt, first);

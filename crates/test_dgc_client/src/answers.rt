@@ -75,14 +75,14 @@ fn put_plan(alloc: Global, text: &mut ByteList, plan: &Plan) -> Result<(), Alloc
     }
 }
 
-/// Appends the plan that a call gave, if it gave one, or its fault.
+/// Appends the plan that a call gave, if it gave one, as its copy has it, or its fault.
 pub(crate) fn put_planned(
     alloc: Global,
     text: &mut ByteList,
     planned: Result<Option<Plan>, ClientFault>,
 ) -> Result<(), AllocError> {
     match planned {
-        Ok(Some(plan)) => put_plan(alloc, text, &plan),
+        Ok(Some(plan)) => put_plan(alloc, text, &plan.copy(alloc)?),
         Ok(None) => text.append(b" none"),
         Err(fault) => put_fault(text, fault),
     }

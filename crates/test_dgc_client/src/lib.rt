@@ -1,3 +1,4 @@
+// SPDX-License-Identifier: Apache-2.0 OR MIT
 //! Tests of a client's table of references, over what it offers to callers: transcripts of its calls with what each answers, and the limit.
 #![tactic(auto)]
 

@@ -25,7 +25,8 @@ fn drop_all(rt: &impl Abort, table: &mut ClientTable, count: i64) {
     }
 }
 
-/// How many objects the dirty call names that is due, and whether its answer counts.
+/// Returns the number of objects that the due dirty call names, 0 where none is due. It stops the test where the call's
+/// answer doesn't count.
 fn renew(rt: &impl Abort, table: &mut ClientTable, now: u64) -> usize
     requires { now < 100 }
 {

@@ -10,7 +10,7 @@ use sequence::ByteList;
 use std::alloc::{AllocError, Global};
 use std::process::Abort;
 
-/// What a test can't do without.
+/// The message where a test finds no memory.
 pub(crate) const MEMORY: &str = "memory";
 
 /// The table of a client that has made no calls.

@@ -1,3 +1,4 @@
+// SPDX-License-Identifier: Apache-2.0 OR MIT
 //! Reads streams as Java's own writer wrote them, from whole inputs and byte by byte; prints the text or the fault of each, and
 //! whether its graph is written back as the same bytes.
 #![tactic(auto)]
@@ -31,7 +32,8 @@ fn single_bytes(alloc: Global, count: usize) -> io::Result<Kinds> {
     Ok(Kinds::from_vec(vec![in alloc; 1; count]?))
 }
 
-/// How the two readings of a stream differ, whether its graph is read back, and how its bytes differ from those that are written.
+/// Returns words for the difference of the two readings of a stream, for whether its graph is read back, and for the
+/// difference of its bytes from those that are written.
 fn verdict(
     alloc: Global,
     bytes: &[u8],

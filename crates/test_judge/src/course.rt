@@ -25,7 +25,7 @@ pub(crate) struct Course {
     pub(crate) table: Vec<Exported>,
     /// The objects withdrawn that are still to be told as gone.
     untold: Vec<ObjId>,
-    /// How many objects were told as gone by a later turn than that of the Abandon that withdrew them.
+    /// The number of objects that were told as gone by a later turn than that of the Abandon that withdrew them.
     pub(crate) told_later: u64,
 }
 
@@ -121,7 +121,7 @@ impl Course {
         })
     }
 
-    /// Counts the objects that the turn of an ask tells as gone though it does not withdraw them.
+    /// Counts the objects that the turn of a request tells as gone though it does not withdraw them.
     fn count_untold(&mut self, ask: &Ask) {
         if !is_abandon(ask) {
             self.told_later = self.told_later.saturating_add(self.untold.len() as u64);
@@ -142,7 +142,7 @@ impl Course {
         Ok(())
     }
 
-    /// The objects that the turn of an ask tells as gone. An Abandon leaves them to the next turn too.
+    /// The objects that the turn of a request tells as gone. An Abandon leaves them to the next turn too.
     fn told(&mut self, alloc: Global, ask: &Ask) -> Result<ObjIds, AllocError> {
         let gone = ObjIds::from_slice(alloc, self.untold.as_slice())?;
         if !is_abandon(ask) {
@@ -152,7 +152,7 @@ impl Course {
     }
 }
 
-/// Whether an event is effective after these places, which leave this table.
+/// Returns whether an event is effective after these places, which leave this table.
 fn is_effective(places: &[Place], table: &[Exported], event: &Event) -> bool {
     match &event.ask {
         Ask::Begin { object } => has(table, *object),
@@ -171,7 +171,7 @@ fn is_effective(places: &[Place], table: &[Exported], event: &Event) -> bool {
     }
 }
 
-/// What the name in an ask stands for.
+/// Returns the object that the name in a request stands for. It is none where the request has no name.
 fn stood(places: &[Place], ask: &Ask) -> Option<ObjId> {
     match name_in(ask) {
         Some(name) => stands(places, name),
@@ -179,7 +179,7 @@ fn stood(places: &[Place], ask: &Ask) -> Option<ObjId> {
     }
 }
 
-/// The objects that an ask exports.
+/// The objects that a request exports.
 fn exported(
     alloc: Global,
     config: &SpaceConfig,
@@ -195,7 +195,7 @@ fn exported(
     }
 }
 
-/// The objects to which an ask that exports these new ones returns references.
+/// The objects to which a request that exports these new ones returns references.
 fn returned(
     alloc: Global,
     config: &SpaceConfig,
@@ -226,7 +226,7 @@ fn returned(
     }
 }
 
-/// What the event of a place is replied after this course.
+/// Returns the reply to the event of a place after this course.
 fn reply_to(
     alloc: Global,
     config: &SpaceConfig,
@@ -257,7 +257,7 @@ fn finished(alloc: Global, p: &Place) -> Result<Reply, AllocError> {
     }
 }
 
-/// What the event of a place is replied, which is neither a Finish nor a List, where this is the table before it.
+/// Returns the reply to the event of a place, which is neither a Finish nor a List. The table before it is this one.
 fn reply_without_list(config: &SpaceConfig, table: &[Exported], p: &Place) -> Reply {
     match &p.event.ask {
         Ask::Open { kind: _, pinned: _ } => opened(p.exported_here.as_slice()),

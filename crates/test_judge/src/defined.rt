@@ -64,7 +64,7 @@ fn row_of(
     })
 }
 
-/// How many calls of an object run.
+/// Returns the number of running calls of an object.
 fn runs(places: &[Place], object: ObjId) -> u64 {
     let mut count: u64 = 0;
     for by in 0..CONNECTIONS as u32 {
@@ -73,14 +73,14 @@ fn runs(places: &[Place], object: ObjId) -> u64 {
     count
 }
 
-/// How many references to an object await.
+/// Returns the number of references to an object that await.
 fn waits(alloc: Global, ack: u64, places: &[Place], object: ObjId) -> Result<u64, AllocError> {
     let all = awaiting_references(alloc, ack, now(places), places)?;
     let count = all.iter().filter(|r| r.object.is_same(&object)).count();
     Ok(count as u64)
 }
 
-/// How many clients hold an object.
+/// Returns the number of clients that hold an object.
 fn holders(alloc: Global, lease: u64, places: &[Place], object: ObjId) -> Result<u64, AllocError> {
     let calls = lease_calls(alloc, places)?;
     let all = clients(alloc, calls.as_slice())?;
@@ -94,7 +94,7 @@ fn holders(alloc: Global, lease: u64, places: &[Place], object: ObjId) -> Result
     Ok(count)
 }
 
-/// How many names stand for an object.
+/// Returns the number of names that stand for an object.
 fn names_of(alloc: Global, places: &[Place], object: ObjId) -> Result<u64, AllocError> {
     let mut count: u64 = 0;
     let all = names(alloc, places)?;

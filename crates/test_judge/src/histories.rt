@@ -12,13 +12,13 @@ use object_ids::{ObjId, ObjIds, Uid, Vmid};
 use sequence::{ByteList, Kinds, Units};
 use std::alloc::{AllocError, Global};
 
-/// How many connections there are.
+/// The number of connections.
 pub(crate) const CONNECTIONS: u64 = 2;
 /// The longest duration of one half of the draws, in milliseconds.
 const LONGEST: u64 = 6;
 /// The longest duration of the other half.
 const LONGER: u64 = 30;
-/// How often a running call is looked for.
+/// The most times that a running call is looked for.
 const TRIES: u64 = 6;
 /// The number of the first object.
 const FIRST: i64 = 16;
@@ -89,7 +89,7 @@ impl Clock {
         moment
     }
 
-    /// Notes the end of the lease or of the wait that an ask is granted now.
+    /// Notes the end of the lease or of the wait that a request is granted now.
     fn note(&mut self, config: &SpaceConfig, ask: &Ask) {
         match ask {
             Ask::Dirty {
@@ -159,7 +159,7 @@ fn begin(alloc: Global, config: &SpaceConfig, course: &mut Course) -> Result<(),
     take_at_first(alloc, config, course, finish)
 }
 
-/// Takes an ask of the first connection at the first moment.
+/// Takes a request of the first connection at the first moment.
 fn take_at_first(
     alloc: Global,
     config: &SpaceConfig,
@@ -174,7 +174,7 @@ fn take_at_first(
     course.take(alloc, config, event)
 }
 
-/// A random ask of a connection: one in five speaks of names.
+/// A random request of a connection: one in five speaks of names.
 fn ask(
     alloc: Global,
     config: &SpaceConfig,
@@ -204,7 +204,7 @@ fn ask(
     }
 }
 
-/// A random ask that speaks of names.
+/// A random request that speaks of names.
 fn of_names(
     alloc: Global,
     space: Uid,

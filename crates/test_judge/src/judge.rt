@@ -13,7 +13,7 @@ use sequence::{ByteList, Same};
 use space::{Space, outline, standing};
 use std::alloc::{AllocError, Global};
 
-/// What a space and the definitions say of one history.
+/// The comparison of a space with the definitions for one history.
 #[derive(Clone, Copy, Debug)]
 pub(crate) enum Verdict {
     /// The same.
@@ -26,15 +26,15 @@ pub(crate) enum Verdict {
     Outline,
 }
 
-/// Whether a space may be asked an event: it is not too late.
+/// Returns whether a space may be asked an event: it is not too late.
 pub(crate) fn is_early(event: &Event) -> bool
     ensures { IsTrue result → event.now.moment < END_OF_TIME }
 {
     event.moment < END_OF_TIME
 }
 
-/// Whether a space answers an event so. An abandon of a running call at an even moment is made by `abandon`, which answers nothing, and of the other
-/// events those whose moment is a multiple of 3 are handed in as a list by `turns`.
+/// Returns whether a space answers an event so. `abandon`, which answers nothing, makes an abandon of a running call at
+/// an even moment. `turns` takes each other event as a list where its moment is a multiple of 3.
 fn is_answered(
     alloc: Global,
     space: &mut Space,
@@ -57,7 +57,7 @@ fn is_answered(
     Ok(are_same(&given, answer))
 }
 
-/// Whether a space answers an event so where it is the one event of a list.
+/// Returns whether a space answers an event so where it is the one event of a list.
 fn is_answered_in_a_list(
     alloc: Global,
     space: &mut Space,
@@ -76,7 +76,7 @@ fn is_answered_in_a_list(
     })
 }
 
-/// Whether two answers are the same.
+/// Returns whether two answers are the same.
 pub(crate) fn are_same(a: &Result<Turn, Refused>, b: &Result<Turn, Refused>) -> bool {
     match (a, b) {
         (Ok(a), Ok(b)) => a.is_same(b),
@@ -104,7 +104,7 @@ fn first_difference(
     Ok(None)
 }
 
-/// Whether a space has this outline; where it doesn't keep its events, this one but for its withdrawals.
+/// Returns whether a space has this outline. A space that doesn't keep its events has this one but for its withdrawals.
 pub(crate) fn is_outlined(
     alloc: Global,
     space: &Space,
@@ -117,7 +117,7 @@ pub(crate) fn is_outlined(
     Ok(is_without_withdrawals(stands.as_slice(), defined.as_slice()))
 }
 
-/// Whether these bytes are an outline up to its withdrawals.
+/// Returns whether these bytes are an outline up to its withdrawals.
 fn is_without_withdrawals(stands: &[u8], outline: &[u8]) -> bool {
     match outline.strip_prefix(stands) {
         Some(rest) => rest.is_empty() || rest.starts_with(b"withdrawn "),

@@ -28,7 +28,7 @@ fn early(alloc: Global, events: &[Event]) -> Result<Option<Vec<Event>>, AllocErr
     }
 }
 
-/// Whether these are the turns of such answers, up to the first that is refused.
+/// Returns whether these are the turns of such answers, up to the first that is refused.
 fn are_turns(turns: &[Turn], answers: &[Result<Turn, Refused>]) -> bool {
     for (place, turn) in turns.iter().enumerate() {
         match answers.get(place) {
@@ -43,7 +43,7 @@ fn are_turns(turns: &[Turn], answers: &[Result<Turn, Refused>]) -> bool {
     true
 }
 
-/// Whether a new space takes a list so, and has this outline then.
+/// Returns whether a new space takes a list so, and has this outline then.
 fn takes(
     alloc: Global,
     config: &SpaceConfig,
@@ -68,7 +68,7 @@ fn takes(
     Ok(is_end && are_turns(turns, answers) && is_outlined(alloc, &space, defined)?)
 }
 
-/// Whether a new space answers a list so, and has this outline then.
+/// Returns whether a new space answers a list so, and has this outline then.
 fn answers_all(
     alloc: Global,
     config: &SpaceConfig,
@@ -97,7 +97,8 @@ fn answers_all(
     Ok(given.len() == answers.len() && is_outlined(alloc, &space, defined)?)
 }
 
-/// Whether new spaces answer some events so where they are handed in as one list, by `turns` and by `answers`, and have this outline then.
+/// Returns whether new spaces answer some events so as one list, by `turns` and by `answers`, and have this outline
+/// then.
 pub(crate) fn are_answered(
     alloc: Global,
     config: &SpaceConfig,

@@ -1,3 +1,4 @@
+// SPDX-License-Identifier: Apache-2.0 OR MIT
 //! Judges spaces by the definitions of histories: makes random histories, the same in each run, and compares what a space answers to each
 //! event, and the outline that it has at the end, with what the functions of `history_model` compute from the list of events; of long histories
 //! with a course, which keeps the places and the table from event to event and has those functions compute the rest.
@@ -24,7 +25,7 @@ use std::alloc::{AllocError, Global};
 use std::io;
 use std::io::Write;
 
-/// How many histories there are of a row, the fewest random events of each, and how many numbers of random events there are.
+/// Rows of histories: their number, the fewest random events of each, and the number of numbers of random events.
 const ROWS: [(u64, u64, u64); 6] = [
     (4_000, 3, 4),
     (1_000, 7, 13),
@@ -33,7 +34,7 @@ const ROWS: [(u64, u64, u64); 6] = [
     (200, 48, 13),
     (12, 150, 11),
 ];
-/// How many seeds there are for each row.
+/// The number of seeds for each row.
 const SEEDS: u64 = 1_000_000;
 /// The model goes through the whole of a history of fewer random events than these.
 const SHORT: u64 = 7;
@@ -74,7 +75,7 @@ fn show<W: Write>(
     out.write_all(journal(alloc, config, shown)?.as_slice())
 }
 
-/// What happened in some histories.
+/// The counts of events and objects in some histories.
 #[derive(Clone, Copy, Debug)]
 struct Counts {
     events: u64,
@@ -148,7 +149,7 @@ fn judge_history(
     judge_course(alloc, config, course)
 }
 
-/// How many random events a history has.
+/// Returns the number of random events of a history.
 fn drawn_length(draws: &mut Draws, fewest: u64, lengths: u64) -> u64 {
     if lengths == 0 {
         return fewest;
@@ -157,7 +158,7 @@ fn drawn_length(draws: &mut Draws, fewest: u64, lengths: u64) -> u64 {
 }
 
 /// Judges so many histories, of one seed after the other, and prints what happened in them, or the first where a space and the definitions say other
-/// things. Whether there was none.
+/// things. Returns whether there was none.
 fn judge_row<W: Write>(
     alloc: Global,
     out: &mut W,

@@ -7,7 +7,7 @@ fn must(rt: &impl Abort, holds: bool, what: &str) {
     assert!(rt; holds, "{what}");
 }
 
-/// How many items the longest lists have: two chunks of each kernel, and some more.
+/// The number of items of the longest lists: two chunks of each kernel, and some more.
 const LONGEST: usize = 70;
 
 #[test]

@@ -84,7 +84,7 @@ pub(crate) fn ticked_and_told<R: Wait>(rt: &R, lock: &TurnLock, mut pass: Pass, 
     pass
 }
 
-/// Whether a call was begun.
+/// Returns whether a call was begun.
 fn is_started(answer: &Result<Turn, Refused>) -> bool
     ensures { result ≡ started_by answer.now }
 {

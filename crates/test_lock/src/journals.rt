@@ -1,4 +1,4 @@
-//! What a space's journal tells of its passes.
+//! The passes of a space, as its journal tells them.
 use sequence::ByteList;
 use space::{Space, journal};
 use std::alloc::Global;
@@ -33,7 +33,7 @@ fn count_all(counts: &mut [u64], text: &str) -> bool {
     true
 }
 
-/// Whether these are the counts that a text spells.
+/// Returns whether these are the counts that a text spells.
 fn are_wanted(counts: &[u64], wanted: &str) -> bool {
     for (place, word) in wanted.split(' ').enumerate() {
         if counts.get(place).copied() != number_of(word) {
@@ -43,7 +43,7 @@ fn are_wanted(counts: &[u64], wanted: &str) -> bool {
     true
 }
 
-/// Whether a journal has so many events of each number from 0 to 9, in the order of their moments.
+/// Returns whether a journal has so many events of each number from 0 to 9, in the order of their moments.
 fn is_counted(text: &ByteList, wanted: &str) -> bool {
     let mut counts = [0u64; 10];
     match str::from_utf8(text.as_slice()) {
@@ -52,7 +52,8 @@ fn is_counted(text: &ByteList, wanted: &str) -> bool {
     }
 }
 
-/// Whether a space has so many events of each number from 0 to 9, where the k-th one of a number, from 0, has the moment k.
+/// Returns whether a space has so many events of each number from 0 to 9. The k-th one of a number, from 0, has the
+/// moment k.
 pub(crate) fn are_counted(alloc: Global, space: &Space, wanted: &str) -> bool {
     if !space.is_stored() {
         return false;

@@ -150,7 +150,7 @@ fn by_eight<R: Threads + Wait + Sync>(rt: &R, alloc: Global, space: Space) -> Op
     Some(lock.close(root))
 }
 
-/// Whether no call of the first object runs.
+/// Returns whether no call of the first object runs.
 fn is_idle(space: &Space) -> bool {
     for by in 1..9u32 {
         if space.running(by, FIRST) != 0 {

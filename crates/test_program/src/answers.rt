@@ -1,4 +1,4 @@
-//! What `answer` writes, and how it ends.
+//! The output of `answer`, and the way in which it ends.
 use crate::hosts::{
     MemHost, Runs, check_fronts, check_table, cut_by, host_of, is_line, must, run_line, sink_of,
 };

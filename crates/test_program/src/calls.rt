@@ -1,8 +1,8 @@
 //! Calls of objects that are not exported, from their bytes to those that answer them.
 use crate::hosts::{check_fronts, check_table};
 
-/// What a connection gets, what it is answered, how many bytes are left, and the status and the line. The second call's head stands in
-/// blocks of several sizes, an empty one among them.
+/// Rows of a connection's input, its answer, the number of bytes that are left, and the status and the line. The second call's head stands
+/// in blocks of several sizes, an empty one among them.
 const CALLS: &str =
     "opening absent 77 08 | ack exception first fault no_object | 2 | 7 no such object
 opening ping split ping | ack pong exception first fault no_object | 1 | 7 no such object

@@ -17,7 +17,7 @@ use std::process::Abort;
 use test_support::spaces::CONFIG;
 use wire_io::mem::MemSink;
 
-/// What every connection is told.
+/// The numbers in the setup of every connection.
 const NUMBERS: Numbers = Numbers {
     by: 1,
     port: 1099,
@@ -25,8 +25,8 @@ const NUMBERS: Numbers = Numbers {
     binding: false,
 };
 
-/// What is seen of a connection: how it ended, how many calls the worker was asked for, how many arguments and nodes the first one had, and what
-/// the port has.
+/// The outcome of a connection: its end, the number of calls that the worker was asked for, the numbers of arguments and nodes of the first
+/// one, and the entries of the port.
 #[derive(Clone, Copy)]
 struct Seen {
     end: ConnEnd,
@@ -36,7 +36,7 @@ struct Seen {
     port: Entries,
 }
 
-/// How many entries a port has, and whether the last of two gives a call up.
+/// The number of entries that a port has. It also tells whether the last of two gives a call up.
 #[derive(Clone, Copy)]
 struct Entries {
     count: usize,
@@ -80,7 +80,7 @@ fn kind_of(rt: &impl Abort, alloc: Global, words: &str, count: u32) -> Kind {
     }
 }
 
-/// What a port has.
+/// Returns the entries of a port.
 fn entries_of(rt: &impl Abort, alloc: Global, port: DirectPort<'_>) -> Entries {
     let asked = port.into_asked().to_list(alloc).expect(rt, "memory");
     Entries {
@@ -130,7 +130,8 @@ fn serve(rt: &impl Abort, alloc: Global, book: &Book, wires: &mut Wires) -> Seen
     }
 }
 
-/// How many arguments and nodes a worker was asked with first. No call has 1000 arguments, which stand for another method than the first.
+/// Returns the numbers of arguments and nodes with which a worker was asked first. No call has 1000 arguments. That number stands for
+/// another method than the first.
 fn first_of(recorded: &[Recorded]) -> (usize, u32) {
     match recorded.first() {
         Some(Recorded::Invoked(call, _)) => {
@@ -144,7 +145,7 @@ fn first_of(recorded: &[Recorded]) -> (usize, u32) {
     }
 }
 
-/// Whether there are two entries, the second of which gives a call up.
+/// Returns whether there are two entries, the second of which gives a call up.
 fn is_given_up(asked: &[Asked]) -> bool {
     match asked {
         [_, last] => matches!(last.end, AskedEnd::Abandoned(_)),
@@ -171,19 +172,19 @@ opening 3*ping | ack pong | 3 | | 2 | WriteFault { sent: 17 }
 header 4C ping | | 1 | | 0 | WriteFault { sent: 0 }
 header 4D | | 1 | | 0 | WriteFault { sent: 0 }";
 
-/// Whether an end has this text.
+/// Returns whether an end has this text.
 fn is_told(rt: &impl Abort, alloc: Global, end: ConnEnd, text: &str) -> bool {
     let told = format!(in alloc; "{end:?}").expect(rt, "memory");
     told.as_str() == text
 }
 
-/// What a client that sends what words spell is served over.
+/// Returns the wires of a client that sends the bytes that words spell.
 fn wires_of_words(rt: &impl Abort, alloc: Global, input: &str, outside: Outside) -> Wires {
     let input = bytes_of(rt, alloc, input);
     wires_of(rt, alloc, input.as_slice(), outside)
 }
 
-/// Whether a sink holds what words spell.
+/// Returns whether a sink holds the bytes that words spell.
 fn is_written(rt: &impl Abort, alloc: Global, sink: &MemSink, output: &str) -> bool {
     let output = bytes_of(rt, alloc, output);
     sink.held() == output.as_slice()

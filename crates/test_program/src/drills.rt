@@ -1,4 +1,4 @@
-//! What `drill` and `journal` print.
+//! The output of `drill` and `journal`.
 use crate::hosts::{Outside, Runs, check_words, copied, cut_by, host_of, must, run_line};
 use crate::texts::cut;
 use journal::split_line;
@@ -36,7 +36,7 @@ fn each_drill_is_printed(rt: HostRuntime) {
     }
 }
 
-/// What words print over an input.
+/// Returns what these words print over an input.
 pub(crate) fn printed(rt: &impl Runs, alloc: Global, words: &str, input: &[u8]) -> ByteList {
     let mut host = host_of(rt, alloc, input, cut_by("-"));
     let status = run_line(rt, alloc, words, &mut host);
@@ -52,7 +52,7 @@ fn first_line(text: &[u8]) -> &[u8] {
     }
 }
 
-/// What is printed of a journal, which words print, when it is replayed.
+/// Returns what `replay` prints of the journal that these words print.
 fn replayed(rt: &impl Runs, alloc: Global, words: &str) -> ByteList {
     let journal = printed(rt, alloc, words, &[]);
     printed(rt, alloc, "replay", journal.as_slice())

@@ -1,4 +1,4 @@
-//! How `show` and `replay` end where something is too large, or the outside fails.
+//! The ends of `show` and `replay` where something is too large, or the outside fails.
 use crate::hosts::check_table;
 
 /// A stream of too many nodes, and one of arrays, each in the one before it.

@@ -19,7 +19,7 @@ fn check_ack(rt: &impl Abort, alloc: Global, units: &[u16], port: i32, words: &s
     must(rt, is_ack(rt, alloc, &host, port, words), words);
 }
 
-/// Whether these words are the acknowledgement to a host and a port.
+/// Returns whether these words are the acknowledgement to a host and a port.
 fn is_ack(rt: &impl Abort, alloc: Global, host: &Units, port: i32, words: &str) -> bool {
     assert!(rt; encoded_len(host) <= 255, "a short host");
     let found = ack_bytes(alloc, host, port).expect(rt, "memory");
@@ -34,7 +34,7 @@ fn acknowledgement_tells_host_and_port(rt: HostRuntime) {
     check_ack(&rt, rt.alloc(), &[], -2, "4E 0000 FFFFFFFE");
 }
 
-/// What reading a code answers: the code, or 0 at the end of input; and the position of a byte that is none.
+/// Returns the result of reading a code: the code, or 0 at the end of input; and the position of a byte that is none.
 fn told(code: Result<Option<Code>, FrameFault>) -> (u8, u64) {
     match code {
         Ok(Some(Code::Ping)) => (0x52, 0),

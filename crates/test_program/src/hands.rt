@@ -12,8 +12,8 @@ use ser_values::{Builder, Value};
 use std::alloc::Global;
 use std::process::Abort;
 
-/// What hands do, each line with the hand's number: `add OBJECT NUMBER` and `get OBJECT`, with what they give after `>`; and `gone OBJECT`, which
-/// tells it that the object is no longer exported.
+/// The acts of hands, each line with the hand's number. `add OBJECT NUMBER` and `get OBJECT` have what they give after `>`. `gone OBJECT`
+/// tells the hand that the object is no longer exported.
 const ACTS: &str = "1 add 17 5 > 5
 2 get 17 > 5
 2 add 17 4 > 9
@@ -79,7 +79,7 @@ fn spelled_call(rt: &impl Abort, alloc: Global, words: &str) -> Invocation {
     }
 }
 
-/// Whether a call gives this number.
+/// Returns whether a call gives this number.
 fn gives(outcome: &Outcome, number: u32) -> bool {
     match outcome {
         Outcome::Prim(Value::Long(given)) => *given == i64::from(number),

@@ -1,4 +1,4 @@
-//! What `help` prints.
+//! The output of `help`.
 use crate::drills::{check_printed, printed};
 use crate::hosts::{must, put};
 use sequence::ByteList;
@@ -22,13 +22,15 @@ fn each_help_is_printed(rt: HostRuntime) {
 }
 
 /// The words that print one command's help, in the order of the commands.
-const TOPICS: [&str; 15] = [
+const TOPICS: [&str; 17] = [
     "help answer",
     "help serve",
+    "help host",
     "help list",
     "help lookup",
     "help bind",
     "help unbind",
+    "help call",
     "help replay",
     "help show",
     "help drill",

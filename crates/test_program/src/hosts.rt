@@ -1,4 +1,5 @@
-//! What the tests run the program on. A test stops where there is no memory: no helper answers an error, and none has an early end.
+//! The hosts on which the tests run the program. A test stops where there is no memory: no helper answers an error, and none has an early
+//! end.
 use crate::texts::{bytes_of, cut, moments_of, number_of, numbers_of};
 use rmi_cli::{Host, Words, run};
 use sample_app::SampleHand;
@@ -14,7 +15,7 @@ use wire_io::mem::{MemClock, MemSink, MemSource};
 /// A host over streams in memory.
 pub(crate) type MemHost<H> = Host<MemSource, MemSink, MemSink, MemClock, MemListener, MemDialer, H>;
 
-/// What the program runs on: it may start threads and wait, and a test may stop.
+/// A runtime that the program runs on: it may start threads and wait, and a test may stop.
 pub(crate) trait Runs: Abort + Threads + Wait + Sync {}
 
 impl<R: Abort + Threads + Wait + Sync> Runs for R {}
@@ -49,8 +50,8 @@ pub(crate) fn copied(rt: &impl Abort, alloc: Global, piece: &[u8]) -> ByteList {
     bytes
 }
 
-/// How a source is cut into pieces, a length or `-`; which of its reads and of the sink's writes fail, by their indices; and the moments of the
-/// clock, all 0 where none is told.
+/// The pieces into which a source is cut, as a length or `-`. Then the indices of its reads and of the sink's writes that fail, and the
+/// moments of the clock, all 0 where none is told.
 #[derive(Clone, Copy)]
 pub(crate) struct Outside<'a> {
     pub cut: &'a str,
@@ -164,7 +165,7 @@ pub(crate) fn run_line<'t, R: Runs>(
     run(rt, alloc, &words, host)
 }
 
-/// Whether these bytes are a line, or nothing where the line is empty.
+/// Returns whether these bytes are a line, or nothing where the line is empty.
 pub(crate) fn is_line(bytes: &[u8], line: &str) -> bool {
     match bytes.strip_suffix(b"\n") {
         Some(front) => front == line.as_bytes(),

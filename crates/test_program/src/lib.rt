@@ -1,3 +1,4 @@
+// SPDX-License-Identifier: Apache-2.0 OR MIT
 //! Tests of the program, and of what it reads, writes and serves.
 //!
 //! A case is a row of a table with what it must give, and one loop runs all rows of its kind.
@@ -22,13 +23,19 @@ mod hands;
 #[cfg(test)]
 mod helps;
 #[cfg(test)]
+mod hosting;
+#[cfg(test)]
 mod hosts;
 #[cfg(test)]
 mod journals;
 #[cfg(test)]
+mod link_lines;
+#[cfg(test)]
 mod listens;
 #[cfg(test)]
 mod longest;
+#[cfg(test)]
+mod object_calls;
 #[cfg(test)]
 mod promptness;
 #[cfg(test)]

@@ -41,7 +41,7 @@ impl Listener for Deaf {
     }
 }
 
-/// Runs `serve` where the program can't listen: nothing is served or printed, and no connection is waited for.
+/// Runs a server where the program can't listen: nothing is served or printed, and no connection is waited for.
 fn check_deaf(rt: &impl Runs, alloc: Global, line: &str) {
     let words = words_of(rt, alloc, line);
     let mut host = Host {
@@ -65,7 +65,9 @@ fn check_deaf(rt: &impl Runs, alloc: Global, line: &str) {
 
 #[test]
 fn a_port_on_which_it_cannot_listen_is_told(rt: HostRuntime) {
-    for line in "serve 1099 1|serve 1099 2 closed|serve 65535 3 open 5 6".split('|') {
+    for line in "serve 1099 1|serve 1099 2 closed|serve 65535 3 open 5 6|host 0.0.0.0 h 1099".split(
+        '|',
+    ) {
         check_deaf(&rt, rt.alloc(), line);
     }
 }

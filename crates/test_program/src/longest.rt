@@ -1,4 +1,4 @@
-//! How many bytes a journal and a script have at most.
+//! The most bytes of a journal and of a script.
 ghost use Rattle.std.specs.Prelude.{true};
 ghost use Rattle.wire_io.specs.Wire.{untold_read};
 

@@ -40,7 +40,7 @@ struct Asking<'a> {
     faults: u64,
 }
 
-/// Whether so many bytes are due before the byte at a place is asked for.
+/// Returns whether so many bytes are due before the byte at a place is asked for.
 fn is_due(due: &[u32], at: usize, written: usize) -> bool {
     match due.get(at) {
         Some(count) => *count as usize == written,
@@ -89,7 +89,7 @@ impl Sink for Counting<'_> {
     fn shut(&mut self) {}
 }
 
-/// What these messages send.
+/// Returns the bytes that these messages send.
 fn input_of(rt: &impl Abort, alloc: Global, messages: &str) -> ByteList {
     let mut input = ByteList::new(alloc);
     for line in messages.split('\n') {
@@ -107,7 +107,8 @@ fn put_due(rt: &impl Abort, due: &mut Kinds, count: usize, written: usize) {
     }
 }
 
-/// How many bytes are written when a line's message is taken, where so many were before. Before each of its bytes these are due.
+/// Returns the number of bytes that are written when a line's message is taken, where so many were before. Before each byte of the message,
+/// the earlier number is due, and is appended.
 fn put_line(rt: &impl Abort, alloc: Global, due: &mut Kinds, before: usize, line: &str) -> usize {
     let (message, answer) = cut(line, '|');
     let message = bytes_of(rt, alloc, message);
@@ -118,7 +119,7 @@ fn put_line(rt: &impl Abort, alloc: Global, due: &mut Kinds, before: usize, line
     before.saturating_add(bytes_of(rt, alloc, answer).len())
 }
 
-/// How many bytes are written before each byte of these messages is asked for, and before the end is.
+/// Returns the numbers of bytes that are written before each byte of these messages is asked for, and before the end is.
 fn due_of(rt: &impl Abort, alloc: Global, messages: &str) -> Kinds {
     let mut due = Kinds::new(alloc);
     let mut written = 0;

@@ -1,4 +1,4 @@
-//! What `replay` prints, and how it ends.
+//! The output of `replay`, and the way in which it ends.
 use crate::hosts::{Runs, check, check_table, copied, cut_by, must, put};
 use std::alloc::Global;
 

@@ -5,8 +5,8 @@ use sequence::ByteList;
 use std::alloc::Global;
 use std::process::Abort;
 
-/// What calls of the sample are answered: of `echo` on object 16, and of `add(J)J` and `get()J` on object 17. The last ones are none: of
-/// `get()J` with another operation, and on the object of `echo`; of a hash that no method has; on an object of another space.
+/// Calls of the sample with their answers: of `echo` on object 16, and of `add(J)J` and `get()J` on object 17. The last rows call no
+/// method: `get()J` with another operation, and on the object of `echo`; a hash that no method has; an object of another space.
 const CALLS: &str = "opening echo texts | ack reference first texts | 0 | 0 ended
 opening echo itself | ack reference first itself | 0 | 0 ended
 opening echo listed | ack reference first listed | 0 | 0 ended
@@ -41,8 +41,8 @@ fn each_front_of_a_served_call_is_truncated(rt: HostRuntime) {
     }
 }
 
-/// How the connections end in which the byte at one of these places is another, from a place to a last one: what is written, but for a
-/// number, and the status and the line.
+/// The ends of connections in which the byte at one of these places is another, from a place to a last one. Each row has the output, but
+/// for a number, and the status and the line.
 const CHANGED: &str = "13 13 | ack | 2 bad message af at 13
 14 14 | ack | 2 bad stream bad magic at 14
 15 15 | ack | 2 bad stream bad magic at 15

@@ -46,8 +46,8 @@ fn put_line(rt: &impl Abort, bytes: &mut ByteList, line: &str) {
     }
 }
 
-/// What is printed, by the outline's first line and the line of an object that was made.
-fn outline_of(rt: &impl Abort, alloc: Global, first: &str, made: &str) -> ByteList {
+/// Returns the printed text, by the outline's first line and the line of an object that was made.
+pub(crate) fn outline_of(rt: &impl Abort, alloc: Global, first: &str, made: &str) -> ByteList {
     let mut bytes = ByteList::new(alloc);
     if !first.is_empty() {
         put_line(rt, &mut bytes, first);
@@ -58,7 +58,7 @@ fn outline_of(rt: &impl Abort, alloc: Global, first: &str, made: &str) -> ByteLi
     bytes
 }
 
-/// Whether a host has few enough bytes.
+/// Returns whether a host has at most 255 bytes.
 fn is_short(host: &Units) -> bool
     ensures { IsTrue result → length (utf host.now) ≤ 255 }
 {
@@ -91,7 +91,7 @@ impl Network {
     }
 
     /// Adds a connection that sends these bytes.
-    fn add(&mut self, rt: &impl Abort, alloc: Global, words: &str) {
+    pub(crate) fn add(&mut self, rt: &impl Abort, alloc: Global, words: &str) {
         self.add_failing(rt, alloc, words, "", "");
     }
 
@@ -126,9 +126,15 @@ impl Network {
     }
 
     /// The listener that gives these connections.
-    fn listener(self, alloc: Global) -> MemListener {
+    pub(crate) fn listener(self, alloc: Global) -> MemListener {
         let Network { links } = self;
         MemListener::new(alloc, links)
+    }
+
+    /// The listener that gives these connections, none of them at the waits of these indices, and that is told to stop at the wait of the index `stop`.
+    pub(crate) fn waiting(self, alloc: Global, quiet: Kinds, stop: Option<u64>) -> MemListener {
+        let Network { links } = self;
+        MemListener::waiting(alloc, links, quiet, stop)
     }
 
     /// The dialer that gives these connections.
@@ -157,6 +163,24 @@ fn check_after<H>(rt: &impl Abort, host: &MemHost<H>, taken: u32, told: &str, ou
     };
     must(rt, address.as_slice() == b"127.0.0.1".as_slice(), "address");
     must(rt, *port == 1099, "port");
+}
+
+/// Looks whether the host tells of the connection of this index that it got these bytes.
+pub(crate) fn check_one<H>(
+    rt: &impl Abort,
+    alloc: Global,
+    host: &MemHost<H>,
+    index: usize,
+    got: &str,
+) {
+    let Some(report) = &host.served else {
+        return must(rt, false, "served");
+    };
+    let bytes = bytes_of(rt, alloc, got);
+    match report.links.get(index) {
+        Some(link) => must(rt, link.sink.held() == bytes.as_slice(), got),
+        None => must(rt, false, got),
+    }
 }
 
 /// Looks whether the host tells of each connection that was served that it got these bytes, between commas.

@@ -1,4 +1,4 @@
-//! What connections that are served without the program are told beforehand, and what they are served over.
+//! The setups of connections that are served without the program, and the wires that they are served over.
 ghost use Rattle.std.specs.Prelude.{◌≡◌, ◌≤◌, pos, length};
 ghost use Rattle.mod_utf.specs.Utf.{utf};
 
@@ -11,7 +11,7 @@ use std::alloc::Global;
 use std::process::Abort;
 use wire_io::mem::{MemClock, MemSink, MemSource};
 
-/// What a connection is served over.
+/// The wires that a connection is served over.
 #[derive(Drop)]
 pub(crate) struct Wires {
     pub source: MemSource,
@@ -19,7 +19,7 @@ pub(crate) struct Wires {
     pub clock: MemClock,
 }
 
-/// What a client that sends these bytes is served over, at the moment 0.
+/// Returns the wires of a client that sends these bytes, at the moment 0.
 pub(crate) fn wires_of(rt: &impl Abort, alloc: Global, input: &[u8], outside: Outside) -> Wires {
     Wires {
         source: source_of(rt, alloc, input, outside),
@@ -46,7 +46,7 @@ pub(crate) struct Numbers {
     pub binding: bool,
 }
 
-/// What a connection is told beforehand.
+/// Returns the setup of a connection.
 pub(crate) fn setup(rt: &impl Abort, alloc: Global, numbers: Numbers) -> Setup
     ensures draw { (result.draw.time ≡ pos 6) × (result.draw.drawn ≡ 0) }
     ensures peer_host { length (utf result.peer_host) ≤ 255 }

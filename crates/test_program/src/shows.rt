@@ -1,4 +1,4 @@
-//! What `show` prints, and how it ends.
+//! The output of `show`, and the way in which it ends.
 use crate::hosts::check_table;
 
 /// A stream, what is printed, how many bytes are left where that is told, and the status and the line. The first ones are an array of two

@@ -1,4 +1,4 @@
-//! What the commands that ask a server send, read, print and leave, over links in memory.
+//! Tests of the commands that ask a server, over links in memory: the bytes that they send and read, what they print and what they leave.
 use crate::hosts::{MemHost, Runs, cut_by, host_of, is_line, must, run_line, sink_of};
 use crate::serves::Network;
 use crate::texts::{bytes_of, cut, number_of};

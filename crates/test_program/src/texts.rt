@@ -9,9 +9,10 @@ use std::process::Abort;
 use test_support::texts;
 pub(crate) use test_support::texts::cut;
 
-/// What names stand for: a header up to its protocol, an opening without a host, and the acknowledgement to the peer 127.0.0.1, port 1234;
-/// a Ping and its answer; heads of calls; what Returns begin with, and their identifiers; exceptions; graphs; and fronts of nested arrays; heads of calls of the registry and the collector, up to the operation;
-/// pieces of references, leases, clients and identifiers; messages; and calls of the maker and of the counter that it makes, with what they are answered.
+/// The bytes that each name stands for. The names are of: a header up to its protocol, an opening without a host, and the acknowledgement
+/// to the peer 127.0.0.1, port 1234; a Ping and its answer; heads of calls; the beginning of Returns, and their identifiers; exceptions;
+/// graphs; fronts of nested arrays; heads of calls of the registry and the collector, up to the operation; pieces of references,
+/// leases, clients and identifiers; messages; and calls of the maker and of the counter that it makes, with their answers.
 const NAMES: &str = "header 4A524D490002
 opening 4A524D490002 4B 0000 00000000
 ack 4E 0009 3132372E302E302E31 000004D2
@@ -68,6 +69,7 @@ by_client 73 72 0011 6A6176612E726D692E6467632E564D4944 F8865BAFA4A56DB6 02 0002
 asks_lease 73 72 0012 6A6176612E726D692E6467632E4C65617365 B0B5E2660C4ADC34 02 0002 4A 0005 76616C7565 4C 0004 766D6964 74 0013 4C6A6176612F726D692F6467632F564D49443B 70 78 70 00000000000927C0 73 72 0011 6A6176612E726D692E6467632E564D4944 F8865BAFA4A56DB6 02 0002 5B 0004 61646472 74 0002 5B42 4C 0003 756964 71 007E0003 70 78 70 75 72 0002 5B42 ACF317F8060854E0 02 0000 70 78 70 00000008 0102030405060708 73 71 007E0005 0005 0000000000000004 00000003
 grants_lease 73 72 0012 6A6176612E726D692E6467632E4C65617365 B0B5E2660C4ADC34 02 0002 4A 0005 76616C7565 4C 0004 766D6964 74 0013 4C6A6176612F726D692F6467632F564D49443B 70 78 70 00000000000927C0 73 72 0011 6A6176612E726D692E6467632E564D4944 F8865BAFA4A56DB6 02 0002 5B 0004 61646472 74 0002 5B42 4C 0003 756964 74 0015 4C6A6176612F726D692F7365727665722F5549443B 70 78 70 75 72 0002 5B42 ACF317F8060854E0 02 0000 70 78 70 00000008 0102030405060708 73 72 0013 6A6176612E726D692E7365727665722E554944 0F12700DBF364F12 02 0003 53 0005 636F756E74 4A 0004 74696D65 49 0006 756E69717565 70 78 70 0005 0000000000000004 00000003
 unknown 00000009 0000000000000009 8000
+caller 00000008 0000000000000009 73 72 0013 6A6176612E726D692E7365727665722E554944 0F12700DBF364F12 02 0003 53 0005 636F756E74 4A 0004 74696D65 49 0006 756E69717565 70 78 70 0000 0000000000000006 00000005
 client 4A524D490002 4B 0009 3132372E302E302E31 00000000
 naming 44154DC9D4E63BDF
 remote 73 7D 00000001 000F 6A6176612E726D692E52656D6F7465";
@@ -93,7 +95,7 @@ fn put_text(rt: &impl Abort, bytes: &mut ByteList, text: &str) {
     }
 }
 
-/// Whether all characters are hexadecimal digits.
+/// Returns whether all characters are hexadecimal digits.
 fn are_digits(word: &str) -> bool {
     for character in word.as_bytes() {
         if texts::digit_of(*character).is_none() {
@@ -139,7 +141,7 @@ pub(crate) fn put_words(rt: &impl Abort, alloc: Global, bytes: &mut ByteList, wo
     }
 }
 
-/// What words spell.
+/// Returns the bytes that words spell.
 pub(crate) fn bytes_of(rt: &impl Abort, alloc: Global, words: &str) -> ByteList {
     let mut bytes = ByteList::new(alloc);
     put_words(rt, alloc, &mut bytes, words);

@@ -1,5 +1,5 @@
-//! What no contract says: that calls succeed where there is memory, how much is asked for at once, and what the adapters
-//! do over a reader, a writer and a clock.
+//! Tests of facts that no contract states: calls succeed where there is memory, how much a call asks for at once, and what the adapters do
+//! over a reader, a writer and a clock.
 ghost use Rattle.std.specs.Prelude.{true};
 ghost use Rattle.wire_io.specs.Wire.{untold_read, untold_write};
 
@@ -30,7 +30,7 @@ fn source_of(rt: &impl Abort, alloc: Global, bytes: &[u8], cuts: &str, failing: 
     )
 }
 
-/// What a read or a write answers, as a number: 99 stands for a failure.
+/// Returns the answer of a read or a write as a number: 99 stands for a failure.
 fn count_of(answer: Result<usize, Failed>) -> usize {
     match answer {
         Ok(count) => count,
@@ -38,19 +38,19 @@ fn count_of(answer: Result<usize, Failed>) -> usize {
     }
 }
 
-/// What one read into a buffer of 1 byte answers, through the trait.
+/// Reads into a buffer of 1 byte through the trait, once, and returns the answer.
 fn read_one<S: Source>(source: &mut S) -> usize {
     let mut buf = [0; 1];
     count_of(source.read(&mut buf))
 }
 
-/// What one read into a buffer of 4 bytes answers, through the trait.
+/// Reads into a buffer of 4 bytes through the trait, once, and returns the answer.
 fn read_four<S: Source>(source: &mut S) -> usize {
     let mut buf = [0; 4];
     count_of(source.read(&mut buf))
 }
 
-/// What reads into buffers of 4 bytes answer, one after the other, and how many bytes are left after each.
+/// The answers of reads into buffers of 4 bytes, one after the other, and the number of bytes that are left after each.
 const READS: &str = "2 6|99 6|1 5|4 1|1 0|0 0";
 
 /// Looks at one read.
@@ -168,7 +168,7 @@ const ENDS: &str = "9 5 | took 5 | 5 0
 0 1 | limit 0 | 0 4
 0 0 | took 0 | 0 5";
 
-/// Whether taking so many bytes answers what a text tells.
+/// Takes so many bytes, and returns whether the answer is what a text tells.
 fn is_told(
     rt: &impl Abort,
     alloc: Global,
@@ -212,7 +212,7 @@ fn ends_come_where_they_stand(rt: HostRuntime) {
     }
 }
 
-/// What reading a byte answers, in a word.
+/// Returns the answer of reading a byte, in a word.
 fn word_of(byte: Result<u8, PullEnd>) -> &'static str {
     match byte {
         Ok(b'a') => "a",
@@ -341,7 +341,7 @@ impl Read for Zeros<'_> {
     }
 }
 
-/// How many bytes come of 10,000 reads and two more of single bytes, and how many faults.
+/// Returns the number of bytes that come of 10,000 reads and two more of single bytes, and the number of faults.
 fn read_ahead(alloc: Global, calls: &Cell<u32>) -> (u32, u64) {
     let zeros = Zeros {
         left: 10_000,
@@ -447,7 +447,7 @@ fn a_clock_that_fails_gives_its_last_moment(rt: HostRuntime) {
     must(&rt, StdClock::new(&rt).now() > start_of_2020, "clock");
 }
 
-/// How many bytes are taken of these up to a limit: 99,999 where they pass it.
+/// Returns the number of bytes that are taken of these up to a limit: 99,999 where they pass it.
 fn taken_of(rt: &impl Abort, alloc: Global, bytes: &[u8], limit: u16) -> usize {
     let mut source = source_of(rt, alloc, bytes, "3 0 4096", "");
     match take_whole(alloc, &mut source, usize::from(limit)) {

@@ -1,14 +1,15 @@
-//! What words ask for.
+//! The commands that words ask for.
 use crate::hosts::{must, words_of};
 use history::Name;
 use rmi_cli::{
-    ClassOutput, ClientCommand, Command, HelpTopic, LeaseOptions, ServerAddress, WordsFault,
+    ClassOutput, ClientCommand, Command, HelpTopic, HostWords, LeaseOptions, ServerAddress,
+    WordsFault,
 };
 use sequence::Units;
 use std::alloc::Global;
 use std::process::Abort;
 
-/// Words, and the command that they ask for: `answer` or `serve` with its numbers, a client's with its words, `help` with its topic, what is printed of a class, `other`, or `none`.
+/// Words, and the command that they ask for: `answer`, `serve` or `host` with its words and numbers, a client's with its words, `help` with its topic, what is printed of a class, `other`, or `none`.
 const ROWS: &str = "answer|answer false 600000 300000
 answer open|answer true 600000 300000
 answer closed|answer false 600000 300000
@@ -43,6 +44,21 @@ serve 01 1|none
 serve 1 ~1|none
 serve 1|none
 serve|none
+host 0.0.0.0 localhost 1099|host 0.0.0.0 localhost 1099 false 600000 300000
+host ::1 h 65535 open 7 8|host ::1 h 65535 true 7 8
+host 127.0.0.1 h 1 closed|host 127.0.0.1 h 1 false 600000 300000
+host 0.0.0.0 h|none
+host 0.0.0.0|none
+host|none
+host 0.0.0.0 h 0|none
+host 0.0.0.0 h 65536|none
+host 0.0.0.0 h 01|none
+host 0.0.0.0 h 1 open 0|none
+host 0.0.0.0 h 1 silent|none
+host 0.0.0.0 h 1 open 7 8 silent|none
+host -1 h 1|none
+host 0.0.0.0 -h 1|none
+Host 0.0.0.0 h 1|none
 list 127.0.0.1 1099|list 127.0.0.1 1099
 list localhost 65535|list localhost 65535
 list 127.0.0.1|none
@@ -63,6 +79,54 @@ bind h 1 copy echo more|none
 unbind h 1 copy|unbind h 1 copy
 unbind h 1|none
 unbind h x copy|none
+call h 1 n m()V|other
+call h 1 n m()V 1|none
+call h 1 n|none
+call|none
+call h 1 n m(J)V|none
+call h 1 n m(J)V 1 2|none
+call h 0 n m()V|none
+call h 1 n m(B)V ~128|other
+call h 1 n m(B)V 127|other
+call h 1 n m(B)V ~129|none
+call h 1 n m(B)V 128|none
+call h 1 n m(S)V ~32768|other
+call h 1 n m(S)V 32767|other
+call h 1 n m(S)V ~32769|none
+call h 1 n m(S)V 32768|none
+call h 1 n m(I)V ~2147483648|other
+call h 1 n m(I)V 2147483647|other
+call h 1 n m(I)V ~2147483649|none
+call h 1 n m(I)V 2147483648|none
+call h 1 n m(J)V ~9223372036854775808|other
+call h 1 n m(J)V 9223372036854775807|other
+call h 1 n m(J)V ~9223372036854775809|none
+call h 1 n m(J)V 9223372036854775808|none
+call h 1 n m(C)V 0|other
+call h 1 n m(C)V 65535|other
+call h 1 n m(C)V 65536|none
+call h 1 n m(C)V ~1|none
+call h 1 n m(Z)V true|other
+call h 1 n m(Z)V false|other
+call h 1 n m(Z)V True|none
+call h 1 n m(Z)V 1|none
+call h 1 n m(Ljava/lang/String;)V 1|other
+call h 1 n m(Ljava/lang/String;I)Ljava/lang/String; ~ ~1|other
+call h 1 n m(Ljava/lang/String;)V |other
+call h 1 n m(Ljava/lang/String;)V -1|none
+call h 1 n m(F)V 1|none
+call h 1 n m(D)V 1|none
+call h 1 n m([I)V 1|none
+call h 1 n m()F|none
+call h 1 n m()D|none
+call h 1 n m()[J|other
+call h 1 n m()J|other
+call h 1 n m(J)V 01|none
+call h 1 n m(J)V ~0|none
+call h 1 n m(J)V +1|none
+call h 1 n m|none
+call h 1 n ()V|none
+Call h 1 n m()V|none
 List h 1|none
 serve 1 1 open 7 8 9|none
 serve 1 1 7|none
@@ -99,10 +163,12 @@ show show|none
 help|help all
 help answer|help answer
 help serve|help serve
+help host|help host
 help list|help list
 help lookup|help lookup
 help bind|help bind
 help unbind|help unbind
+help call|help call
 help replay|help replay
 help show|help show
 help drill|help drill
@@ -136,7 +202,7 @@ repla|none
 other|none
 |none";
 
-/// Whether these terms are written so.
+/// Checks that these terms are written so.
 fn are_terms(rt: &impl Abort, alloc: Global, front: &str, terms: &LeaseOptions, wanted: &str) {
     let binding = terms.binding;
     let lease_ms = terms.lease_ms;
@@ -153,10 +219,12 @@ fn topic_name(topic: HelpTopic) -> &'static str {
         HelpTopic::All => "help all",
         HelpTopic::Answer => "help answer",
         HelpTopic::Serve => "help serve",
+        HelpTopic::Host => "help host",
         HelpTopic::List => "help list",
         HelpTopic::Lookup => "help lookup",
         HelpTopic::Bind => "help bind",
         HelpTopic::Unbind => "help unbind",
+        HelpTopic::Call => "help call",
         HelpTopic::Replay => "help replay",
         HelpTopic::Show => "help show",
         HelpTopic::Drill => "help drill",
@@ -221,6 +289,17 @@ fn is_client(rt: &impl Abort, alloc: Global, command: &ClientCommand, wanted: &s
     }
 }
 
+/// Looks whether what `host` is told is written so.
+fn is_host(rt: &impl Abort, alloc: Global, asked: &HostWords, wanted: &str) {
+    let address = asked.address.as_str();
+    let host = text_of(rt, alloc, &asked.host);
+    let port = asked.port;
+    match format!(in alloc; "host {address} {host} {port}") {
+        Ok(front) => are_terms(rt, alloc, front.as_str(), &asked.options, wanted),
+        Err(_) => must(rt, false, "memory"),
+    }
+}
+
 /// Looks at what the words of a line ask for.
 fn check(rt: &impl Abort, alloc: Global, line: &str, wanted: &str) {
     match words_of(rt, alloc, line).command(alloc) {
@@ -233,6 +312,7 @@ fn check(rt: &impl Abort, alloc: Global, line: &str, wanted: &str) {
                 Err(_) => must(rt, false, "memory"),
             }
         }
+        Ok(Command::Host(host)) => is_host(rt, alloc, &host, wanted),
         Ok(Command::Client(command)) => is_client(rt, alloc, &command, wanted),
         Ok(Command::Class(output)) => must(rt, wanted == output_name(output), line),
         Ok(Command::Help(topic)) => must(rt, wanted == topic_name(topic), line),
@@ -250,4 +330,32 @@ fn words_ask_for_their_command(rt: HostRuntime) {
             None => must(&rt, false, row),
         }
     }
+}
+
+/// Looks whether the words of `host` are a command line where the word at one place is this one so many times.
+fn check_long(rt: &impl Abort, alloc: Global, place: usize, piece: &str, count: u32, is_one: bool) {
+    let mut long = String::new(alloc);
+    for _ in 0..count {
+        must(rt, long.push_str(piece).is_ok(), "memory");
+    }
+    let long = long.as_str();
+    let line = if place == 1 {
+        format!(in alloc; "host {long} h 1").expect(rt, "memory")
+    } else {
+        format!(in alloc; "host h {long} 1").expect(rt, "memory")
+    };
+    let asks = words_of(rt, alloc, line.as_str()).command(alloc).is_ok();
+    must(rt, asks == is_one, line.as_str());
+}
+
+#[test]
+fn an_address_and_a_host_have_a_longest_length(rt: HostRuntime) {
+    check_long(&rt, rt.alloc(), 1, "a", 255, true);
+    check_long(&rt, rt.alloc(), 1, "a", 256, false);
+    check_long(&rt, rt.alloc(), 2, "a", 255, true);
+    check_long(&rt, rt.alloc(), 2, "a", 256, false);
+    check_long(&rt, rt.alloc(), 2, "\u{fc}", 127, true);
+    check_long(&rt, rt.alloc(), 2, "\u{fc}", 128, false);
+    check_long(&rt, rt.alloc(), 2, "\u{1f600}", 42, true);
+    check_long(&rt, rt.alloc(), 2, "\u{1f600}", 43, false);
 }

@@ -1,54 +1,13 @@
-//! What `world` prints, and how it ends.
+//! The output of `world`, and the way in which it ends.
 use crate::hosts::{check, check_table, copied, cut_by, must, put};
 use crate::replays::check_outlines;
 use sequence::ByteList;
 use std::alloc::Global;
 use std::process::Abort;
 
-/// Scripts, each with its end: the lines after `=`. Four of them are the files `examples/*.script`, in the order of `docs/WORLD.md`.
+/// Scripts, each with its end: the lines after `=`. The first five are the files `examples/*.script`, in the order of `docs/WORLD.md`. `test_worlds` has
+/// more, each also one step shorter and one step longer.
 const SCRIPTS: &str = "world 100 50 1
-make
-register 0 17
-due 0
-at 10
-deliver 0
-at 20
-answer 0
-at 60
-due 0
-at 70
-deliver 1
-answer 1
-at 149
-tick
-=
-events 6 units 8 now 149
-object 16 kind 2 pinned running 0 awaiting 0 held 0 names 0
-object 17 kind 1 free running 0 awaiting 0 held 1 names 0
-lease 00@0/0/0 until 170
-client 0 until 160
-ref 0 17 sure usable
-
-world 100 50 1
-make
-ask 0 30
-register 0 17
-due 0
-at 10
-deliver 0
-at 20
-answer 0
-at 39
-tick
-=
-events 5 units 7 now 39
-object 16 kind 2 pinned running 0 awaiting 0 held 0 names 0
-object 17 kind 1 free running 0 awaiting 1 held 1 names 0
-lease 00@0/0/0 until 40
-client 0 until 30
-ref 0 17 sure lapsed
-
-world 100 50 1
 make
 register 0 17
 due 0
@@ -97,6 +56,32 @@ client 0 until 100
 ref 0 17 sure lapsed
 client 1 until 160
 ref 1 18 sure usable
+
+world 100 50 1
+make
+ask 0 40
+register 0 17
+due 0
+at 10
+deliver 0
+ack 0
+at 40
+answer 0
+due 0
+at 45
+deliver 1
+answer 1
+at 50
+deliver 0
+at 60
+tick
+=
+events 8 units 12 now 60
+object 16 kind 2 pinned running 0 awaiting 0 held 0 names 0
+object 17 kind 1 free running 0 awaiting 0 held 1 names 0
+lease 00@0/0/0 until 90
+client 0 until 80
+ref 0 17 sure usable
 
 world 100 50 1
 make

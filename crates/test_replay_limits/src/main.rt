@@ -1,3 +1,4 @@
+// SPDX-License-Identifier: Apache-2.0 OR MIT
 //! Replays journals that reach a limit of their space, and prints for each the status, the outline and the line on the errors' sink.
 #![tactic(auto)]
 
@@ -16,13 +17,13 @@ use wire_io::{MemClock, MemDialer, MemLinks, MemListener, MemSink, MemSource};
 
 const FIRST_LINE: &[u8] = b"space 600000 300000 7 9\n";
 
-/// How many objects a client names.
+/// The number of objects that a client names.
 const OBJECTS: u32 = 512;
 
-/// How many clients name them: 262,144 pairs.
+/// The number of clients that name them: 262,144 pairs.
 const CLIENTS: i32 = 512;
 
-/// How many clients a space has at most.
+/// The most clients of a space.
 const MOST_CLIENTS: i32 = 65_536;
 
 /// Two pieces, one after the other.

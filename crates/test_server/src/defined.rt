@@ -1,4 +1,4 @@
-//! What the definitions say of a history, computed from prefix to prefix.
+//! The answers of the definitions for a history, computed from prefix to prefix.
 //!
 //! `history_model` computes each definition from the whole list of events, and so computes again, at each prefix, all that the prefix before had. Here
 //! the table after an event is made of the table before it, as the record `Collects` has it: of the objects that were in the table or are exported by
@@ -20,7 +20,7 @@ use object_ids::{ObjId, ObjIds};
 use sequence::{NameList, Same};
 use std::alloc::{AllocError, Global};
 
-/// What the definitions say of a history.
+/// The answers of the definitions for a history.
 pub(crate) struct Defined {
     /// Its places, the newest first.
     pub(crate) places: Vec<Place>,
@@ -81,9 +81,9 @@ impl Drop for Own {
     }
 }
 
-/// What is kept from prefix to prefix of a history.
+/// The state that is kept from prefix to prefix of a history.
 pub(crate) struct Prefix {
-    /// What the definitions say of the prefix.
+    /// The answers of the definitions for the prefix.
     pub(crate) defined: Defined,
     /// The lease calls of each client.
     owns: Vec<Own>,
@@ -241,7 +241,7 @@ impl Prefix {
 
 // ---- places
 
-/// Whether an ask of a connection is effective after places with this table.
+/// Returns whether an ask of a connection is effective after places with this table.
 fn is_effective(places: &[Place], table: &[Exported], by: u32, ask: &Ask) -> bool {
     match ask {
         Ask::Begin { object } => has(table, *object),
@@ -274,7 +274,7 @@ fn lists_over(
     }
 }
 
-/// What an ask exports, and the objects to which it returns references.
+/// Returns the objects that an ask exports, and those to which it returns references.
 fn effects(
     alloc: Global,
     places: &[Place],
@@ -290,7 +290,7 @@ fn effects(
     Ok((ExportedList::from_vec(adds), ObjIds::from_vec(listed)))
 }
 
-/// What the name in an ask stands for.
+/// Returns the object that the name in an ask stands for.
 fn stood(places: &[Place], ask: &Ask) -> Option<ObjId> {
     match name_in(ask) {
         Some(name) => stands(places, name),
@@ -437,7 +437,7 @@ fn put_wanted(
     Ok(())
 }
 
-/// Whether a place returns a reference again, or acknowledges its return.
+/// Returns whether a place returns a reference again, or acknowledges its return.
 fn ends_wait(p: &Place, new: &[Returned], wait: &Waiting) -> bool {
     match &p.event.ask {
         Ask::Ack { uid } => uid.is_same(&wait.reference.uid),
@@ -473,7 +473,7 @@ fn put_new(moment: u64, new: &[Returned], waits: &mut Vec<Waiting>) -> Result<()
 
 // ---- replies
 
-/// What the event of a place is answered after others.
+/// Returns the reply to the event of a place after others.
 fn reply_of(alloc: Global, p: &Place, before: &[Place]) -> Result<Reply, AllocError> {
     match &p.event.ask {
         Ask::Open { .. } => Ok(Reply::Opened(id_at(CONFIG.uid, exported_count(alloc, before)?))),

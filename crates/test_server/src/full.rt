@@ -48,7 +48,7 @@ fn fill(rt: &impl Abort, alloc: Global, space: &mut Space) {
 const LINKS: &str = "0 | 1234 | 0 | | opening ping | ack pong | Ended
 1 | 1234 | 0 | | opening add_one ping | ack refused +5 first full_history | SpaceFull";
 
-/// Whether two Ticks were refused since the history is full.
+/// Returns whether two Ticks were refused since the history is full.
 fn are_refused(ticks: &[Asked]) -> bool {
     match ticks {
         [one, two] => is_refused(one) && is_refused(two),
@@ -56,7 +56,7 @@ fn are_refused(ticks: &[Asked]) -> bool {
     }
 }
 
-/// Whether an entry was refused since the history is full.
+/// Returns whether an entry was refused since the history is full.
 fn is_refused(entry: &Asked) -> bool {
     matches!(entry.end, AskedEnd::Refused(Refused::HistoryFull))
 }

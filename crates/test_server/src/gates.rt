@@ -1,5 +1,6 @@
 //! Links in memory that wait for one another.
 ghost use Rattle.std.specs.Prelude.{◌≡◌, IfSome, false};
+ghost use Rattle.wire_io.specs.Links.{IsNew};
 ghost use Rattle.wire_io.specs.Mem.{sink_half};
 ghost use Rattle.wire_io.specs.Wire.{AreNewHalves, untold_read};
 
@@ -15,10 +16,14 @@ use wire_io::{
 /// The most looks of a source that waits.
 const LOOKS: u32 = 10_000_000;
 
-/// How many halves of links were shut: two of each link that was served to its end.
+/// The number of halves that count as shut once the listener was told to stop, so that all links go on.
+const TOLD: u64 = 1_000_000;
+
+/// The number of halves of links that were shut: two of each link that was served to its end. Many more count as shut once the listener was
+/// told to stop.
 pub(crate) type Ended = Arc<AtomicU64, Global>;
 
-/// Whether so many halves were shut, after a wait for them.
+/// Waits until so many halves are shut, and returns whether they were.
 pub(crate) fn are_ended(ended: &Ended, wanted: u64) -> bool {
     for _ in 0..LOOKS {
         if ended.load(Ordering::SeqCst) >= wanted {
@@ -76,6 +81,7 @@ impl GatedSink {
 }
 
 impl Sink for GatedSink {
+    ghost use Rattle.wire_io.specs.Links.{IsNew};
     ghost use Rattle.wire_io.specs.Mem.{sink_half};
 
     ghost half = { λ s. sink_half s.sink };
@@ -125,9 +131,10 @@ impl Gated {
         Arc::try_clone(&self.ended).ok()
     }
 
-    /// Whether this call for a link fails.
+    /// Returns whether this call for a link fails, and counts the call.
     fn fails(&mut self) -> bool
         ensures faults { self.new.faults ≡ self.old.faults }
+        ensures links { self.new.links ≡ self.old.links }
     {
         let call = self.calls;
         self.calls = call.saturating_add(1);
@@ -146,11 +153,26 @@ impl Gated {
     fn next(&mut self) -> Option<Link<GatedSource, GatedSink, MemClock>>
         ensures halves { IfSome result (λ link. AreNewHalves (untold_read link.source.source.faults link.source.is_shut) (sink_half link.sink.sink)) }
         ensures faults { self.new.faults ≡ self.old.faults }
+        ensures told { self.new.links.told ≡ self.old.links.told }
+        ensures untold { IfSome result (λ link. self.old.links.told ≡ false) }
     {
         if self.fails() {
             return None;
         }
         let wanted = self.next_wanted();
+        let link = self.links.accept().ok()?;
+        self.gate(link, wanted)
+    }
+
+    /// The link, once it waits until so many halves were shut; None where there is no memory.
+    fn gate(
+        &self,
+        link: Link<MemSource, MemSink, MemClock>,
+        wanted: u64,
+    ) -> Option<Link<GatedSource, GatedSink, MemClock>>
+        requires halves { IsNew link }
+        ensures halves { IfSome result (λ link. AreNewHalves (untold_read link.source.source.faults link.source.is_shut) (sink_half link.sink.sink)) }
+    {
         let there = Arc::try_clone(&self.ended).ok()?;
         let here = Arc::try_clone(&self.ended).ok()?;
         let Link {
@@ -159,7 +181,7 @@ impl Gated {
             clock,
             host,
             port,
-        } = self.links.accept().ok()?;
+        } = link;
         Some(Link {
             source: GatedSource {
                 source,
@@ -185,7 +207,7 @@ impl Listener for Gated {
 
     type Ticks = MemClock;
 
-    ghost listening = { λ g. untold_listener g.faults false };
+    ghost listening = { λ g. untold_listener g.faults g.links.told };
 
     fn listen(&mut self, _address: &str, _port: u16) -> Result<(), Failed> {
         Ok(())
@@ -202,9 +224,24 @@ impl Listener for Gated {
     }
 
     fn wait(&mut self) -> Result<Waited<Link<GatedSource, GatedSink, MemClock>>, Failed> {
-        match self.accept() {
-            Ok(link) => Ok(Waited::Came(link)),
-            Err(failed) => Err(failed),
+        let wanted = self.next_wanted();
+        match self.links.wait() {
+            Ok(Waited::Came(link)) => match self.gate(link, wanted) {
+                Some(link) => Ok(Waited::Came(link)),
+                None => {
+                    self.faults = self.faults.saturating_add(1);
+                    Err(Failed)
+                }
+            },
+            Ok(Waited::Quiet) => Ok(Waited::Quiet),
+            Ok(Waited::Told) => {
+                let _before = self.ended.fetch_add(TOLD, Ordering::SeqCst);
+                Ok(Waited::Told)
+            }
+            Err(_failed) => {
+                self.faults = self.faults.saturating_add(1);
+                Err(Failed)
+            }
         }
     }
 }

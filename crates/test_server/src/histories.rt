@@ -12,7 +12,7 @@ use space::{Asked, AskedEnd, Space, outline};
 use std::alloc::{AllocError, Global};
 use std::process::Abort;
 
-/// Whether the outline of a space begins with this text.
+/// Returns whether the outline of a space begins with this text.
 pub(crate) fn begins_so(alloc: Global, space: &Space, text: &str) -> bool {
     if !space.is_stored() {
         return false;
@@ -56,7 +56,7 @@ fn lines_of(rt: &impl Abort, alloc: Global, by: u32, entries: &PortEntries) -> B
     text
 }
 
-/// Whether a line of a journal is of an event of connection `by`.
+/// Returns whether a line of a journal is of an event of connection `by`.
 pub(crate) fn is_of(line: &str, by: u32) -> bool {
     match line.split_once(' ') {
         Some((number, _rest)) => number.parse::<u32>().ok() == Some(by),
@@ -161,8 +161,8 @@ pub(crate) fn take_all(
     turns
 }
 
-/// Whether an entry was answered as the definitions answer the event at its place. None was refused, for these histories are short; and one
-/// that ended a call without an answer has a place alone.
+/// Returns whether an entry was answered as the definitions answer the event at its index. None was refused, for these histories are short.
+/// An entry that ended a call without an answer has an index alone.
 pub(crate) fn is_defined(entry: &Asked, answers: &[Turn]) -> bool {
     match &entry.end {
         AskedEnd::Turned(turn) => match answers.get(turn.place as usize) {
@@ -184,7 +184,7 @@ pub(crate) fn check_answers(rt: &impl Abort, entries: &PortEntries, answers: &[T
     }
 }
 
-/// Whether the outline of a space is that of a history by the definitions.
+/// Returns whether the outline of a space is that of a history by the definitions.
 pub(crate) fn is_outlined(alloc: Global, space: &Space, defined: &Defined) -> bool {
     if !space.is_stored() {
         return false;
@@ -204,7 +204,7 @@ pub(crate) fn lose_acks(events: &mut [Event]) {
     }
 }
 
-/// Whether `history_model` answers the same.
+/// Returns whether `history_model` answers the same.
 fn are_plain(answers: &[Result<Turn, Refused>], turns: &[Turn]) -> bool {
     for (place, answer) in answers.iter().enumerate() {
         let same = match (answer, turns.get(place)) {

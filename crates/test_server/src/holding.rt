@@ -13,10 +13,10 @@ use std::sync::{Arc, Wait};
 use std::thread::Threads;
 use test_support::spaces::CONFIG;
 
-/// A hand that answers its connection's number. That of the first connection waits until another link was served to its end, and answers
-/// nothing where none was.
+/// A hand that answers its connection's number. That of the first connection waits until another link was served to its end, or the listener was told to
+/// stop, and answers nothing where neither was.
 #[derive(Drop)]
-struct HoldingHand {
+pub(crate) struct HoldingHand {
     by: u32,
     ended: Ended,
     calls: u64,
@@ -44,8 +44,8 @@ impl Worker for HoldingHand {
 
 /// Has such hands.
 #[derive(Drop)]
-struct Holding {
-    ended: Ended,
+pub(crate) struct Holding {
+    pub(crate) ended: Ended,
 }
 
 impl Crew for Holding {

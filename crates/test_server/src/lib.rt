@@ -1,6 +1,9 @@
+// SPDX-License-Identifier: Apache-2.0 OR MIT
 //! Tests of the server with the sample's crew: links that are served at once, one after another, and many together, all in memory.
 #![tactic(auto)]
 
+#[cfg(test)]
+mod collecting;
 #[cfg(test)]
 mod defined;
 #[cfg(test)]
@@ -11,6 +14,8 @@ mod gates;
 mod histories;
 #[cfg(test)]
 mod holding;
+#[cfg(test)]
+mod hosting;
 #[cfg(test)]
 mod many;
 #[cfg(test)]

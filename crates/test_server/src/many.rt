@@ -17,13 +17,14 @@ use std::str;
 use std::sync::Wait;
 use std::thread::Threads;
 
-/// How many links there are.
+/// The number of links.
 const LINKS: u32 = 200;
 
-/// How many there are where `history_model` alone answers too.
+/// The number of links where `history_model` alone answers too.
 const FEW_LINKS: u32 = 4;
 
-/// What the clients do by turns. Each holds an object that another one may have made, and maybe was not made yet; and acknowledges its own.
+/// The lines that the clients follow by turns. Each client holds an object that another one may have made, and that may not be made yet.
+/// Each acknowledges its own object.
 const CLIENTS: &str =
     "0 | 1234 | 7 | | opening make acknowledge +5 first dirty objects 00000000 +18 in_space 77 08 0000000000000001 lease client 00000004 +0 of_client clean objects 00000000 +18 in_space 77 08 0000000000000002 client 00000004 +0 of_client weak
 0 | 1234 | 5 6 7 8 9 | | opening dirty objects 00000000 +17 in_space 77 08 0000000000000001 lease client 00000004 +0 of_client make acknowledge +5 first add_one
@@ -40,7 +41,7 @@ fn client_of(by: u32) -> &'static str {
     ""
 }
 
-/// What is told of so many clients that were served; None where there is no memory.
+/// Serves so many clients and returns their report; None where there is no memory.
 fn served_many<'t, R: Threads + Wait + Abort + Sync>(
     rt: &'t R,
     alloc: Global,

@@ -69,13 +69,13 @@ fn owns_of(alloc: Global, places: &[Place]) -> Result<Vec<Own>, AllocError> {
     Ok(owns)
 }
 
-/// How many references to an object await.
+/// Returns the number of references to an object that await.
 fn waits(waiting: &[Returned], object: ObjId) -> u64 {
     let count = waiting.iter().filter(|r| r.object.is_same(&object)).count();
     count as u64
 }
 
-/// How many clients hold an object.
+/// Returns the number of clients that hold an object.
 fn holders(alloc: Global, at: u64, owns: &[Own], object: ObjId) -> Result<u64, AllocError> {
     let mut count: u64 = 0;
     for own in owns {
@@ -86,7 +86,7 @@ fn holders(alloc: Global, at: u64, owns: &[Own], object: ObjId) -> Result<u64, A
     Ok(count)
 }
 
-/// How many names stand for an object.
+/// Returns the number of names that stand for an object.
 fn names_of(places: &[Place], names: &[Units], object: ObjId) -> u64 {
     let mut count: u64 = 0;
     for name in names {

@@ -40,7 +40,7 @@ ping | 3
 acknowledge +9 first | 5
 ping | 5";
 
-/// How many objects hands were told as gone.
+/// The number of objects that hands were told as gone.
 type Gone = Arc<AtomicU64, Global>;
 
 /// A hand that counts what it is told as gone, and makes a counter at each call.
@@ -191,7 +191,7 @@ impl Listener for Noting {
     }
 }
 
-/// What is told of all.
+/// A report of all links.
 type Noted = Report<NotingSource, GatedSink, MemClock, CountingHand>;
 
 /// The line of the connection, as those of `rows`.
@@ -264,7 +264,7 @@ fn put_due(rt: &impl Abort, due: &mut Kinds, count: usize, told: u32) {
     }
 }
 
-/// How many objects the hand is to have been told as gone when each byte is asked for, and when the end is.
+/// Returns the numbers of objects that the hand must have been told as gone: one when each byte is asked for, and one when the end is.
 fn due_of(rt: &impl Abort, alloc: Global) -> Kinds {
     let mut due = Kinds::new(alloc);
     let mut told = 1;

@@ -11,12 +11,12 @@ use std::alloc::Global;
 use std::process::Abort;
 use std::str;
 
-/// Whether a word is the number of this object.
+/// Returns whether a word is the number of this object.
 fn is_object(object: &ObjId, word: &str) -> bool {
     word.parse::<i64>().ok() == Some(object.number)
 }
 
-/// Whether words are the numbers of these objects, none or one.
+/// Returns whether words are the numbers of these objects, none or one.
 fn are_objects(objects: &ObjIds, words: &str) -> bool {
     match objects.first() {
         Some(object) => objects.len() == 1 && is_object(object, words),
@@ -24,15 +24,15 @@ fn are_objects(objects: &ObjIds, words: &str) -> bool {
     }
 }
 
-/// Whether words tell the object that a name stands for, and its kind: `16 kind 0`.
+/// Returns whether words tell the object that a name stands for, and its kind: `16 kind 0`.
 fn is_found(object: &ObjId, kind: u32, words: &str) -> bool {
     let (number, rest) = cut(words, ' ');
     let (word, of) = cut(rest, ' ');
     is_object(object, number) && word == "kind" && of.parse::<u32>().ok() == Some(kind)
 }
 
-/// Whether words tell a reply: its name, and then the kind of a called object; the new object of a Return, if there is one; the duration of a
-/// lease; what a name stands for; or how many names there are.
+/// Returns whether words tell a reply. They tell its name first. Then comes the kind of a called object; the new object of a Return, if
+/// there is one; the duration of a lease; the object that a name stands for; or the number of names.
 fn is_reply(reply: &Reply, words: &str) -> bool {
     let (name, rest) = cut(words, ' ');
     match reply {
@@ -52,7 +52,7 @@ fn is_reply(reply: &Reply, words: &str) -> bool {
     }
 }
 
-/// Whether words tell how an entry ended. A call that ended without an answer is done.
+/// Returns whether words tell the end of an entry. A call that ended without an answer is done.
 fn is_end(end: &AskedEnd, words: &str) -> bool {
     match end {
         AskedEnd::Turned(turn) => is_reply(&turn.reply, words),

@@ -19,13 +19,13 @@ pub(crate) use test_support::spaces::{CONFIG, SPACE};
 use turn_lock::TurnLock;
 use wire_io::{Link, MemClock, MemLinks, MemListener, MemSink, MemSource};
 
-/// What is told of one link.
+/// A report of one link.
 pub(crate) type LinkOf<'t, R> = LinkReport<GatedSource, GatedSink, MemClock, SampleHand<'t, R>>;
 
-/// What is told of all.
+/// A report of all links.
 pub(crate) type ReportOf<'t, R> = Report<GatedSource, GatedSink, MemClock, SampleHand<'t, R>>;
 
-/// Whether a host has few enough bytes.
+/// Returns whether a host has at most 255 bytes.
 pub(crate) fn is_short(host: &Units) -> bool
     ensures { IsTrue result → length (utf host.now) ≤ 255 }
 {
@@ -106,6 +106,18 @@ impl Cases {
         must(rt, noted.is_ok(), "memory");
     }
 
+    /// The listener of these links, whose waits of the indices `quiet` give no link, and which is told to stop at the wait of the index `stop`; None where
+    /// there is no memory.
+    pub(crate) fn hosted(self, alloc: Global, quiet: Kinds, stop: u64) -> Option<Gated> {
+        let Cases {
+            links,
+            wanted,
+            failing,
+        } = self;
+        let listener = MemListener::waiting(alloc, links, quiet, Some(stop));
+        Gated::new(alloc, listener, wanted, failing)
+    }
+
     /// The listener of these links; None where there is no memory.
     pub(crate) fn listener(self, alloc: Global) -> Option<Gated> {
         let Cases {
@@ -184,7 +196,7 @@ pub(crate) fn serve_links<'t, R: Threads + Wait + Sync>(
     serve_over(rt, alloc, listener, &crew, space, plan)
 }
 
-/// What a server is told: how many links it is to serve, and its port.
+/// Returns the plan of a server, with the number of links that it serves and its port.
 pub(crate) fn plan_of(rt: &impl Abort, alloc: Global, count: u32, port: i32) -> ServePlan
     ensures { result.count ≡ count }
 {
@@ -197,7 +209,7 @@ pub(crate) fn plan_of(rt: &impl Abort, alloc: Global, count: u32, port: i32) -> 
     }
 }
 
-/// Whether a connection ended so.
+/// Returns whether a connection ended as this text says.
 pub(crate) fn is_told(alloc: Global, end: ConnEnd, text: &str) -> bool {
     match format!(in alloc; "{end:?}") {
         Ok(told) => told.as_str() == text,
@@ -205,7 +217,7 @@ pub(crate) fn is_told(alloc: Global, end: ConnEnd, text: &str) -> bool {
     }
 }
 
-/// Whether these bytes were written: where the words end with `?`, the last one is left open.
+/// Returns whether these bytes were written. Where the words end with `?`, the last byte may be any.
 fn is_written(held: &[u8], wanted: &[u8], is_open: bool) -> bool {
     if is_open {
         match held.split_last() {

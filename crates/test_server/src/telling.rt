@@ -19,8 +19,8 @@ use wire_io::MemClock;
 
 /// Has hands that answer their connection's number to the first invocation, and keep their calls.
 #[derive(Drop)]
-struct Recorders {
-    alloc: Global,
+pub(crate) struct Recorders {
+    pub(crate) alloc: Global,
 }
 
 impl Crew for Recorders {
@@ -33,11 +33,11 @@ impl Crew for Recorders {
     }
 }
 
-/// What is told of all.
+/// A report of all links.
 type Told = Report<GatedSource, GatedSink, MemClock, RecordingWorker>;
 
 /// The object that is made beforehand. No client holds it.
-const MADE: ObjId = ObjId {
+pub(crate) const MADE: ObjId = ObjId {
     number: 19,
     space: SPACE,
 };
@@ -96,7 +96,7 @@ const CALLING: &str =
     "0 | 1234 | 300000 | | opening add_one | ack number +5 first 00000000 +0 | Ended
 0 | 1234 | 300001 | | opening add_one | ack number +5 first 00000000 +0 | Ended";
 
-/// Whether the hands were told so: the first of the object that is gone, and each of its call.
+/// Returns whether the hands were told so: the first of the object that is gone, and each of its call.
 fn are_told(first: &[Recorded], second: &[Recorded]) -> bool {
     match (first, second) {
         ([Recorded::Unreferenced(gone), Recorded::Invoked(_, _)], [Recorded::Invoked(_, _)]) =>

@@ -6,9 +6,10 @@ use std::process::Abort;
 use test_support::texts;
 pub(crate) use test_support::texts::cut;
 
-/// What words stand for: an opening, and its acknowledgement to the peer 127.0.0.1, port 1234; a Ping and its answer; calls of the counter,
-/// which is object 17, of the maker, which is object 18, and of a counter that is made; what Returns begin with; references to a counter and to
-/// the object that echoes, and an exception; calls of the registry up to the operation, and pieces of calls of the collector, of an object's and of a client's identifier, and of that in the lease that a client is granted.
+/// The bytes that each word stands for. The words name: an opening, and its acknowledgement to the peer 127.0.0.1, port 1234; a Ping and
+/// its answer; calls of the counter, which is object 17, of the maker, which is object 18, and of a counter that is made; the beginning of
+/// Returns; references to a counter and to the object that echoes, and an exception; calls of the registry up to the operation; pieces of
+/// calls of the collector, of an object's and of a client's identifier, and of that in the lease that a client is granted.
 const WORDS: &str = "opening 4A524D49 0002 4B 0000 00000000
 ack 4E 0009 3132372E302E302E31 000004D2
 ping 52
@@ -77,7 +78,7 @@ fn put_word(rt: &impl Abort, bytes: &mut ByteList, word: &str, by: u32) {
     }
 }
 
-/// What words stand for, on the connection of this number.
+/// Returns the bytes of these words on the connection of this number.
 pub(crate) fn bytes_of(rt: &impl Abort, alloc: Global, words: &str, by: u32) -> ByteList {
     let mut bytes = ByteList::new(alloc);
     for word in words.split(' ') {

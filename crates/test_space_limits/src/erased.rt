@@ -6,7 +6,7 @@ use std::alloc::Global;
 use std::io;
 use std::io::Write;
 
-/// How many rounds of three turns are made.
+/// The number of rounds of three turns.
 const ROUNDS: u32 = 1_200_000;
 
 /// Runs a call that returns a new object, and acknowledges the return, by which the object goes.

@@ -6,7 +6,7 @@ use std::alloc::Global;
 use std::io;
 use std::io::Write;
 
-/// How many calls are begun at most.
+/// The most calls that are begun.
 const CALLS: u32 = 1_000;
 
 /// Begins calls of the first object, up to the first that is refused, and answers how many were begun.

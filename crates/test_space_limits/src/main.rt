@@ -1,3 +1,4 @@
+// SPDX-License-Identifier: Apache-2.0 OR MIT
 //! Drives spaces by turns to their limits, and prints what they answer there. Each word of the command line names what is
 //! filled: `history`, `pairs`, `returns`, `twice`, `clients`, `exports`, `names`, by `lookups` the references that await, by `many_pairs` the
 //! pairs, by calls that each name many objects, or by `many_calls` the running calls, or by `many_clients` the clients, in no order. By
@@ -100,7 +101,8 @@ fn abandon(space: &mut Space) -> Result<(), Refused> {
     turn(space, 1, Ask::Abandon { object })
 }
 
-/// What returns a call of the first object, with so many new objects, and with the first object so many times.
+/// The request that returns a call of the first object, with so many new objects, and with the first object so many
+/// times.
 fn finish_ask(alloc: Global, made: u32, listed: u32, unique: i32) -> Result<Ask, AllocError> {
     let made = vec![in alloc; 1; made as usize]?;
     let listed = vec![in alloc; object(0); listed as usize]?;
@@ -126,7 +128,8 @@ fn finish(
     }
 }
 
-/// What returns a call of the first object, with so many objects, from the first on, and with the first once more.
+/// The request that returns a call of the first object, with so many objects, from the first on, and with the first
+/// once more.
 fn finish_all_ask(alloc: Global, count: u32, unique: i32) -> Result<Ask, AllocError> {
     let mut listed = first_objects(alloc, count)?;
     listed.push(object(0))?;

@@ -6,7 +6,7 @@ use std::io;
 use std::io::Write;
 use test_support::spaces::{CONFIG, FIRST};
 
-/// How many connections run a call.
+/// The number of connections that run a call.
 const CONNECTIONS: u32 = 60_000;
 
 /// Makes a turn of a connection, whose answer counts for nothing unless it is refused.
@@ -34,7 +34,7 @@ fn end(space: &mut Space) -> Result<(), Refused> {
     Ok(())
 }
 
-/// How many calls run in all, one connection after another.
+/// Returns the number of calls that run in all, one connection after another.
 fn running(space: &Space) -> u64 {
     let mut running: u64 = 0;
     for by in 0..CONNECTIONS {

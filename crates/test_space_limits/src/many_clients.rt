@@ -13,7 +13,7 @@ use std::io::Write;
 use std::{io, str};
 use test_support::spaces::{CONFIG, FIRST, SPACE};
 
-/// How many clients there are.
+/// The number of clients.
 const CLIENTS: u64 = 65_536;
 
 /// The number of the client that comes as the k-th: each number below 65,536 once, for k below it.
@@ -73,7 +73,7 @@ fn fill(alloc: Global, space: &mut Space) -> Result<(), Refused> {
     take(space, 600_000, Ask::Tick)
 }
 
-/// Whether a line comes behind another in the order of bytes.
+/// Returns whether a line comes behind another in the order of bytes.
 fn is_behind(line: &[u8], other: &[u8]) -> bool {
     match other.cmp(line) {
         Ordering::Less => true,

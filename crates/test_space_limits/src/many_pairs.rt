@@ -9,7 +9,7 @@ use std::io::Write;
 use std::{io, str};
 use test_support::spaces::{CONFIG, SPACE};
 
-/// How many objects there are.
+/// The number of objects.
 const OBJECTS: u32 = 65_536;
 
 /// The identifier of the return that has the new objects.

@@ -11,10 +11,10 @@ use std::alloc::{AllocError, Global};
 use std::io::Write;
 use std::{io, str};
 
-/// How many objects there are.
+/// The number of objects.
 const OBJECTS: u32 = 65_536;
 
-/// How many rounds of four turns are made.
+/// The number of rounds of four turns.
 const ROUNDS: u32 = 50_000;
 
 /// Makes a turn, whose answer counts for nothing unless it is refused.

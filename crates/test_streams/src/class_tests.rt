@@ -43,7 +43,7 @@ java.io.IOException 6C8073646525F0AB 02
 java.lang.Exception D0FD1F3E1A3B1CC4 02
 java.lang.Throwable D5C635273977B8CB 03 L:detailMessage:Ljava/lang/String;";
 
-/// Whether a field is that of a word.
+/// Returns whether a field is that of a word.
 fn is_field(field: &PartField, word: &str) -> bool {
     let (code, rest) = cut(word, ':');
     let (name, type_text) = cut(rest, ':');
@@ -52,7 +52,7 @@ fn is_field(field: &PartField, word: &str) -> bool {
         && is_text(&field.type_text, type_text)
 }
 
-/// Whether a class's parts are those of a line.
+/// Returns whether a class's parts are those of a line.
 fn is_line(parts: &ClassParts, line: &str) -> bool {
     let (name, rest) = cut(line, ' ');
     let (suid, rest) = cut(rest, ' ');
@@ -88,7 +88,7 @@ A 0 12 null - = right
 A 0 12 null - I:a = bad flags
 A 1 12 null - = bad flags";
 
-/// What a check answers, in a word or two.
+/// The answer of a check, in a word or two.
 fn words_of(answer: Result<(), DescFault>) -> &'static str {
     match answer {
         Ok(()) => "right",

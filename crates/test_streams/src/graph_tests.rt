@@ -157,7 +157,7 @@ item #26
  75 72 '[Z' 0000000000000001 02 0000 70 78 70 00000000 75 71 007E0015 00000001 01
  75 72 '[[B' 0000000000000001 02 0000 70 78 70 00000000 75 71 007E0018 00000001 70";
 
-/// Whether a graph is read of these bytes.
+/// Returns whether a graph is read of these bytes.
 fn is_read(rt: &impl Abort, alloc: Global, notation: &str, graph: &Graph) -> bool {
     let bytes = bytes_of(alloc, notation).expect(rt, MEMORY);
     same_graph(&read(rt, alloc, bytes), graph)
@@ -184,7 +184,7 @@ block 256 = ACED0005 7A 00000100 61 = 61 = 265 ~
 block 1024 = ACED0005 7A 00000400 61 = 61 61 61 = 1033 ~
 block 1025 = ACED0005 7A 00000400 61 = 61 77 01 61 = 1036";
 
-/// Whether a stream begins or ends with these bytes.
+/// Returns whether a stream begins or ends with these bytes.
 fn has_end(rt: &impl Abort, alloc: Global, stream: &[u8], notation: &str, first: bool) -> bool {
     let bytes = bytes_of(alloc, notation).expect(rt, MEMORY);
     if first {
@@ -194,7 +194,7 @@ fn has_end(rt: &impl Abort, alloc: Global, stream: &[u8], notation: &str, first:
     }
 }
 
-/// Whether what is written of a graph has its first bytes, its last ones, and its length.
+/// Returns whether the bytes that are written of a graph have this beginning, this end and this length.
 fn is_long(rt: &impl Abort, alloc: Global, graph: &Graph, parts: &str) -> bool {
     let (first, rest) = cut(parts, '=');
     let (last, length) = cut(rest, '=');
@@ -213,13 +213,13 @@ fn lengths_are_written(rt: HostRuntime) {
     }
 }
 
-/// How many nodes and items a graph has.
+/// Returns the numbers of nodes and items of a graph.
 fn counts(graph: Graph) -> (usize, usize) {
     let (nodes, items) = graph.into_parts();
     (nodes.len(), items.len())
 }
 
-/// How many nodes and items a script's graph has, or why its nodes are none.
+/// Returns the numbers of nodes and items of a script's graph, or why its nodes are none.
 fn shape_of(rt: &impl Abort, alloc: Global, script: &str) -> String {
     let text = match graph_of(rt, alloc, script) {
         Ok(graph) => {
@@ -327,7 +327,7 @@ fn parts_are_no_more_than_1048576(rt: HostRuntime) {
     check(&rt, rt.alloc(), ONE_PART_MORE);
 }
 
-/// Whether a graph's text is this one and the end of its last line.
+/// Returns whether a graph's text is this one and the end of its last line.
 fn is_shown_as(rt: &impl Abort, alloc: Global, graph: &Graph, text: &str) -> bool {
     let shown = graph_text(alloc, graph).expect(rt, MEMORY);
     shown.as_slice().strip_suffix(b"\n") == Some(text.trim().as_bytes())
@@ -381,20 +381,20 @@ item #0 ~
 null =
 item null"#;
 
-/// Whether a reference of a graph reaches what a row says, which is all of the graph for `#2` alone.
+/// Returns whether a reference of a graph reaches what a row says, which is all of the graph for `#2` alone.
 fn is_part(rt: &impl Abort, alloc: Global, graph: &Graph, row: &str) -> bool {
     let (slot, lines) = cut(row, '=');
     let part = graph.part(alloc, slot_of(slot)).expect(rt, row);
     is_shown_as(rt, alloc, &part, lines) && same_graph(graph, &part) == (slot == "#2 ")
 }
 
-/// Whether a copy of a graph is the same.
+/// Returns whether a copy of a graph is the same.
 fn is_copied(rt: &impl Abort, alloc: Global, graph: &Graph) -> bool {
     let copy = graph.copy(alloc).expect(rt, MEMORY);
     same_graph(graph, &copy)
 }
 
-/// Whether a graph has three nodes and one item.
+/// Returns whether a graph has three nodes and one item.
 fn is_of_three(graph: &Graph) -> bool {
     graph.count() == 3
         && graph.items().len() == 1
@@ -402,7 +402,7 @@ fn is_of_three(graph: &Graph) -> bool {
         && graph.node(3).is_none()
 }
 
-/// Whether the graph of a script is shown in these lines, and what its references reach in these.
+/// Returns whether the graph of a script is shown in these lines, and the parts that its references reach in these.
 fn is_shown(rt: &impl Abort, alloc: Global, script: &str, lines: &str, parts: &str) -> bool {
     let graph = graph_of(rt, alloc, script).expect(rt, script);
     for row in parts.split('~') {

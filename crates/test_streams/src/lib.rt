@@ -1,3 +1,4 @@
+// SPDX-License-Identifier: Apache-2.0 OR MIT
 //! Tests of the crates that speak of streams, from units and lists up to the text of a graph.
 //!
 //! A case is a line of text with what it must give, and one loop runs all lines of its kind.

@@ -7,8 +7,8 @@ use std::process::Abort;
 use wire_io::mem::MemSource;
 use wire_io::pull::Pull;
 
-/// What is asked for (a digit: so many bytes; `r`: a reference; `*`: all to the end), what the source gives, how many bytes the
-/// message may have, and the answer.
+/// Rows of readings: the wants (a digit: so many bytes; `r`: a reference; `*`: all to the end), the bytes of the
+/// source, the most bytes of the message, and the answer.
 const CASES: &str = "3rr : ACED0005 770109 7A000000020807 7700 74000161 71007E0000 70 : 99 : read
  : ACED0005 770109 : 99 : read
 0 : ACED0005 770109 : 99 : read
@@ -166,7 +166,7 @@ fn read_asked(
     Ok(())
 }
 
-/// What reading these wants answers.
+/// Returns the answer of reading these wants.
 fn read(alloc: Global, pull: &mut Pull<'_, MemSource>, wants: &str) -> Result<(), StreamFault> {
     if wants != "*" {
         return read_asked(alloc, pull, wants);
@@ -199,7 +199,7 @@ fn answer_of(
     words.expect(rt, MEMORY)
 }
 
-/// Whether reading answers what a line says, of a source that gives so many bytes one by one.
+/// Returns whether reading answers what a line says, of a source that gives so many bytes one by one.
 fn is_answered(rt: &impl Abort, alloc: Global, line: &str, single: u64) -> bool {
     let (wants, rest) = cut(line, ':');
     let (bytes, rest) = cut(rest, ':');
@@ -259,7 +259,7 @@ fn elements_and_names_are_at_most_1048576(rt: HostRuntime) {
     check_whole(&rt, rt.alloc(), ELEMENTS);
 }
 
-/// How many answers a list of wants has, how many items and nodes its graph, and how many bytes were taken.
+/// Returns the numbers of answers to a list of wants, of items and nodes of its graph, and of bytes that were taken.
 fn counts_of_wants(
     rt: &impl Abort,
     alloc: Global,
@@ -281,7 +281,7 @@ fn a_list_of_wants_is_read(rt: HostRuntime) {
     must(&rt, counts == (3, 3, 1, 25), stream);
 }
 
-/// How many answers a reader has for one list of wants and then for another, and how many bytes were taken.
+/// Returns the numbers of a reader's answers to one list of wants and then to another, and of bytes that were taken.
 fn counts_served(
     rt: &impl Abort,
     alloc: Global,

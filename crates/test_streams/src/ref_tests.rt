@@ -101,7 +101,7 @@ fn stubs(rt: &impl Abort, alloc: Global, flag: u8) -> ByteList {
     bytes
 }
 
-/// Whether the local references of a graph are those of the objects 17 and 16, each once.
+/// Returns whether the local references of a graph are those of the objects 17 and 16, each once.
 fn has_two(rt: &impl Abort, alloc: Global, graph: &Graph) -> bool {
     let host = ascii(alloc, "127.0.0.1").expect(rt, MEMORY);
     let ids = local_refs(alloc, graph, &host, 1099).expect(rt, MEMORY);

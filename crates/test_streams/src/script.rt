@@ -354,7 +354,7 @@ fn add(
     })
 }
 
-/// Whether a command answered these words: a reference, or why it was refused. With no words any node is right.
+/// Returns whether a command answered these words: a reference, or why it was refused. With no words any node is right.
 fn is_answered(answer: Result<Slot, BuildFault>, words: &str) -> bool {
     match answer {
         Ok(slot) => words.is_empty() || words != "null" && slot == slot_of(words),

@@ -95,7 +95,7 @@ pub fn read(rt: &impl Abort, alloc: Global, bytes: ByteList) -> Graph {
     read_to_end(alloc, &mut Pull::new(&mut source)).expect(rt, "a stream")
 }
 
-/// Whether a reference is that of a host, a port, an object's number and a truth value.
+/// Returns whether a reference is that of a host, a port, an object's number and a truth value.
 fn is_ref(reference: &LiveRef, words: &str) -> bool {
     let (host, rest) = cut(words, ' ');
     let (port, rest) = cut(rest, ' ');
@@ -106,7 +106,7 @@ fn is_ref(reference: &LiveRef, words: &str) -> bool {
         && reference.result == (result == "true")
 }
 
-/// Whether a client is that of an address and a unique number.
+/// Returns whether a client is that of an address and a unique number.
 fn is_client(rt: &impl Abort, alloc: Global, vmid: &Vmid, words: &str) -> bool {
     let (addr, unique) = cut(words, ' ');
     let unique = number_of(unique.as_bytes());
@@ -115,21 +115,21 @@ fn is_client(rt: &impl Abort, alloc: Global, vmid: &Vmid, words: &str) -> bool {
         && u64::from(u32::from_be_bytes(vmid.uid().unique.to_be_bytes())) == unique
 }
 
-/// Whether the first of some identifiers has a number.
+/// Returns whether the first of some identifiers has a number.
 fn is_first(ids: &ObjIds, number: &str) -> bool {
     let number = number_of(number.as_bytes()).to_be_bytes();
     ids.first()
         .is_some_and(|id| id.number.to_be_bytes() == number)
 }
 
-/// Whether a lease has a value and a client or none.
+/// Returns whether a lease has a value and a client or none.
 fn is_lease(lease: &LeaseView, words: &str) -> bool {
     let (value, client) = cut(words, ' ');
     lease.value.to_be_bytes() == decimal(value).to_be_bytes()
         && lease.vmid.is_some() == (client == "client")
 }
 
-/// Whether a text, a list of texts or a fault is told so; nothing where a slot has another shape.
+/// Returns whether these words tell a text, a list of texts or a fault, or none where a slot has another shape.
 fn tells_text(alloc: Global, graph: &Graph, view: &str, slot: Slot, words: &str) -> Option<bool> {
     match view {
         "text" => Some(is_text(&as_text(alloc, graph, slot).ok()?, words)),
@@ -138,7 +138,8 @@ fn tells_text(alloc: Global, graph: &Graph, view: &str, slot: Slot, words: &str)
     }
 }
 
-/// Whether identifiers, a client, a lease or a reference is told so; nothing where a slot has another shape.
+/// Returns whether these words tell identifiers, a client, a lease or a reference, or none where a slot has another
+/// shape.
 fn tells_id(
     rt: &impl Abort,
     alloc: Global,
@@ -155,7 +156,7 @@ fn tells_id(
     }
 }
 
-/// Whether a view tells these words of a slot: that it has another shape where they are `wrong`.
+/// Returns whether a view tells these words of a slot. The words `wrong` say that the slot has another shape.
 fn tells(rt: &impl Abort, alloc: Global, graph: &Graph, line: &str) -> bool {
     let (view, rest) = cut(line.trim(), ' ');
     let (slot, words) = cut(rest, ' ');
@@ -219,7 +220,7 @@ const NO_IDS: &str =
 const TEXTS: &str =
     "ACED0005 75 72 '[Ljava.lang.String;' ADD256E7E91D7B47 02 0000 70 78 70 00000002 74 'a' 74 'b'";
 
-/// Whether a graph is written as these bytes.
+/// Returns whether a graph is written as these bytes.
 pub fn is_written(rt: &impl Abort, alloc: Global, graph: &Graph, notation: &str) -> bool {
     let bytes = bytes_of(alloc, notation).expect(rt, MEMORY);
     let written = write_stream(alloc, graph).expect(rt, MEMORY);
@@ -268,7 +269,7 @@ fn put(rt: &impl Abort, alloc: Global, builder: &mut Builder, word: &str) -> Slo
     slot.expect(rt, word)
 }
 
-/// What is put into a builder, and how the graph of it is written.
+/// Words for objects that are put into a builder, and the bytes that are written of the graph of each.
 const BUILT: [(&str, &str); 6] = [
     ("fault", FAULT),
     ("lease", LEASE),

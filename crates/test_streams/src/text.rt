@@ -1,4 +1,4 @@
-//! What the tests' lines are read with.
+//! Readers of the tests' lines.
 use class_desc::Slot;
 use mod_utf::utf::units_of_ascii;
 use sequence::{ByteList, Sequence, Units};
@@ -6,7 +6,7 @@ use std::alloc::{AllocError, Global};
 use std::process::Abort;
 use test_support::texts::{digit_of, put_digits};
 
-/// What a test can't do without.
+/// The message where a test finds no memory.
 pub const MEMORY: &str = "memory";
 
 /// Stops where this does not hold, and says what it is.
@@ -14,7 +14,8 @@ pub fn must(rt: &impl Abort, holds: bool, what: &str) {
     assert!(rt; holds, "{what}");
 }
 
-/// What stands before the first mark, and what after it: all and nothing where the mark is missing.
+/// Returns the text before the first mark, and the text after it. Where the mark is missing, they are the whole text
+/// and nothing.
 pub fn cut(text: &str, mark: char) -> (&str, &str) {
     text.split_once(mark).unwrap_or((text, ""))
 }
@@ -82,7 +83,7 @@ pub fn ascii(alloc: Global, text: &str) -> Result<Units, AllocError> {
     units_of_ascii(alloc, text.as_bytes())
 }
 
-/// Whether a text has these ASCII characters.
+/// Returns whether a text has these ASCII characters.
 pub fn is_text(units: &Units, text: &str) -> bool {
     units.len() == text.len()
         && units

@@ -14,13 +14,13 @@ const SPELLINGS: &str = "=
 007F 0080 07FF 0800 FFFF = 7F C2 80 DF BF E0 A0 80 EF BF BF
 D83D DE00 = ED A0 BD ED B8 80";
 
-/// Whether these bytes spell a text, and no others do.
+/// Returns whether these bytes spell a text, and no others do.
 fn is_spelled(rt: &impl Abort, alloc: Global, units: &Units, bytes: &[u8]) -> bool {
     let written = encode(alloc, units).expect(rt, MEMORY);
     encoded_len(units) == bytes.len() as u64 && written.as_slice() == bytes
 }
 
-/// Whether a text is read of these bytes.
+/// Returns whether a text is read of these bytes.
 fn is_read(alloc: Global, units: &Units, bytes: &[u8]) -> bool {
     decode(alloc, bytes).is_ok_and(|text| text.as_slice() == units.as_slice())
 }
@@ -79,7 +79,7 @@ fn seven_to_nine(rt: &impl Abort, alloc: Global) -> Units {
     units
 }
 
-/// Whether a list lends its items by their places and one by one, where they are 7, 8 and 9.
+/// Returns whether a list lends its items by their places and one by one, where they are 7, 8 and 9.
 fn lends(units: &Units) -> bool {
     let mut digits: u64 = 0;
     for unit in units {

@@ -1,4 +1,5 @@
-//! What several test crates share: the space that they are about, and bytes and numbers from text.
+// SPDX-License-Identifier: Apache-2.0 OR MIT
+//! Helpers of several test crates: the space that they test, and bytes and numbers from text.
 #![tactic(auto)]
 
 pub mod spaces;

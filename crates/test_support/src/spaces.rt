@@ -9,7 +9,7 @@ pub const SPACE: Uid = Uid {
     count: 0,
 };
 
-/// What the space keeps to.
+/// The settings of the space.
 pub const CONFIG: SpaceConfig = SpaceConfig {
     lease_ms: 600_000,
     ack_ms: 300_000,

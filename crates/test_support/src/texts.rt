@@ -4,7 +4,7 @@ ghost use Rattle.std.specs.Prelude.{◌<◌, IfSome};
 use sequence::{ByteList, Kinds, MomentList};
 use std::alloc::{AllocError, Global};
 
-/// What stands before the separator, and what after it, each without blanks around it.
+/// Returns the text before the separator and the text after it, each without blanks around it.
 pub fn cut(text: &str, separator: char) -> (&str, &str) {
     let (front, rest) = text.split_once(separator).unwrap_or((text, ""));
     (front.trim(), rest.trim())
@@ -37,8 +37,8 @@ pub fn put_digits(bytes: &mut ByteList, digits: &str) -> Result<(), AllocError> 
     Ok(())
 }
 
-/// What a word stands for in a table, each line of which has a name, a blank and what the name stands for; where the word is no name, the
-/// word itself.
+/// Returns the meaning of a word in a table. Each line of the table has a name, a blank and the name's meaning. A word
+/// that is no name is returned itself.
 pub fn meaning_of<'t>(table: &'t str, word: &'t str) -> &'t str {
     for line in table.split('\n') {
         let (name, meaning) = cut(line, ' ');

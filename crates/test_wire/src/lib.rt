@@ -1,3 +1,4 @@
+// SPDX-License-Identifier: Apache-2.0 OR MIT
 //! Tests of connections: in memory, and over TCP on this machine alone.
 #![tactic(auto)]
 

@@ -12,7 +12,7 @@ use wire_io::{
     Dialer, Failed, Listener, Sink, Source, TcpDial, TcpListen, TcpSink, TcpSource, Waited,
 };
 
-/// How many ports are tried.
+/// The most ports that are tried.
 const TRIES: u32 = 20;
 
 /// This machine, at a port.
@@ -41,7 +41,7 @@ fn listen<R: Net<Listener = TcpListener, Stream = TcpStream>, L: Listener>(
     None
 }
 
-/// What is left of these bytes after a read, if that gave a front of them.
+/// Returns the rest of these bytes after a read, if that gave a front of them.
 fn after_read<'b>(source: &mut TcpSource, left: &'b [u8]) -> Option<&'b [u8]> {
     let mut buf = [0; 16];
     let count = source.read(&mut buf).ok()?;
@@ -53,7 +53,7 @@ fn after_read<'b>(source: &mut TcpSource, left: &'b [u8]) -> Option<&'b [u8]> {
     }
 }
 
-/// Whether a source gives these bytes next, in pieces of any length.
+/// Returns whether a source gives these bytes next, in pieces of any length.
 fn gives(source: &mut TcpSource, wanted: &[u8]) -> bool {
     let mut left = Some(wanted);
     for _ in wanted {
@@ -103,7 +103,7 @@ fn check_sink(rt: &impl Abort, sink: &mut TcpSink, peer: &mut TcpStream) {
     must(rt, peer.read(&mut buf).ok() == Some(0), "and its end");
 }
 
-/// Whether a text is `127.0.0.1`.
+/// Returns whether a text is `127.0.0.1`.
 fn is_here(host: &Units) -> bool {
     let mut left = host.as_slice();
     for byte in b"127.0.0.1" {
@@ -213,6 +213,31 @@ where
 #[test]
 fn a_listener_waits_for_what_is_dialled(rt: HostRuntime) {
     must(&rt, check_waits(&rt, rt.alloc()).is_some(), "a listener");
+}
+
+/// Looks at a link whose listener is told to stop: nothing more is read, as if the peer sent no more, and what is written still goes out.
+fn check_told<R>(rt: &R, alloc: Global) -> Option<()>
+where
+    R: Net<Listener = TcpListener, Stream = TcpStream> + Clock + Abort + Sync,
+{
+    let flag = Arc::new(alloc, AtomicBool::new(false)).ok()?;
+    let mut listener = TcpListen::with_flag(alloc, rt, Arc::try_clone(&flag).ok()?);
+    let port = listen(rt, &mut listener)?;
+    let mut peer = TcpStream::connect(rt, here(port)).ok()?;
+    let mut link = listener.accept().ok()?;
+    must(rt, peer.write_all(b"a").is_ok(), "the peer writes");
+    must(rt, gives(&mut link.source, b"a"), "the source gives it");
+    flag.store(true, Ordering::SeqCst);
+    let mut buf = [0; 1];
+    must(rt, link.source.read(&mut buf) == Ok(0), "nothing more");
+    must(rt, link.source.faults() == 0, "no fault");
+    check_sink(rt, &mut link.sink, &mut peer);
+    Some(())
+}
+
+#[test]
+fn a_link_ends_where_its_listener_is_told_to_stop(rt: HostRuntime) {
+    must(&rt, check_told(&rt, rt.alloc()).is_some(), "a connection");
 }
 
 /// Looks at the limits of time of a connection's halves, before and after the first byte.

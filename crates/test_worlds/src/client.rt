@@ -88,7 +88,7 @@ fn is_closed(log: &[Entry], number: i64) -> bool {
     log.iter().any(|entry| *entry == wanted)
 }
 
-/// When the dirty call under way of this number was sent.
+/// The moment at which the dirty call under way of this number was sent, or none.
 fn sending_of(log: &[Entry], wanted: i64) -> Option<u64> {
     for entry in log {
         if let Entry::Dirty { number, moment } = *entry {

@@ -1,11 +1,13 @@
+// SPDX-License-Identifier: Apache-2.0 OR MIT
 //! Judges worlds by their definitions: makes random worlds, the same in each run, and compares the answer to each step, and after each step that is
-//! taken what is printed of the server and of the clients, with what plain functions over the lists of what was done say. Before that, the worked rows.
+//! taken what is printed of the server and of the clients, with what plain functions over the lists of what was done say. Before that, the worked rows and the refusals.
 #![tactic(auto)]
 
 mod client;
 mod draws;
 mod judge;
 mod plain;
+mod refusals;
 mod rows;
 mod server;
 mod steps;
@@ -17,6 +19,7 @@ ghost use Rattle.history.specs.declared.limits.TheConstants.{MAX_DURATION_MS};
 use crate::draws::Draws;
 use crate::judge::{Beginning, Seen, judge_world};
 use crate::plain::Plain;
+use crate::refusals::first_other_answer;
 use crate::rows::first_other_row;
 use lease_world::WorldFault;
 use std::alloc::Global;
@@ -152,6 +155,11 @@ fn main(rt: HostRuntime) -> io::Result<()> {
     match first_other_row(rt.alloc())? {
         Some(row) => writeln!(out, "another end of {row}")?,
         None => writeln!(out, "rows agree")?,
+    }
+    match first_other_answer(rt.alloc()) {
+        Ok(Some(line)) => writeln!(out, "other answers to {line}")?,
+        Ok(None) => writeln!(out, "refusals agree")?,
+        Err(fault) => writeln!(out, "{fault:?}")?,
     }
     match judge_all(rt.alloc(), &mut out) {
         Ok(()) => Ok(()),

@@ -1,4 +1,4 @@
-//! What callers hold.
+//! The handles of a lock's callers.
 ghost use Rattle.std.specs.Prelude.{◌≡◌};
 
 use crate::table::{LockSeat, LockTable};
@@ -10,7 +10,7 @@ pub struct TurnLock {
     ghost sized: { (board.shared.table_id.words ≡ 3) × (board.shared.table_id.slots ≡ 1) },
 }
 
-/// What one thread makes its turns with. Its number is the connection's number of its events.
+/// The right of one thread to make turns. Its number is the connection's number of its events.
 #[derive(Drop)]
 pub struct Pass {
     pub(crate) seat: LockSeat,

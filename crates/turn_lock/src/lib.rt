@@ -1,3 +1,4 @@
+// SPDX-License-Identifier: Apache-2.0 OR MIT
 //! A lock round a space of exported objects, at which threads take turns in the order of their tickets (a ticket lock). Each
 //! thread has a pass, which knows a beginning of the one history that the space has taken, and the events of its own there.
 #![tactic(auto)]

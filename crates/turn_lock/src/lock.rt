@@ -1,4 +1,4 @@
-//! What callers do with a lock.
+//! The operations of a lock.
 ghost use Rattle.std.specs.Prelude.{◌≡◌, ◌≢◌, ◌+◌, ◌<◌, MatchResult, Err, IfOk};
 ghost use Rattle.history.specs.Running.{running_calls_by};
 ghost use Rattle.history.specs.Table.{places};
@@ -18,7 +18,8 @@ use std::alloc::{AllocError, AllocFailed, Global};
 use std::snapshot::Snapshot;
 use std::sync::Wait;
 
-/// How many passes a lock makes at most, as many as numbers of connections go: at 1,000 connections a second they last for 49 days.
+/// The most passes that a lock makes, as many as there are numbers of connections. At 1,000 connections a second they
+/// last for 49 days.
 const MAX_PASSES: u32 = u32::MAX;
 
 impl TurnLock {
@@ -113,7 +114,7 @@ impl Root {
         self.out -= 1;
     }
 
-    /// How many passes were split and not joined.
+    /// Returns the number of passes that were split and not joined.
     pub fn out(&self) -> u32
         ensures { result ≡ self.now.out }
     {

@@ -33,7 +33,7 @@ pub type LockTable = Table<Option<Space>, View, Snapshot<Space>, Law, Global>;
 /// The part of it that all threads share.
 pub type SharedTable = Shared<Option<Space>, View, Snapshot<Space>, Law>;
 
-/// What a thread steps with.
+/// The seat with which a thread steps.
 pub type LockSeat = Seat<Option<Space>, View>;
 
 /// The event that a step publishes.

@@ -1,8 +1,8 @@
-//! What contracts know of a pass.
+//! The facts of a pass that contracts know.
 use history::{Event, SpaceConfig};
 use std::collections::LinkedList;
 
-/// What a seat is doing.
+/// The state of a seat.
 pub enum SeatState {
     /// It makes no turn.
     Idle,
@@ -12,7 +12,7 @@ pub enum SeatState {
     Called(u64, LinkedList<Event>),
 }
 
-/// What a seat knows. No value of it is made: contracts speak of it.
+/// The facts that a seat knows. No value of it is made: contracts speak of it.
 pub struct View {
     /// The number of its pass, which its events have.
     pub number: u64,
@@ -24,13 +24,13 @@ pub struct View {
     pub opening: LinkedList<Event>,
     /// The events that it has seen, from the first on.
     pub seen: LinkedList<Event>,
-    /// What the pass that was joined last had seen.
+    /// The events that the pass that was joined last had seen.
     pub heard: LinkedList<Event>,
     /// Its own events, in order.
     pub own: LinkedList<Event>,
-    /// What it is doing.
+    /// Its state.
     pub state: SeatState,
-    /// How many passes were made.
+    /// The number of passes that were made.
     pub made: u64,
     /// The number of each pass that was joined, and its events.
     pub ended: LinkedList<(u64, LinkedList<Event>)>,

@@ -1,4 +1,5 @@
-//! How a thread waits: it looks a few times, and then sleeps for a moment between two looks, so that others have its core.
+//! The waiting of a thread. It looks a few times, and then sleeps for a moment between two looks, so that others have
+//! its core.
 ghost use Rattle.std.specs.Prelude.{◌≡◌, ◌<◌};
 
 use crate::table::{SERVING, SharedTable, TICKET};
@@ -6,14 +7,14 @@ use std::hint;
 use std::sync::Wait;
 use std::time::Duration;
 
-/// How often a thread looks before it sleeps, which takes a few turns' time: a turn is shorter than a sleep, also where the kernel takes the
-/// core of the thread that makes it for a moment.
+/// The number of looks of a thread before it sleeps. They take the time of a few turns. A turn is shorter than a
+/// sleep, also where the kernel takes the core of the thread that makes it for a moment.
 const LOOKS: u32 = 500;
 
-/// How often it looks before it draws a ticket though others have one.
+/// The number of looks of a thread before it draws a ticket though others have one.
 const PATIENCE: u32 = 4_000;
 
-/// How many microseconds it sleeps at most before it looks again.
+/// The most microseconds that a thread sleeps before it looks again.
 const NAP: u64 = 100;
 
 /// Waits after so many looks at a word, which was found to be this.
@@ -32,7 +33,8 @@ pub(crate) fn pause<R: Wait>(rt: &R, shared: &SharedTable, word: usize, found: u
     }
 }
 
-/// Whether a count has come to another, where less than 2^63 lies between them. Their words come round at 2^64.
+/// Returns whether a count has come to another, where less than 2^63 lies between them. The counts' words wrap at
+/// 2^64.
 fn has_come_to(word: u64, other: u64) -> bool {
     word.wrapping_sub(other) < 1 << 63
 }

@@ -116,14 +116,14 @@ impl MemDialer {
         }
     }
 
-    /// How many links it gave.
+    /// Returns the number of links that the dialer gave.
     pub fn dialed(&self) -> usize
         ensures { result ≡ length self.now.dialed }
     {
         self.dialed.len()
     }
 
-    /// How often it failed.
+    /// Returns the number of times that the dialer failed.
     pub fn faults(&self) -> u64
         ensures { result ≡ self.now.faults }
     {

@@ -7,15 +7,17 @@ pub const LAST_POSITION: u64 = 1 << 62;
 /// The most bytes of a peer's host, as modified UTF.
 pub const MAX_HOST_BYTES: u64 = 255;
 
-/// How many seconds a connection over TCP may take until its first byte comes.
+/// The most seconds until the first byte of a connection over TCP comes.
 pub const FIRST_BYTE_SECONDS: u64 = 60;
-/// How many seconds a connection over TCP may take until more bytes come, after the first ones.
+/// The most seconds until more bytes of a connection over TCP come, after the first ones.
 pub const NEXT_BYTE_SECONDS: u64 = 7200;
-/// How many seconds a connection over TCP may take until it takes bytes that are written.
+/// The most seconds until a connection over TCP takes bytes that are written.
 pub const WRITE_SECONDS: u64 = 60;
-/// How many seconds an address may take to answer a dial over TCP.
+/// The most seconds until an address answers a dial over TCP.
 pub const DIAL_SECONDS: u64 = 30;
-/// How many seconds a read of a dialled connection takes at most until bytes come, where its dialer says nothing else.
+/// The most seconds until bytes come for a read of a dialled connection, where its dialer says nothing else.
 pub const REPLY_SECONDS: u64 = 60;
-/// How many seconds a wait for a connection takes at most.
+/// The most seconds that one wait for a connection takes.
 pub const WAIT_SECONDS: u64 = 1;
+/// The seconds after which a read of a link looks whether its listener was told to stop.
+pub const LOOK_SECONDS: u64 = 5;

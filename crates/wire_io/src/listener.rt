@@ -17,7 +17,7 @@ use std::marker::Model;
 use std::snapshot::Snapshot;
 use std::vec;
 
-/// What a listener answers that waits for a link for a while.
+/// The answer of a listener that waits for a link for a while.
 #[derive(Drop)]
 pub enum Waited<L> {
     /// This link came.
@@ -193,14 +193,14 @@ impl MemListener {
         self.ports.as_slice()
     }
 
-    /// How many links it gave.
+    /// Returns the number of links that the listener gave.
     pub fn accepted(&self) -> usize
         ensures { result ≡ length self.now.accepted }
     {
         self.accepted.len()
     }
 
-    /// How often it failed.
+    /// Returns the number of times that the listener failed.
     pub fn faults(&self) -> u64
         ensures { result ≡ self.now.faults }
     {
@@ -225,7 +225,7 @@ fn note_port(
     Ok(())
 }
 
-/// Whether the wait of this index is told to stop, where `stop` is the first one that is.
+/// Returns whether the wait of this index has to stop. The first one that has to is `stop`.
 fn is_stopped(stop: Option<u64>, index: u64) -> bool
     ensures { IsTrue result ↔ IsSomeAnd stop (λ first. first ≤ index) }
 {

@@ -25,7 +25,7 @@ pub struct MemSource {
     failing: Kinds,
     reads: u64,
     faults: u64,
-    /// How many bytes were taken when the source was first shut.
+    /// The number of bytes that were taken when the source was first shut.
     shut_at: Option<usize>,
 }
 
@@ -93,14 +93,14 @@ impl MemSource {
         &self.bytes.as_slice()[self.taken..]
     }
 
-    /// How many reads there were, those that failed among them.
+    /// Returns the number of reads, those that failed among them.
     pub fn reads(&self) -> u64
         ensures { result ≡ self.now.reads }
     {
         self.reads
     }
 
-    /// How many reads failed.
+    /// Returns the number of reads that failed.
     pub fn faults(&self) -> u64
         ensures { result ≡ self.now.faults }
     {
@@ -143,7 +143,7 @@ impl Source for MemSource {
     }
 }
 
-/// Whether this index stands among these.
+/// Returns whether this index is among these.
 pub(crate) fn stands_in(indices: &[u32], index: u64) -> bool
     ensures { IsTrue result ↔ Contains indices.now index }
 {
@@ -239,14 +239,14 @@ impl MemSink {
         self.bytes.as_slice()
     }
 
-    /// How many writes there were, those that failed among them.
+    /// Returns the number of writes, those that failed among them.
     pub fn writes(&self) -> u64
         ensures { result ≡ self.now.writes }
     {
         self.writes
     }
 
-    /// How many writes failed.
+    /// Returns the number of writes that failed.
     pub fn faults(&self) -> u64
         ensures { result ≡ self.now.faults }
     {
@@ -318,7 +318,7 @@ impl MemClock {
         MemClock { moments, calls: 0 }
     }
 
-    /// How many moments it gave.
+    /// Returns the number of moments that the clock gave.
     pub fn calls(&self) -> u64
         ensures { result ≡ self.now.calls }
     {

@@ -47,7 +47,7 @@ impl<R: Read + Drop> StdSource<R> {
 }
 
 impl<R> StdSource<R> {
-    /// How many reads failed.
+    /// Returns the number of reads that failed.
     pub fn faults(&self) -> u64
         ensures { result ≡ self.now.faults }
     {
@@ -113,7 +113,7 @@ impl<W> StdSink<W> {
         }
     }
 
-    /// How many writes failed.
+    /// Returns the number of writes that failed.
     pub fn faults(&self) -> u64
         ensures { result ≡ self.now.faults }
     {
@@ -180,7 +180,7 @@ impl<R> StdClock<R> {
         }
     }
 
-    /// How often the system gave no time.
+    /// Returns the number of times that the system gave no time.
     pub fn faults(&self) -> u64
         ensures { result ≡ self.now }
     {

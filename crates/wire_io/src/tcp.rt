@@ -9,8 +9,8 @@ ghost use Rattle.wire_io.specs.declared.limits.TheConstants.{MAX_HOST_BYTES};
 
 use crate::dialer::Dialer;
 use crate::limits::{
-    DIAL_SECONDS, FIRST_BYTE_SECONDS, MAX_HOST_BYTES, NEXT_BYTE_SECONDS, REPLY_SECONDS,
-    WAIT_SECONDS, WRITE_SECONDS,
+    DIAL_SECONDS, FIRST_BYTE_SECONDS, LOOK_SECONDS, MAX_HOST_BYTES, NEXT_BYTE_SECONDS,
+    REPLY_SECONDS, WAIT_SECONDS, WRITE_SECONDS,
 };
 use crate::link::Link;
 use crate::listener::{Listener, Waited};
@@ -30,10 +30,12 @@ use std::sync::atomic::{AtomicBool, Ordering};
 use std::time::Duration;
 use std::{io, str, time};
 
-/// How often one call waits anew where no connection came within [`WAIT_SECONDS`], or its peer gave it up: for 136 years where none comes.
+/// The most times that one call waits anew, where no connection came within [`WAIT_SECONDS`] or its peer gave it up.
+/// Where none comes, they last for 136 years.
 const MAX_ACCEPT_WAITS: u32 = u32::MAX;
 
-/// How often one read or write asks the system anew where a signal interrupted it. Each time its limit of time begins anew.
+/// The most times that one read or write asks the system anew where a signal interrupted it. Each time its limit of
+/// time begins anew.
 const MAX_INTERRUPTIONS: u32 = 16;
 
 /// A handle of a socket, of one half's own or shared by both halves of a link. The system has the socket back when the last handle is dropped.
@@ -70,50 +72,109 @@ impl Handle {
     }
 }
 
-/// How many seconds a read may take until bytes come. 0 stands for no limit.
-#[derive(Clone, Copy)]
-struct ReadLimits {
-    /// Until the first byte came.
+/// Rules for reading the socket of a link: how many seconds a read may take until bytes come, where 0 stands for no limit, and the flag, if there
+/// is one, that ends all reading.
+#[derive(Drop)]
+struct ReadRules {
+    /// The seconds until the first byte came.
     first: u64,
-    /// From then on.
+    /// The seconds from then on.
     next: u64,
+    /// Where this is set, nothing more is read.
+    stop: Option<Arc<AtomicBool>>,
 }
 
-/// The limits of a connection that was accepted.
-const ACCEPTED_LIMITS: ReadLimits = ReadLimits {
-    first: FIRST_BYTE_SECONDS,
-    next: NEXT_BYTE_SECONDS,
-};
+impl ReadRules {
+    /// The rules for a connection that was accepted.
+    fn accepted(stop: Option<Arc<AtomicBool>>) -> ReadRules {
+        ReadRules {
+            first: FIRST_BYTE_SECONDS,
+            next: NEXT_BYTE_SECONDS,
+            stop,
+        }
+    }
+
+    /// For how many seconds the system lets one read wait, where a read as a whole may take this many.
+    fn wait(&self, seconds: u64) -> u64 {
+        match self.stop {
+            Some(_) => LOOK_SECONDS,
+            None => seconds,
+        }
+    }
+}
 
 /// Reads a socket, each time for a while at most: for one time until the first byte, and for another one from then on.
 #[derive(Drop)]
 struct Reader {
     handle: Handle,
-    limits: ReadLimits,
+    rules: ReadRules,
     has_first: bool,
 }
 
 impl Reader {
     /// The reader over this handle, of which no byte was read.
-    fn new(handle: Handle, limits: ReadLimits) -> Reader {
-        handle.limit_reads(limits.first);
+    fn new(handle: Handle, rules: ReadRules) -> Reader {
+        handle.limit_reads(rules.wait(rules.first));
         Reader {
             handle,
-            limits,
+            rules,
             has_first: false,
+        }
+    }
+
+    /// Lets the system wait in each read as long as the rules say for those behind the first byte.
+    fn limit_next(&self) {
+        let seconds = self.rules.wait(self.rules.next);
+        self.handle.limit_reads(seconds);
+    }
+
+    /// One read by the rules.
+    fn read_once(&self, buf: &mut [u8]) -> io::Result<usize>
+        ensures { ReadsAtMost result buf.new }
+    {
+        let seconds = if self.has_first {
+            self.rules.next
+        } else {
+            self.rules.first
+        };
+        match &self.rules.stop {
+            Some(stop) => read_until_told(self.handle.stream(), buf, stop, seconds),
+            None => read_stream(self.handle.stream(), buf),
         }
     }
 }
 
 impl Read for Reader {
     fn read(&mut self, buf: &mut [u8]) -> io::Result<usize> {
-        let count = read_stream(self.handle.stream(), buf)?;
+        let count = self.read_once(buf)?;
         if count > 0 && !self.has_first {
             self.has_first = true;
-            self.handle.limit_reads(self.limits.next);
+            self.limit_next();
         }
         Ok(count)
     }
+}
+
+/// One read of a socket for so many seconds at most, of which the system waits [`LOOK_SECONDS`] at a time. Where the flag is set, it is as if the
+/// peer sent nothing more.
+fn read_until_told(
+    stream: &TcpStream,
+    buf: &mut [u8],
+    stop: &AtomicBool,
+    seconds: u64,
+) -> io::Result<usize>
+    ensures { ReadsAtMost result buf.new }
+{
+    for _ in 0..seconds / LOOK_SECONDS {
+        if stop.load(Ordering::SeqCst) {
+            return Ok(0);
+        }
+        match read_stream(stream, buf) {
+            Err(error) if error.kind() == io::ErrorKind::WouldBlock => {}
+            ended => return ended,
+        }
+    }
+    Err(io::Error::from(io::ErrorKind::TimedOut))
 }
 
 /// One read of a socket. Where a signal interrupts it, the system is asked again, [`MAX_INTERRUPTIONS`] times at most.
@@ -169,20 +230,20 @@ impl TcpSource {
     pub fn new(alloc: Global, stream: TcpStream) -> Result<TcpSource, AllocError>
         ensures { IfOk result (λ source. source ≡ untold_read 0 false) }
     {
-        TcpSource::over(alloc, Handle::Own(stream), ACCEPTED_LIMITS)
+        TcpSource::over(alloc, Handle::Own(stream), ReadRules::accepted(None))
     }
 
     /// The source over this handle.
-    fn over(alloc: Global, handle: Handle, limits: ReadLimits) -> Result<TcpSource, AllocError>
+    fn over(alloc: Global, handle: Handle, rules: ReadRules) -> Result<TcpSource, AllocError>
         ensures { IfOk result (λ source. source ≡ untold_read 0 false) }
     {
         Ok(TcpSource {
-            half: Some(ReadAhead::new(alloc, Reader::new(handle, limits))?),
+            half: Some(ReadAhead::new(alloc, Reader::new(handle, rules))?),
             faults: 0,
         })
     }
 
-    /// How many reads failed.
+    /// Returns the number of reads that failed.
     pub fn faults(&self) -> u64
         ensures { result ≡ self.now.faults }
     {
@@ -271,7 +332,7 @@ impl TcpSink {
         }
     }
 
-    /// How many writes failed.
+    /// Returns the number of writes that failed.
     pub fn faults(&self) -> u64
         ensures { result ≡ self.now.faults }
     {
@@ -336,16 +397,16 @@ where
     ensures source { IfOk result (λ link. link.source ≡ untold_read 0 false) }
     ensures sink { IfOk result (λ link. link.sink ≡ untold_write 0 false) }
 {
-    limited_link(alloc, rt, stream, peer, ACCEPTED_LIMITS)
+    link_by_rules(alloc, rt, stream, peer, ReadRules::accepted(None))
 }
 
-/// The link of a connection, which names this address and whose reads have these limits.
-fn limited_link<R>(
+/// The link of a connection, which names this address and is read by these rules.
+fn link_by_rules<R>(
     alloc: Global,
     rt: R,
     stream: TcpStream,
     address: SocketAddr,
-    limits: ReadLimits,
+    rules: ReadRules,
 ) -> io::Result<TcpLink<R>>
 where
     R: Drop,
@@ -355,7 +416,7 @@ where
     let host = host_of(alloc, address)?;
     let shared = Arc::new(alloc, stream)?;
     let sink = TcpSink::over(Handle::Shared(Arc::try_clone(&shared)?));
-    let source = TcpSource::over(alloc, Handle::Shared(shared), limits)?;
+    let source = TcpSource::over(alloc, Handle::Shared(shared), rules)?;
     Ok(Link {
         source,
         sink,
@@ -380,7 +441,8 @@ fn host_of(alloc: Global, address: SocketAddr) -> io::Result<Units>
 /// Accepts connections over TCP.
 ///
 /// Each error of the system is a fault, and so is an `accept` or a `wait` before `listen`. A connection that its peer gave up while it waited is
-/// passed over. It is told to stop where someone sets its flag and the next `wait` sees it, which gives the socket back to the system.
+/// passed over. It is told to stop where someone sets its flag and the next `wait` sees it, which gives the socket back to the system. From then on
+/// nothing more is read of the links that it gave: a read ends within [`LOOK_SECONDS`], as if the peer sent nothing more.
 #[derive(Drop)]
 pub struct TcpListen<R> {
     rt: R,
@@ -428,7 +490,7 @@ impl<R> TcpListen<R> {
         }
     }
 
-    /// How often it failed.
+    /// Returns the number of times that the listener failed.
     pub fn faults(&self) -> u64
         ensures { result ≡ self.now.faults }
     {
@@ -436,7 +498,7 @@ impl<R> TcpListen<R> {
     }
 }
 
-/// Whether this flag is set, if there is one.
+/// Returns whether this flag is set, if there is one.
 fn is_set(flag: &Option<Arc<AtomicBool>>) -> bool {
     match flag {
         Some(flag) => flag.load(Ordering::SeqCst),
@@ -463,36 +525,49 @@ fn limited_listener(listener: TcpListener) -> io::Result<TcpListener> {
     Ok(TcpListener::from(OwnedFd::from(socket)))
 }
 
-/// The next connection of a listener, if it listens.
-fn next_link<R: Copy + Drop>(
-    alloc: Global,
-    rt: &R,
-    listener: &Option<TcpListener>,
-) -> io::Result<TcpLink<R>>
-    ensures source { IfOk result (λ link. link.source ≡ untold_read 0 false) }
-    ensures sink { IfOk result (λ link. link.sink ≡ untold_write 0 false) }
-{
-    let Some(listener) = listener else {
-        return Err(io::Error::from(io::ErrorKind::NotConnected));
-    };
-    let (stream, peer) = next_stream(listener)?;
-    tcp_link(alloc, *rt, stream, peer)
+impl<R: Copy + Drop> TcpListen<R> {
+    /// The listener's socket, if it listens.
+    fn socket(&self) -> io::Result<&TcpListener> {
+        match &self.listener {
+            Some(listener) => Ok(listener),
+            None => Err(io::Error::from(io::ErrorKind::NotConnected)),
+        }
+    }
+
+    /// The link of a connection that this peer made. Where the flag is set, nothing more is read of it.
+    fn link_of(&self, stream: TcpStream, peer: SocketAddr) -> io::Result<TcpLink<R>>
+        ensures source { IfOk result (λ link. link.source ≡ untold_read 0 false) }
+        ensures sink { IfOk result (λ link. link.sink ≡ untold_write 0 false) }
+    {
+        let rules = ReadRules::accepted(shared_flag(&self.flag)?);
+        link_by_rules(self.alloc, self.rt, stream, peer, rules)
+    }
+
+    /// The link of the next connection, if it listens.
+    fn next_link(&self) -> io::Result<TcpLink<R>>
+        ensures source { IfOk result (λ link. link.source ≡ untold_read 0 false) }
+        ensures sink { IfOk result (λ link. link.sink ≡ untold_write 0 false) }
+    {
+        let (stream, peer) = next_stream(self.socket()?)?;
+        self.link_of(stream, peer)
+    }
+
+    /// The link of the next connection, if it listens and one comes within [`WAIT_SECONDS`].
+    fn next_link_soon(&self) -> io::Result<Option<TcpLink<R>>>
+        ensures source { IfOk result (λ came. IfSome came (λ link. link.source ≡ untold_read 0 false)) }
+        ensures sink { IfOk result (λ came. IfSome came (λ link. link.sink ≡ untold_write 0 false)) }
+    {
+        match next_stream_soon(self.socket()?)? {
+            Some((stream, peer)) => Ok(Some(self.link_of(stream, peer)?)),
+            None => Ok(None),
+        }
+    }
 }
 
-/// The next connection of a listener, if it listens and one comes within [`WAIT_SECONDS`].
-fn next_link_soon<R: Copy + Drop>(
-    alloc: Global,
-    rt: &R,
-    listener: &Option<TcpListener>,
-) -> io::Result<Option<TcpLink<R>>>
-    ensures source { IfOk result (λ came. IfSome came (λ link. link.source ≡ untold_read 0 false)) }
-    ensures sink { IfOk result (λ came. IfSome came (λ link. link.sink ≡ untold_write 0 false)) }
-{
-    let Some(listener) = listener else {
-        return Err(io::Error::from(io::ErrorKind::NotConnected));
-    };
-    match next_stream_soon(listener)? {
-        Some((stream, peer)) => Ok(Some(tcp_link(alloc, *rt, stream, peer)?)),
+/// The same flag once more, if there is one.
+fn shared_flag(flag: &Option<Arc<AtomicBool>>) -> io::Result<Option<Arc<AtomicBool>>> {
+    match flag {
+        Some(flag) => Ok(Some(Arc::try_clone(flag)?)),
         None => Ok(None),
     }
 }
@@ -516,8 +591,8 @@ fn next_stream_soon(listener: &TcpListener) -> io::Result<Option<(TcpStream, Soc
     }
 }
 
-/// Whether an error of this kind says that no connection came in time or that its peer gave it up, and nothing of the listener or the
-/// process.
+/// Returns whether an error of this kind says that no connection came in time, or that its peer gave it up. Such an
+/// error says nothing of the listener or the process.
 fn gives_none(kind: io::ErrorKind) -> bool {
     match kind {
         io::ErrorKind::WouldBlock => true,
@@ -571,7 +646,7 @@ where
             (self.new ≡ record self.old { faults = next_count self.old.faults }) }
     {
         if !self.told {
-            if let Ok(link) = next_link(self.alloc, &self.rt, &self.listener) {
+            if let Ok(link) = self.next_link() {
                 return Ok(link);
             }
         }
@@ -593,7 +668,7 @@ where
             self.listener = None;
             return Ok(Waited::Told);
         }
-        match next_link_soon(self.alloc, &self.rt, &self.listener) {
+        match self.next_link_soon() {
             Ok(Some(link)) => Ok(Waited::Came(link)),
             Ok(None) => Ok(Waited::Quiet),
             Err(_) => {
@@ -645,7 +720,7 @@ impl<R> TcpDial<R> {
         }
     }
 
-    /// How often it failed.
+    /// Returns the number of times that the dialer failed.
     pub fn faults(&self) -> u64
         ensures { result ≡ self.now.faults }
     {
@@ -691,11 +766,12 @@ where
     };
     let stream = dialed_stream(rt, name, port)?;
     let own = stream.local_addr()?;
-    let limits = ReadLimits {
+    let rules = ReadRules {
         first: reply_seconds,
         next: reply_seconds,
+        stop: None,
     };
-    limited_link(alloc, *rt, stream, own, limits)
+    link_by_rules(alloc, *rt, stream, own, rules)
 }
 
 impl<R> Dialer for TcpDial<R>

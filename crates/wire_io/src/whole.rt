@@ -7,7 +7,7 @@ use crate::source::Source;
 use sequence::ByteList;
 use std::alloc::Global;
 
-/// How many bytes are asked for at once.
+/// The number of bytes that one read asks for.
 pub const READ_BLOCK: usize = 4096;
 
 /// Why the whole input could not be taken.

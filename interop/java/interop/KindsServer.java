@@ -1,6 +1,7 @@
 package interop;
 
 import java.io.NotSerializableException;
+import java.lang.reflect.Proxy;
 import java.rmi.Remote;
 import java.rmi.RemoteException;
 import java.rmi.registry.LocateRegistry;
@@ -9,6 +10,7 @@ import java.rmi.server.UnicastRemoteObject;
 import java.rmi.server.Unreferenced;
 import java.time.Duration;
 import java.util.ArrayList;
+import java.util.Arrays;
 import java.util.Collections;
 import java.util.List;
 import kinds.Faults;
@@ -17,6 +19,7 @@ import kinds.Keeper;
 import kinds.Kinds;
 import kinds.Node;
 import kinds.Refusal;
+import kinds.Unused;
 
 /**
  * A server whose methods have every kind of parameter, result and exception: KindsServer HOST PORT [outside]. Its references name this host. The registry is one
@@ -36,9 +39,26 @@ public final class KindsServer {
     }
 
     private static final class KindsObject implements Kinds {
+        private final Registry registry;
+
+        KindsObject(Registry registry) {
+            this.registry = registry;
+        }
+
         @Override
         public String shown(boolean truth, byte small, short few, int some, long many, char sign, String text) {
             return truth + "," + small + "," + few + "," + some + "," + many + "," + (int) sign + "," + text;
+        }
+
+        @Override
+        public String mixed(String first, int some, String second, long many, boolean truth, String third) {
+            return first + "," + some + "," + second + "," + many + "," + truth + "," + third;
+        }
+
+        @Override
+        public long sum(long a, long b, long c, long d, long e, long f, long g, long h, long i, long j, long k, long l, long m, long n, long o, long p, long q,
+                long r, long s, long t, long u, long v, long w, long x, long y, long z, int last) {
+            return a + b + c + d + e + f + g + h + i + j + k + l + m + n + o + p + q + r + s + t + u + v + w + x + y + z + last;
         }
 
         @Override
@@ -117,6 +137,31 @@ public final class KindsServer {
         @Override
         public int[] numbers() {
             return new int[] {1, -1, Integer.MAX_VALUE};
+        }
+
+        @Override
+        public byte[] bytes() {
+            return new byte[] {Byte.MIN_VALUE, 0, Byte.MAX_VALUE};
+        }
+
+        @Override
+        public boolean[][] table() {
+            return new boolean[][] {{true, false}, {}};
+        }
+
+        @Override
+        public List<String> list() {
+            return new ArrayList<>(Arrays.asList("a", null));
+        }
+
+        @Override
+        public Object proxy() {
+            return Proxy.newProxyInstance(Kinds.class.getClassLoader(), new Class<?>[] {Runnable.class, Comparable.class}, new Unused());
+        }
+
+        @Override
+        public Registry registry() {
+            return registry;
         }
 
         @Override
@@ -252,6 +297,11 @@ public final class KindsServer {
         }
 
         @Override
+        public Object self() {
+            return this;
+        }
+
+        @Override
         public Keeper[] several() throws RemoteException {
             Keeper first = make();
             return new Keeper[] {first, make(), first};
@@ -280,7 +330,7 @@ public final class KindsServer {
         System.setProperty("java.rmi.server.hostname", words[0]);
         int port = Integer.parseInt(words[1]);
         Registry registry = words.length > 2 ? LocateRegistry.getRegistry("127.0.0.1", port) : LocateRegistry.createRegistry(port);
-        registry.bind("kinds", export(new KindsObject()));
+        registry.bind("kinds", export(new KindsObject(registry)));
         registry.bind("faults", export(new FaultsObject()));
         registry.bind("keeper", export(new KeeperObject("keeper")));
         Remote gone = new FaultsObject();

@@ -11,6 +11,9 @@ public interface Keeper extends Remote {
     /** A new object. */
     Keeper make() throws RemoteException;
 
+    /** The object itself. */
+    Object self() throws RemoteException;
+
     /** Two new objects, and the first one again. */
     Keeper[] several() throws RemoteException;
 

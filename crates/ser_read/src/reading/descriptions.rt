@@ -47,7 +47,7 @@ pub(super) fn desc<S: Source>(
     Ok(Slot::Node(number))
 }
 
-/// What stands of a description from its fields on.
+/// Reads the rest of a description, from its fields on.
 #[cycle(reading)]
 #[tactic(auto, unfolding(crate::specs::Fronts::desc_behind))]
 fn desc_behind<S: Source>(

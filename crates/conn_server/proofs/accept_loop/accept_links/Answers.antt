@@ -1,8 +1,7 @@
 use Rattle.std.proofs.Common.{◌≡◌, ◌∙◌, ◌+◌, ◌++◌, ◌∷◌, [], length, ap, sym, refl, arith}
-use Rattle.std.specs.Prelude.{vec_len}
 use Rattle.wire_io.specs.Links.{accepted_as}
 use Rattle.conn_server.specs.Accepts.{shown_all, links_of, ticks_of, with_all}
-use Rattle.conn_server.proofs.Listening.{with_none, one_more}
+use Rattle.conn_server.proofs.Listening.{with_none, one_more, ticks_same}
 use Rattle.conn_server.proofs.accept_loop.accept_links.Goals as goal
 
 pub loop-init : goal.loop-init
@@ -13,7 +12,7 @@ loop-init g c =
     let told = (g.L.Listener.listening c.args.listener.now).accepted in
     record {
       is = c.requires.accepting;
-      count = a.started.ok.0 ∙ ap length fresh.0;
+      count = c.requires.accepting.begun ∙ ap length fresh.0;
       tied = fresh.1 ∙ ap (λ l. ticks_of (shown_all read_half write_half given l)) (sym fresh.0);
       links = sym (with_none told) ∙ ap (λ l. with_all told (links_of (shown_all read_half write_half given l))) (sym fresh.0);
       faults = omega arith;
@@ -25,29 +24,29 @@ admit-requires-clause-few g c κs within =
     let was = c.loop.invariant in
     let freed = c.join_ended.ensures in
     let count = was.count in
-    let count2 = freed.count in
+    let count2 = freed.begun in
     let test = c.loop-test.true in
     let few = c.requires.few in
     omega (arith, count, count2, test, few)
 
-pub admit-requires-clause-tied : goal.admit-requires-clause-tied
-admit-requires-clause-tied g c κs within =
-    let freed = c.join_ended.ensures in
-    ap (λ v. v.items) freed.ticks ∙ (c.loop.invariant.tied ∙ ap (λ l. ticks_of l) (sym freed.links))
+pub returns-in-Some-clause-tied : goal.returns-in-Some-clause-tied
+returns-in-Some-clause-tied g c =
+    let same = rw c.in-Some.is at c.admit.ensures.tied in
+    same.0 ∙ (c.join_ended.ensures.ticks ∙ (c.loop.invariant.tied ∙ (ap (λ l. ticks_of l) (sym c.join_ended.ensures.links) ∙ sym same.1)))
 
 pub returns-in-Some-clause-links : goal.returns-in-Some-clause-links
 returns-in-Some-clause-links g c =
     let read_half = g.L.In.Source.half in let write_half = g.L.Out.Sink.half in let given = g.L.Ticks.Clock.given in
     let next = c.admit.new.self in
     let was = c.loop.invariant in
-    let before = links_of (shown_all read_half write_half given c.loop.acceptor.started.items) in
+    let before = links_of (shown_all read_half write_half given c.loop.acceptor.all) in
     let told = (g.L.Listener.listening c.args.listener.now).accepted in
     let link = accepted_as read_half write_half given c.in-Ok.link in
     let freed = c.join_ended.new.self in
-    let here : links_of (shown_all read_half write_half given next.started.items) ≡ links_of (shown_all read_half write_half given freed.started.items) = rw c.in-Some.is at c.admit.ensures.links in
-    let same : links_of (shown_all read_half write_half given next.started.items) ≡ before = here ∙ ap (λ l. links_of l) c.join_ended.ensures.links in
-    let count : vec_len next.started ≡ vec_len freed.started = rw c.in-Some.is at c.admit.ensures.count in
-    let count2 = c.join_ended.ensures.count in
+    let here : links_of (shown_all read_half write_half given next.all) ≡ links_of (shown_all read_half write_half given freed.all) = rw c.in-Some.is at c.admit.ensures.links in
+    let same : links_of (shown_all read_half write_half given next.all) ≡ before = here ∙ ap (λ l. links_of l) c.join_ended.ensures.links in
+    let count : next.begun ≡ freed.begun = rw c.in-Some.is at c.admit.ensures.count in
+    let count2 = c.join_ended.ensures.begun in
     let counter = was.count in
     let test = c.loop-test.true in (
       link ∷ [],
@@ -61,21 +60,21 @@ loop-preserved g c =
     let read_half = g.L.In.Source.half in let write_half = g.L.Out.Sink.half in let given = g.L.Ticks.Clock.given in
     let next = c.admit.new.self in
     let was = c.loop.invariant in
-    let before = links_of (shown_all read_half write_half given c.loop.acceptor.started.items) in
+    let before = links_of (shown_all read_half write_half given c.loop.acceptor.all) in
     let told = (g.L.Listener.listening c.args.listener.now).accepted in
     let link = accepted_as read_half write_half given c.in-Ok.link in
     let freed = c.join_ended.new.self in
-    let here : links_of (shown_all read_half write_half given next.started.items) ≡ links_of (shown_all read_half write_half given freed.started.items) ++ link ∷ [] = rw c.in-None.is at c.admit.ensures.links in
-    let longer : links_of (shown_all read_half write_half given next.started.items) ≡ before ++ link ∷ [] = here ∙ ap (λ l. links_of l ++ link ∷ []) c.join_ended.ensures.links in
-    let count : vec_len next.started ≡ vec_len freed.started + 1 = rw c.in-None.is at c.admit.ensures.count in
-    let count2 = c.join_ended.ensures.count in
+    let here : links_of (shown_all read_half write_half given next.all) ≡ links_of (shown_all read_half write_half given freed.all) ++ link ∷ [] = rw c.in-None.is at c.admit.ensures.links in
+    let longer : links_of (shown_all read_half write_half given next.all) ≡ before ++ link ∷ [] = here ∙ ap (λ l. links_of l ++ link ∷ []) c.join_ended.ensures.links in
+    let count : next.begun ≡ freed.begun + 1 = rw c.in-None.is at c.admit.ensures.count in
+    let count2 = c.join_ended.ensures.begun in
     let counter = was.count in
     let faults = was.faults in
     let faults2 = c.in-Ok.ensures.accepts.1 in
     record {
       is = c.admit.ensures.accepting;
       count = omega (arith, count, count2, counter);
-      tied = c.admit.ensures.tied;
+      tied = ticks_same _ _ _ _ (c.join_ended.ensures.ticks ∙ (was.tied ∙ ap (λ l. ticks_of l) (sym c.join_ended.ensures.links))) (rw c.in-None.is at c.admit.ensures.tied);
       links = one_more told (g.L.Listener.listening c.loop.listener).accepted (g.L.Listener.listening c.next_link.new.listener).accepted before link was.links c.in-Ok.ensures.accepts.0 ∙ ap (with_all told) (sym longer);
       faults = omega (arith, faults, faults2);
       ports = c.in-Ok.ensures.ports ∙ was.ports;

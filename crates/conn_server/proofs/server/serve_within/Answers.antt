@@ -1,41 +1,51 @@
-use Rattle.std.proofs.Common.{◌≡◌, ◌∙◌, ap, subst, sym, ℕ, length}
-use Rattle.turn_lock.specs.Handles.{IsFresh, view_of}
+use Rattle.std.proofs.Common.{◌≡◌, ◌∙◌, ap, subst, sym, ℕ, ◌++◌, length}
+use Rattle.turn_lock.specs.Handles.{IsFresh}
 use Rattle.turn_lock.specs.declared.handles.Root.{Root}
-use Rattle.conn_server.specs.Accepts.{shown_all}
+use Rattle.conn_server.specs.Accepts.{links_of, reports_of, shown_all, ticks_of, with_all}
+use Rattle.conn_server.specs.Made.{shown_admitted}
+use Rattle.conn_server.specs.Reports.{IsLinkOf}
 use Rattle.conn_server.specs.Stops.{Stopped}
-use Rattle.conn_server.proofs.Closing.{paired_known}
+use Rattle.conn_server.proofs.Closing.{all_closed, count_closed}
 use Rattle.conn_server.proofs.Linking.{link_of}
-use Rattle.conn_server.proofs.Rows.{paired_length}
 use Rattle.conn_server.proofs.Taking.{first_accepting}
 use Rattle.conn_server.proofs.server.serve_within.Goals as goal
 
 pub accept_links-stop-requires-clause-accepting : goal.accept_links-stop-requires-clause-accepting
 accept_links-stop-requires-clause-accepting g c κs within =
     let made = c.new-acceptor.ensures in
-    first_accepting _ _ _ c.args.shared.now.lock.now c.args.shared.now.book.now _
-    (subst (λ (r : Root). IsFresh c.args.shared.now.lock.now r) (sym made.root) c.requires.fresh) made.started made.reports made.ticks
+    let shared = c.args.shared.now in
+    let read_half = g.L.In.Source.half in let write_half = g.L.Out.Sink.half in let given = g.L.Ticks.Clock.given in
+    let shown = g.G.Hand.Worker.shown in
+    let may = g.G.Hand.Worker.may in let moves = g.G.Hand.Worker.moves in
+    let link = link_of read_half write_half given shown may moves shared.book.now shared.plan.now in
+    first_accepting _ _ _ _ _ shared.lock.now shared.book.now _
+    (subst (λ (r : Root). IsFresh shared.lock.now r) (sym made.root) c.requires.fresh) made.begun made.live made.all
+    (rw made.collector c.requires.empty)
+    (λ k admitted report for_it talked by. rw made.collector (c.requires.expects k (shown_admitted read_half write_half given admitted) report (link k admitted report for_it talked by)))
 
 pub returns-clause-served : goal.returns-clause-served
 returns-clause-served g c =
     let a = c.accept_links-stop in
-    let j = c.join_all-root in
+    let j = c.join_all in
     let shared = c.args.shared.now in
-    let all = a.new.acceptor.started in
-    let w = view_of j.result.0.pass in
+    let end = j.new.self in
+    let is = j.ensures.accepting in
     let read_half = g.L.In.Source.half in let write_half = g.L.Out.Sink.half in let given = g.L.Ticks.Clock.given in
     let shown = g.G.Hand.Worker.shown in
     let may = g.G.Hand.Worker.may in let moves = g.G.Hand.Worker.moves in
-    let served = shown_all read_half write_half given all.items in
-    let same : length all.items ≡ length j.result.1.items = paired_length _ 1 all.items j.result.1.items j.ensures.links in
-    let count = all.ok.0 ∙ same in (
-      served,
-      record {
-        own = j.ensures.root.0;
-        out = j.ensures.root.1;
-        made = j.ensures.made ∙ count;
-        ticked = j.ensures.ticks.0;
-        tied = ap (λ v. v.items) j.ensures.ticks.1 ∙ a.ensures.tied;
-        links = paired_known _ shared.lock.now read_half write_half given _ _ shown (link_of read_half write_half given shown may moves shared.book.now shared.plan.now) w 1 all.items j.result.1.items j.ensures.links;
-      },
-      (a.ensures.links.0, a.ensures.links.1, subst (λ (n : ℕ). Stopped a.result.0 shared.plan.now.count n a.ensures.links.0) count a.ensures.links.2, a.ensures.links.3),
-    )
+    let told = (g.L.Listener.listening c.args.listener.now).accepted in
+    let same : shown_all read_half write_half given end.all ≡ shown_all read_half write_half given a.new.acceptor.all = j.ensures.links in
+    let link = link_of read_half write_half given shown may moves shared.book.now shared.plan.now in
+    let IsLink = IsLinkOf read_half write_half given shown may moves shared.book.now shared.plan.now in
+    let number : a.new.acceptor.begun ≡ length (reports_of end.all) = sym j.ensures.begun ∙ count_closed IsLink shared.lock.now read_half write_half given _ _ shown link _ _ shared.book.now end is j.ensures.none in
+    record {
+      served = shown_all read_half write_half given end.all;
+      links = reports_of end.all;
+      missed = a.ensures.links.0;
+      joined = all_closed IsLink shared.lock.now read_half write_half given _ _ shown link _ _ shared.book.now end is j.ensures.none;
+      tied = j.ensures.ticks ∙ (a.ensures.tied ∙ ap (λ l. ticks_of l) (sym same));
+      given = is.given;
+      told = a.ensures.links.1 ∙ ap (λ l. with_all told (links_of l ++ a.ensures.links.0)) (sym same);
+      stopped = subst (λ (n : ℕ). Stopped a.result.0 shared.plan.now.count n a.ensures.links.0) number a.ensures.links.2;
+      back = a.ensures.links.3;
+    }

@@ -1,9 +1,17 @@
-use Rattle.std.proofs.Common.{◌++◌, ap, sym, ◌∙◌}
+use Rattle.std.proofs.Common.{List, ◌++◌, ap, sym, ◌∙◌}
 use Rattle.std.specs.Prelude.{◌&&◌, not, filter}
+use Rattle.object_ids.specs.declared.ids.ObjId.{ObjId}
+use Rattle.dgc_client.specs.declared.ref_map.Kept.{Kept}
 use Rattle.dgc_client.specs.RefMap.{refs_in}
 use Rattle.dgc_client.specs.StandsForLog.{wants, ids_of}
 use Rattle.dgc_client.proofs.SentEntries.{wants-step}
 use Rattle.dgc_client.proofs.asked.wanting.Goals as goal
+
+pub loop-object-init : goal.loop-object-init
+loop-object-init c = λ ys same.
+    ap (λ (l : List ObjId). l ++ ids_of (filter (wants c.args.over ys) (refs_in c.into_iter-object-iterator.result))) c.new-ids.ensures
+    ∙ ap (λ (l : List (ObjId × Kept)). ids_of (filter (wants c.args.over ys) (refs_in l))) (c.into_iter-object-iterator.ensures.into_iter_gives ∙ c.iter-object-items.ensures.rest)
+    ∙ ap ids_of (c.unsettled.ensures ys)
 
 pub loop-object-preserved : goal.loop-object-preserved
 loop-object-preserved c = λ ys same.

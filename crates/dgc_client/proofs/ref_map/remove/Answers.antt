@@ -1,11 +1,12 @@
-use Rattle.std.proofs.Common.{◌≡◌, ◌+◌, None, length, ap, sym, ◌∙◌, true≢false}
+use Rattle.std.proofs.Common.{◌≡◌, ◌+◌, None, length, ap, sym, ◌∙◌, subst, true≢false}
 use Rattle.std.specs.Prelude.{is_some}
 use Rattle.std.specs.Map.{lookup}
 use Rattle.std.specs.Option.{option_copied_mut}
 use Rattle.object_ids.specs.Same.{same_key}
 use Rattle.dgc_client.specs.declared.ref_map.Kept.{Kept}
-use Rattle.dgc_client.specs.RefMap.{refs_in}
+use Rattle.dgc_client.specs.RefMap.{refs_in, rests, AreSettled}
 use Rattle.dgc_client.proofs.RefEntries.{refs-gapped, count-gapped, others-all, find-none, find-shown, no-gap}
+use Rattle.dgc_client.proofs.Settled.{settled-set}
 use Rattle.dgc_client.proofs.ref_map.remove.Goals as goal
 
 pub returns-in-Some-clause-refs : goal.returns-in-Some-clause-refs
@@ -31,3 +32,11 @@ pub returns-in_default-clause-count : goal.returns-in_default-clause-count
 returns-in_default-clause-count c = λ there.
     let none : lookup (same_key c.args.object.now) c.args.refs.now.entries ≡ None = sym c.get_mut.ensures.value ∙ ap option_copied_mut c.in_default.is in
     absurd (true≢false (sym there ∙ ap is_some (find-none c.args.object.now c.args.refs.now.entries none)))
+
+pub returns-in-Some-clause-settled : goal.returns-in-Some-clause-settled
+returns-in-Some-clause-settled c = λ n h.
+    subst (AreSettled n) (sym (c.get_mut.follows.holds c.gap.result).0)
+    (settled-set (same_key c.args.object.now) c.in-Some.kept.now c.gap.result (λ r. ap rests c.gap.ensures) c.args.refs.now.entries (sym c.in-Some.ensures.value) n h)
+
+pub returns-in_default-clause-settled : goal.returns-in_default-clause-settled
+returns-in_default-clause-settled c = λ n h. subst (λ m. AreSettled n m.entries) (sym c.get_mut.follows.holds-at-none) h

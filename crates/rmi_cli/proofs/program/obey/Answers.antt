@@ -1,9 +1,11 @@
 use Rattle.std.proofs.Common.{None, refl}
 use Rattle.rmi_cli.proofs.Answering.{answered, answers_asked}
 use Rattle.rmi_cli.proofs.Asking.{asks_causes, asks_named, known_told, link_told, sink_told}
+use Rattle.rmi_cli.proofs.Calling.{calls_causes, calls_named}
 use Rattle.rmi_cli.proofs.Named.{drills_named, exactly_asked, prints_named, serving_asked}
 use Rattle.rmi_cli.proofs.Drilling.{drills_exactly}
 use Rattle.rmi_cli.proofs.Exactly.{told_settles}
+use Rattle.rmi_cli.proofs.Hosting.{hosts_named}
 use Rattle.rmi_cli.proofs.Once.{replays_exactly}
 use Rattle.rmi_cli.proofs.PrintedOnce.{prints_exactly}
 use Rattle.rmi_cli.proofs.ShownOnce.{shows_exactly}
@@ -36,6 +38,22 @@ returns-in-Client-clause-link_fault g c asked is = link_told _ _ _ _ (asks_cause
 
 pub returns-in-Client-clause-sink_fault : goal.returns-in-Client-clause-sink_fault
 returns-in-Client-clause-sink_fault g c asked is = sink_told _ _ _ _ (asks_causes _ _ _ _ _ _ (c.ask_server-end.ensures.asks None)) c.report_end-in-Client.ensures.status
+
+pub returns-in-Call-clause-calls : goal.returns-in-Call-clause-calls
+returns-in-Call-clause-calls g c call is =
+    calls_named _ c.in-Call.call call _ _ _ _ _ _ _ c.in-Call.is is (c.call_object-end.ensures.calls _ c.in-Call.call c.request_of-request.ensures) c.report_end-in-Call.ensures.told
+
+pub returns-in-Call-clause-known : goal.returns-in-Call-clause-known
+returns-in-Call-clause-known g c =
+    known_told _ _ _ _ (calls_causes _ _ _ _ _ _ _ (c.call_object-end.ensures.calls _ c.in-Call.call c.request_of-request.ensures)) c.report_end-in-Call.ensures.status
+
+pub returns-in-Call-clause-call_link_fault : goal.returns-in-Call-clause-call_link_fault
+returns-in-Call-clause-call_link_fault g c call is =
+    link_told _ _ _ _ (calls_causes _ _ _ _ _ _ _ (c.call_object-end.ensures.calls _ c.in-Call.call c.request_of-request.ensures)) c.report_end-in-Call.ensures.status
+
+pub returns-in-Call-clause-call_sink_fault : goal.returns-in-Call-clause-call_sink_fault
+returns-in-Call-clause-call_sink_fault g c call is =
+    sink_told _ _ _ _ (calls_causes _ _ _ _ _ _ _ (c.call_object-end.ensures.calls _ c.in-Call.call c.request_of-request.ensures)) c.report_end-in-Call.ensures.status
 
 pub returns-in-Replay-clause-replay : goal.returns-in-Replay-clause-replay
 returns-in-Replay-clause-replay g c is = record {
@@ -92,3 +110,7 @@ returns-in-World-clause-world_exact g c is = makes_exactly _ _ _ _ c.print_world
 pub returns-in-Class-clause-class_exact : goal.returns-in-Class-clause-class_exact
 returns-in-Class-clause-class_exact g c output is =
     prints_exactly output _ _ _ _ _ c.print_class-end.result (prints_named _ _ _ _ _ _ _ _ c.in-Class.is is c.print_class-end.ensures.ends) c.report_end-in-Class.ensures.told
+
+pub returns-in-Host-clause-hosts : goal.returns-in-Host-clause-hosts
+returns-in-Host-clause-hosts g c asked is =
+    hosts_named _ _ _ _ _ _ c.in-Host.asked asked _ _ _ _ c.in-Host.is is (c.host_input-end.ensures.hosts _ c.in-Host.asked c.host_parts-parts.ensures.are) c.report_end-in-Host.ensures.told

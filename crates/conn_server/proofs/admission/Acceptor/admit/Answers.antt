@@ -1,5 +1,4 @@
-use Rattle.std.proofs.Common.{◌∙◌, ◌+◌, ℕ, ap, sym, subst, arith}
-use Rattle.std.specs.Prelude.{vec_len}
+use Rattle.std.proofs.Common.{◌∙◌, ◌+◌, ◌++◌, ◌∷◌, [], ℕ, ap, sym, subst, arith}
 use Rattle.wire_io.specs.Links.{accepted_as}
 use Rattle.conn_server.specs.Accepts.{shown_all, links_of, ticks_of}
 use Rattle.conn_server.specs.Made.{IsHandFor, shown_admitted}
@@ -8,25 +7,25 @@ use Rattle.conn_server.proofs.Taking.{same_accepting}
 use Rattle.conn_server.proofs.admission.Acceptor.admit.Goals as goal
 
 pub returns-in_default-clause-accepting : goal.returns-in_default-clause-accepting
-returns-in_default-clause-accepting g c = same_accepting _ _ _ _ _ _ _ c.reserve_link-ready.ensures.same c.requires.accepting
+returns-in_default-clause-accepting g c = same_accepting _ _ _ _ _ _ _ _ _ c.reserve_link-ready.ensures.same c.requires.accepting
 
 pub returns-in_default-clause-tied : goal.returns-in_default-clause-tied
 returns-in_default-clause-tied g c =
     let same = c.reserve_link-ready.ensures.same in
-    same.ticks ∙ (c.requires.tied ∙ ap (λ l. ticks_of (shown_all g.I.Source.half g.O.Sink.half g.T.Clock.given l)) (sym same.started))
+    (same.ticks, ap (λ l. ticks_of (shown_all g.I.Source.half g.O.Sink.half g.T.Clock.given l)) same.all)
 
 pub returns-in_default-clause-links : goal.returns-in_default-clause-links
-returns-in_default-clause-links g c = ap (λ l. links_of (shown_all g.I.Source.half g.O.Sink.half g.T.Clock.given l)) c.reserve_link-ready.ensures.same.started
+returns-in_default-clause-links g c = ap (λ l. links_of (shown_all g.I.Source.half g.O.Sink.half g.T.Clock.given l)) c.reserve_link-ready.ensures.same.all
 
 pub returns-in_default-clause-count : goal.returns-in_default-clause-count
-returns-in_default-clause-count g c = c.reserve_link-ready.ensures.same.count
+returns-in_default-clause-count g c = c.reserve_link-ready.ensures.same.begun
 
 pub prepare_link-requires-clause-accepting : goal.prepare_link-requires-clause-accepting
-prepare_link-requires-clause-accepting g c = same_accepting _ _ _ _ _ _ _ c.reserve_link-ready.ensures.same c.requires.accepting
+prepare_link-requires-clause-accepting g c = same_accepting _ _ _ _ _ _ _ _ _ c.reserve_link-ready.ensures.same c.requires.accepting
 
 pub prepare_link-requires-clause-few : goal.prepare_link-requires-clause-few
 prepare_link-requires-clause-few g c =
-    let count = c.reserve_link-ready.ensures.same.count in
+    let count = c.reserve_link-ready.ensures.same.begun in
     let few = c.requires.few in
     omega (arith, count, few)
 
@@ -36,7 +35,7 @@ prepare_link-requires-clause-room g c = rw c.in-Some.is at c.reserve_link-ready.
 pub prepare_link-requires-clause-ready : goal.prepare_link-requires-clause-ready
 prepare_link-requires-clause-ready g c =
     let made = c.reserve_link-ready.ensures in
-    subst (λ (n : ℕ). IsHandFor g.H.Worker.shown c.args.shared.now.plan.now (n + 1) c.args.link.host c.args.link.port c.in-Some.ready) (sym made.same.count) (rw c.in-Some.is at made.ready)
+    subst (λ (n : ℕ). IsHandFor g.H.Worker.shown c.args.shared.now.plan.now (n + 1) c.args.link.host c.args.link.port c.in-Some.ready) (sym made.same.begun) (rw c.in-Some.is at made.ready)
 
 pub returns-in-Err-clause-accepting : goal.returns-in-Err-clause-accepting
 returns-in-Err-clause-accepting g c = c.prepare_link.ensures.accepting
@@ -44,17 +43,16 @@ returns-in-Err-clause-accepting g c = c.prepare_link.ensures.accepting
 pub returns-in-Err-clause-tied : goal.returns-in-Err-clause-tied
 returns-in-Err-clause-tied g c =
     let same = c.reserve_link-ready.ensures.same in
-    let prepared = c.prepare_link.ensures in
-    (rw c.in-Err.is at prepared.no_tick)
-    ∙ (same.ticks ∙ (c.requires.tied ∙ ap (λ l. ticks_of (shown_all g.I.Source.half g.O.Sink.half g.T.Clock.given l)) (sym (ap (λ v. v.items) prepared.links.0 ∙ same.started))))
+    let prepared = c.prepare_link.ensures in (
+      (rw c.in-Err.is at prepared.no_tick) ∙ same.ticks,
+      ap (λ l. ticks_of (shown_all g.I.Source.half g.O.Sink.half g.T.Clock.given l)) (prepared.links.all ∙ same.all),
+    )
 
 pub returns-in-Err-clause-links : goal.returns-in-Err-clause-links
-returns-in-Err-clause-links g c =
-    ap (λ v. links_of (shown_all g.I.Source.half g.O.Sink.half g.T.Clock.given v.items)) c.prepare_link.ensures.links.0
-    ∙ ap (λ l. links_of (shown_all g.I.Source.half g.O.Sink.half g.T.Clock.given l)) c.reserve_link-ready.ensures.same.started
+returns-in-Err-clause-links g c = ap (λ l. links_of (shown_all g.I.Source.half g.O.Sink.half g.T.Clock.given l)) (c.prepare_link.ensures.links.all ∙ c.reserve_link-ready.ensures.same.all)
 
 pub returns-in-Err-clause-count : goal.returns-in-Err-clause-count
-returns-in-Err-clause-count g c = ap vec_len c.prepare_link.ensures.links.0 ∙ c.reserve_link-ready.ensures.same.count
+returns-in-Err-clause-count g c = c.prepare_link.ensures.links.begun ∙ c.reserve_link-ready.ensures.same.begun
 
 pub returns-in-Ok-clause-accepting : goal.returns-in-Ok-clause-accepting
 returns-in-Ok-clause-accepting g c = c.start_link.ensures.accepting
@@ -64,17 +62,17 @@ returns-in-Ok-clause-tied g c =
     let same = c.reserve_link-ready.ensures.same in
     let prepared = c.prepare_link.ensures in
     let begun = c.start_link.ensures in
-    ticks_on (shown_all g.I.Source.half g.O.Sink.half g.T.Clock.given c.prepare_link.new.self.started.items) _ (shown_admitted g.I.Source.half g.O.Sink.half g.T.Clock.given c.in-Ok.admitted) _ _ begun.links
-    (same.ticks ∙ (c.requires.tied ∙ ap (λ l. ticks_of (shown_all g.I.Source.half g.O.Sink.half g.T.Clock.given l)) (sym (ap (λ v. v.items) prepared.links.0 ∙ same.started))))
-    (ap (λ v. v.items) begun.ticks ∙ (rw c.in-Ok.is at prepared.ticks))
+    ticks_on (shown_all g.I.Source.half g.O.Sink.half g.T.Clock.given c.prepare_link.new.self.all) _ (shown_admitted g.I.Source.half g.O.Sink.half g.T.Clock.given c.in-Ok.admitted) _ _ _ begun.links
+    (ap (λ l. ticks_of (shown_all g.I.Source.half g.O.Sink.half g.T.Clock.given l)) (prepared.links.all ∙ same.all))
+    (begun.ticks ∙ ((rw c.in-Ok.is at prepared.ticks) ∙ ap (λ l. l ++ c.in-Ok.admitted.tick.value ∷ []) same.ticks))
 
 pub returns-in-Ok-clause-links : goal.returns-in-Ok-clause-links
 returns-in-Ok-clause-links g c =
     let same = c.reserve_link-ready.ensures.same in
     let prepared = c.prepare_link.ensures in
-    links_on (shown_all g.I.Source.half g.O.Sink.half g.T.Clock.given c.prepare_link.new.self.started.items) _ (shown_admitted g.I.Source.half g.O.Sink.half g.T.Clock.given c.in-Ok.admitted) _ _ c.start_link.ensures.links
-    (ap (λ l. links_of (shown_all g.I.Source.half g.O.Sink.half g.T.Clock.given l)) (ap (λ v. v.items) prepared.links.0 ∙ same.started))
+    links_on (shown_all g.I.Source.half g.O.Sink.half g.T.Clock.given c.prepare_link.new.self.all) _ (shown_admitted g.I.Source.half g.O.Sink.half g.T.Clock.given c.in-Ok.admitted) _ _ c.start_link.ensures.links
+    (ap (λ l. links_of (shown_all g.I.Source.half g.O.Sink.half g.T.Clock.given l)) (prepared.links.all ∙ same.all))
     (ap (λ l. accepted_as g.I.Source.half g.O.Sink.half g.T.Clock.given l) (rw c.in-Ok.is at prepared.first))
 
 pub returns-in-Ok-clause-count : goal.returns-in-Ok-clause-count
-returns-in-Ok-clause-count g c = c.start_link.ensures.count ∙ ap (λ n. n + 1) (ap vec_len c.prepare_link.ensures.links.0 ∙ c.reserve_link-ready.ensures.same.count)
+returns-in-Ok-clause-count g c = c.start_link.ensures.count ∙ ap (λ n. n + 1) (c.prepare_link.ensures.links.begun ∙ c.reserve_link-ready.ensures.same.begun)

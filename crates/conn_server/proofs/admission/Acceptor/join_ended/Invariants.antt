@@ -1,4 +1,4 @@
-use Rattle.std.specs.Prelude.{◌≡◌, vec_len}
+use Rattle.std.specs.Prelude.{◌≡◌}
 use Rattle.conn_server.specs.Accepts.{IsAccepting, shown_all}
 use Rattle.conn_server.specs.Made.{IsMadeFor}
 use Rattle.conn_server.specs.Talks.{TalksOver}
@@ -9,8 +9,8 @@ invariant-loop g l = record {
   is : IsAccepting
       (TalksOver g.I.Source.half g.O.Sink.half g.T.Clock.given g.H.Worker.shown g.H.Worker.may g.H.Worker.moves l.shared.book.now)
       (IsMadeFor g.I.Source.half g.O.Sink.half g.T.Clock.given g.H.Worker.shown g.H.Worker.moves l.shared.plan.now)
-      g.H.Worker.shown l.shared.lock.now l.shared.book.now l.self;
-  ticks : l.self.ticks ≡ l.fn.self.ticks;
-  links : shown_all g.I.Source.half g.O.Sink.half g.T.Clock.given l.self.started.items ≡ shown_all g.I.Source.half g.O.Sink.half g.T.Clock.given l.fn.self.started.items;
-  count : vec_len l.self.started ≡ vec_len l.fn.self.started;
+      g.H.Worker.shown g.C.Collector.collected g.C.Collector.expects l.shared.lock.now l.shared.book.now l.self;
+  ticks : (g.C.Collector.collected l.self.collector).ticks ≡ (g.C.Collector.collected l.fn.self.collector).ticks;
+  links : shown_all g.I.Source.half g.O.Sink.half g.T.Clock.given l.self.all ≡ shown_all g.I.Source.half g.O.Sink.half g.T.Clock.given l.fn.self.all;
+  begun : l.self.begun ≡ l.fn.self.begun;
 }

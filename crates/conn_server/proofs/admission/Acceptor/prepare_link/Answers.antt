@@ -1,4 +1,4 @@
-use Rattle.std.proofs.Common.{◌∙◌, ◌+◌, ◌∷◌, [], ap, subst, sym, refl, arith}
+use Rattle.std.proofs.Common.{◌∙◌, ◌+◌, ◌∷◌, [], ap, subst, sym, refl, arith, length}
 use Rattle.std.specs.Prelude.{vec_len, vec_capacity}
 use Rattle.wire_io.specs.Wire.{Gave}
 use Rattle.conn_server.proofs.Losing.{lost_link}
@@ -10,11 +10,13 @@ returns-clause-next g c =
     let t = c.with_tick-entry.ensures in
     let ready = c.requires.ready in
     let hand = c.args.ready.hand in
-    let count = ap vec_len t.links.0 in
-    let held = ap vec_capacity t.links.0 in
-    let kept = ap vec_capacity t.links.1 in
+    let count = t.links.begun in
+    let long = ap vec_len t.links.live_are in
+    let held = ap vec_capacity t.links.live_are in
+    let reports = ap length t.links.reports in
+    let kept = t.links.room in
     let few = c.requires.few in
-    let room = c.requires.room.started in
+    let room = c.requires.room.live_room in
     let room2 = c.requires.room.reports in
     record {
       accepting = t.accepting;
@@ -26,8 +28,8 @@ returns-clause-next g c =
           (t.number ∙ ready.hand)
           ((g.H.Worker.shown hand).seen, (g.H.Worker.shown hand).state, ready.untold, ready.uncounted, rw c.in-Some.is at t.seen, rw c.in-Some.is at t.state);
       after_tick = rw c.in-Some.is at t.place;
-      started = omega (arith, count, held, room);
-      reports = omega (arith, count, kept, room2);
+      live_room = omega (arith, long, held, room);
+      reports = omega (arith, long, reports, kept, room2);
     }
 
 pub returns-in_default-clause-lost : goal.returns-in_default-clause-lost

@@ -12,9 +12,9 @@ returns-in-Ok-clause-ready g c =
       told = made.calls;
       untold = made.untold;
       uncounted = made.uncounted;
-      hand = made.number ∙ ap (λ n. n + 1) (c.len.ensures ∙ c.if-not-with_room.ensures.same.count);
+      hand = made.number ∙ ap (λ n. n + 1) c.if-not-with_room.ensures.same.begun;
       terms = λ kinds. subst (λ (k : ℕ). terms_of kinds c.in-Ok.ready.setup ≡ link_terms kinds c.args.shared.now.plan.now k link.host link.port)
-          (ap (λ n. n + 1) (c.len.ensures ∙ c.if-not-with_room.ensures.same.count)) (made.terms kinds);
+          (ap (λ n. n + 1) c.if-not-with_room.ensures.same.begun) (made.terms kinds);
       peer_host = made.peer_host;
       host = made.host;
       time = made.time;

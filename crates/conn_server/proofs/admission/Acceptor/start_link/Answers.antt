@@ -1,4 +1,4 @@
-use Rattle.std.proofs.Common.{refl, ap, ◌+◌}
+use Rattle.std.proofs.Common.{refl}
 use Rattle.conn_server.proofs.Taking.{link_accepting}
 use Rattle.conn_server.proofs.admission.Acceptor.start_link.Goals as goal
 
@@ -8,6 +8,6 @@ returns-clause-accepting g c =
     let begun = c.start-begun in
     let next = c.requires in
     let is = next.accepting in
-    link_accepting _ _ _ c.args.shared.now.lock.now c.args.shared.now.book.now c.args.self.now _ _ begun.result is c.split.ensures.root s.pass.1 s.pass.2 s.pass.4 s.pass.3 (ap (λ n. n + 1) c.len.ensures)
-    (record { own = s.pass.0; admitted = next.can }) next.made next.after_tick begun.ensures.task begun.ensures.begun begun.ensures.out
-    c.push_reserved.ensures.items c.push_reserved.ensures.len next.reports is.empty refl
+    link_accepting _ _ _ _ _ c.args.shared.now.lock.now c.args.shared.now.book.now c.args.self.now _ _ begun.result is c.split.ensures.root s.pass.1 s.pass.2 s.pass.4 s.pass.3 refl
+    (record { own = s.pass.0; admitted = next.can }) next.made next.after_tick begun.ensures.task begun.ensures.by begun.ensures.begun begun.ensures.out
+    c.push_reserved.ensures.items c.push.ensures refl next.reports refl

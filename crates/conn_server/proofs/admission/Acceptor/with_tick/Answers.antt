@@ -12,26 +12,26 @@ use Rattle.conn_server.proofs.admission.Acceptor.with_tick.Goals as goal
 pub returns-clause-accepting : goal.returns-clause-accepting
 returns-clause-accepting g c =
     let t = c.tick-entry.ensures in
-    tick_accepting _ _ _ c.args.shared.now.lock.now c.args.shared.now.book.now c.args.self.now _ (option_to_list c.tick-entry.result) c.requires.accepting t.root t.counts.0 t.counts.1 t.went.views c.keep_entry-known.ensures.items refl refl
+    tick_accepting _ _ _ _ _ c.args.shared.now.lock.now c.args.shared.now.book.now c.args.self.now _ (option_to_list c.tick-entry.result) c.requires.accepting t.root t.counts.0 t.counts.1 t.went.views c.hand_entry.ensures.items c.hand_entry.ensures.reports refl refl refl
 
 pub returns-clause-ticks : goal.returns-clause-ticks
-returns-clause-ticks g c = kept_there (λ k. k.value) c.args.self.now.ticks.items _ c.tick-entry.result c.keep_entry-known.result c.keep_entry-known.ensures.known c.keep_entry-known.ensures.items
+returns-clause-ticks g c = kept_there (λ k. k.value) (g.C.Collector.collected c.args.self.now.collector).ticks _ c.tick-entry.result c.hand_entry.result c.hand_entry.ensures.known c.hand_entry.ensures.items
 
 pub returns-clause-asked : goal.returns-clause-asked
-returns-clause-asked g c = known_there (λ k. k.value) (λ entry. entry.ask ≡ Tick) c.tick-entry.result c.keep_entry-known.result c.keep_entry-known.ensures.known c.tick-entry.ensures.asked
+returns-clause-asked g c = known_there (λ k. k.value) (λ entry. entry.ask ≡ Tick) c.tick-entry.result c.hand_entry.result c.hand_entry.ensures.known c.tick-entry.ensures.asked
 
 pub returns-clause-end : goal.returns-clause-end
-returns-clause-end g c = known_there (λ k. k.value) (λ entry. IsTickEnd entry.end) c.tick-entry.result c.keep_entry-known.result c.keep_entry-known.ensures.known c.tick-entry.ensures.end
+returns-clause-end g c = known_there (λ k. k.value) (λ entry. IsTickEnd entry.end) c.tick-entry.result c.hand_entry.result c.hand_entry.ensures.known c.tick-entry.ensures.end
 
 pub returns-clause-place : goal.returns-clause-place
 returns-clause-place g c =
-    known_there (λ k. k.value) (λ entry. IsTakenBelow (length (view_of c.tick-entry.new.root.pass).seen) entry.end) c.tick-entry.result c.keep_entry-known.result c.keep_entry-known.ensures.known c.tick-entry.ensures.place
+    known_there (λ k. k.value) (λ entry. IsTakenBelow (length (view_of c.tick-entry.new.root.pass).seen) entry.end) c.tick-entry.result c.hand_entry.result c.hand_entry.ensures.known c.tick-entry.ensures.place
 
 pub returns-clause-given : goal.returns-clause-given
-returns-clause-given g c = known_there (λ k. k.value) (λ entry. Gave (g.T.Clock.given c.args.clock.now) (g.T.Clock.given c.tick-entry.new.clock) (entry.moment ∷ [])) c.tick-entry.result c.keep_entry-known.result c.keep_entry-known.ensures.known c.tick-entry.ensures.given
+returns-clause-given g c = known_there (λ k. k.value) (λ entry. Gave (g.T.Clock.given c.args.clock.now) (g.T.Clock.given c.tick-entry.new.clock) (entry.moment ∷ [])) c.tick-entry.result c.hand_entry.result c.hand_entry.ensures.known c.tick-entry.ensures.given
 
 pub returns-clause-seen : goal.returns-clause-seen
-returns-clause-seen g c = known_there (λ k. k.value) (λ entry. TellsMore (g.H.Worker.shown c.args.hand.now).seen (told_of entry) (g.H.Worker.shown c.tick-entry.new.hand).seen) c.tick-entry.result c.keep_entry-known.result c.keep_entry-known.ensures.known c.tick-entry.ensures.seen
+returns-clause-seen g c = known_there (λ k. k.value) (λ entry. TellsMore (g.H.Worker.shown c.args.hand.now).seen (told_of entry) (g.H.Worker.shown c.tick-entry.new.hand).seen) c.tick-entry.result c.hand_entry.result c.hand_entry.ensures.known c.tick-entry.ensures.seen
 
 pub returns-clause-state : goal.returns-clause-state
-returns-clause-state g c = known_there (λ k. k.value) (λ entry. LeadsStates g.H.Worker.moves (g.H.Worker.shown c.args.hand.now).state (told_of entry) (g.H.Worker.shown c.tick-entry.new.hand).state) c.tick-entry.result c.keep_entry-known.result c.keep_entry-known.ensures.known c.tick-entry.ensures.state
+returns-clause-state g c = known_there (λ k. k.value) (λ entry. LeadsStates g.H.Worker.moves (g.H.Worker.shown c.args.hand.now).state (told_of entry) (g.H.Worker.shown c.tick-entry.new.hand).state) c.tick-entry.result c.hand_entry.result c.hand_entry.ensures.known c.tick-entry.ensures.state

@@ -42,8 +42,8 @@ returns-in-Some-clause-left c =
 
 pub returns-in-None-clause-ok : goal.returns-in-None-clause-ok
 returns-in-None-clause-ok c client first calls s =
-    told-idle client first c.args.self.now c.lapse.new.self c.args.now calls s
-    (sym (due-is client first c.args.self.now c.args.now calls s c.objects_due.ensures.once) ∙ sym c.in_ok-objects.ensures.value ∙ c.in-None.is) c.lapse.ensures
+    told-idle client first c.args.self.now c.rest.new.self c.args.now calls s
+    (sym (due-is client first c.args.self.now c.args.now calls s c.objects_due.ensures.once) ∙ sym c.in_ok-objects.ensures.value ∙ c.in-None.is) c.rest.ensures
 
 pub returns-in-None-clause-plan : goal.returns-in-None-clause-plan
 returns-in-None-clause-plan c client first calls s =

@@ -1,0 +1,134 @@
+-- What is kept while a host accepts links.
+use Rattle.std.proofs.Common.{◌≡◌, ℕ, ◌+◌, ◌<◌, ◌≤◌, List, [], ◌∷◌, ◌++◌, refl, ap, sym, ◌∙◌, subst, arith, append-nil, length}
+use Rattle.std.specs.Prelude.{Option, Some, None}
+use Rattle.wire_io.specs.Links.{Accepted, Listening, with_next}
+use Rattle.wire_io.specs.Wire.{ReadHalf, WriteHalf, Rose}
+use Rattle.space.specs.declared.asked.Asked.{Asked}
+use Rattle.turn_lock.specs.declared.handles.TurnLock.{TurnLock}
+use Rattle.call_dispatch.specs.Acts.{WorkerState, Call, States}
+use Rattle.call_dispatch.specs.declared.outcome.Invocation.{Invocation}
+use Rattle.call_dispatch.specs.declared.outcome.Outcome.{Outcome}
+use Rattle.system_objects.specs.declared.book.Kind.{Kind}
+use Rattle.conn_server.specs.Accepts.{IsAccepting, TicksOn, shown_all, links_of, ticks_of, with_all}
+use Rattle.conn_server.specs.Collects.{Collected}
+use Rattle.conn_server.specs.Hosts.{IsHosting, IsHalted}
+use Rattle.conn_server.specs.Made.{IsMadeFor}
+use Rattle.conn_server.specs.Quiet.{TicksQuietly}
+use Rattle.conn_server.specs.Stops.{HostStopped, IsLostLink}
+use Rattle.conn_server.specs.Talks.{TalksOver}
+use Rattle.conn_server.specs.declared.accept_loop.Stop.{Stop}
+use Rattle.conn_server.specs.declared.accept_loop.Stop.TheVariants.{AcceptFault, OutOfMemory}
+use Rattle.conn_server.specs.declared.admission.Acceptor.{Acceptor}
+use Rattle.conn_server.specs.declared.admission.LostLink.{LostLink}
+use Rattle.conn_server.specs.declared.link_task.LinkReport.{LinkReport}
+use Rattle.conn_server.specs.declared.link_thread.StartedLink.{StartedLink}
+use Rattle.conn_server.specs.declared.plan.ServePlan.{ServePlan}
+use Rattle.conn_server.proofs.Listening.{one_more, with_none}
+use Rattle.conn_server.proofs.Quiet.{quiet_first, quiet_link, quiet_same}
+
+module _ {I O T H C : Type 0} (read_half : I → ReadHalf) (write_half : O → WriteHalf) (given : T → Option (List ℕ)) (shown : H → WorkerState) (may : Invocation → Outcome → Type 0) (moves : States → Call → States → Type 0)
+    (collected : C → Collected (LinkReport I O T H)) (expects : C → LinkReport I O T H → Type 0) (lock : TurnLock) (kinds : List Kind) (plan : ServePlan) (l0 : Listening) (gave_first : Option (List ℕ)) where
+  abbrev Taking : Acceptor I O T H C → Type 0
+  Taking a = IsAccepting (TalksOver read_half write_half given shown may moves kinds) (IsMadeFor read_half write_half given shown moves plan) shown collected expects lock kinds a
+
+  abbrev Going : Listening → Option (List ℕ) → Acceptor I O T H C → Option H → Type 0
+  Going l gave a hand = IsHosting read_half write_half given shown may moves collected expects lock kinds plan l0 l gave_first gave a hand
+
+  abbrev links_now : Acceptor I O T H C → List Accepted
+  links_now a = links_of (shown_all read_half write_half given a.all)
+
+  abbrev ticks_now : Acceptor I O T H C → List Asked
+  ticks_now a = ticks_of (shown_all read_half write_half given a.all)
+
+  -- Links ended, and the listener was asked, or wasn't.
+  pub hosting_joined : (l l2 : Listening) (gave : Option (List ℕ)) (a b : Acceptor I O T H C) (hand : Option H) → Going l gave a hand → Taking b → (collected b.collector).ticks ≡ (collected a.collector).ticks
+      → shown_all read_half write_half given b.all ≡ shown_all read_half write_half given a.all → b.begun ≡ a.begun → l2.accepted ≡ l.accepted → l.faults ≤ l2.faults → l2.ports ≡ l.ports → Going l2 gave b hand
+  hosting_joined l l2 gave a b hand is then same_ticks same begun same_links more same_ports =
+      let few = is.few in
+      let faults = is.faults in
+      record {
+        is = then;
+        few = omega (arith, few, begun);
+        quiet = quiet_same shown moves gave_first gave (ticks_now a) (ticks_now b) (collected a.collector).ticks (collected b.collector).ticks hand is.quiet same_ticks (ap (λ l. ticks_of l) same);
+        links = same_links ∙ (is.links ∙ ap (λ l. with_all l0.accepted (links_of l)) (sym same));
+        faults = omega (arith, faults, more);
+        same_ports = same_ports ∙ is.same_ports;
+      }
+
+  -- A quiet second passed.
+  pub hosting_quiet : (l : Listening) (gave gave2 : Option (List ℕ)) (a b : Acceptor I O T H C) (hand hand2 : Option H) → Going l gave a hand → Taking b → b.all ≡ a.all → b.begun ≡ a.begun
+      → (TicksQuietly shown moves gave_first gave (ticks_now a) (collected a.collector).ticks hand → TicksQuietly shown moves gave_first gave2 (ticks_now a) (collected b.collector).ticks hand2) → Going l gave2 b hand2
+  hosting_quiet l gave gave2 a b hand hand2 is then same begun ticks =
+      let few = is.few in
+      record {
+        is = then;
+        few = omega (arith, few, begun);
+        quiet = quiet_same shown moves gave_first gave2 (ticks_now a) (ticks_now b) (collected b.collector).ticks (collected b.collector).ticks hand2 (ticks is.quiet) refl (ap (λ (l : List (StartedLink I O T H)). ticks_of (shown_all read_half write_half given l)) same);
+        links = is.links ∙ ap (λ (l : List (StartedLink I O T H)). with_all l0.accepted (links_of (shown_all read_half write_half given l))) (sym same);
+        faults = is.faults;
+        same_ports = is.same_ports;
+      }
+
+  -- A link was begun.
+  pub hosting_link : (l l2 : Listening) (link : Accepted) (gave : Option (List ℕ)) (a b : Acceptor I O T H C) (hand : Option H) → Going l gave a hand → a.begun < plan.count → l2.accepted ≡ with_next l.accepted link → l.faults ≤ l2.faults → l2.ports ≡ l.ports
+      → Taking b → TicksOn (collected a.collector).ticks (collected b.collector).ticks (ticks_now a) (ticks_now b) → links_now b ≡ links_now a ++ link ∷ [] → b.begun ≡ a.begun + 1 → Going l2 gave b hand
+  hosting_link l l2 link gave a b hand is few next more same_ports then ticks links begun =
+      let faults = is.faults in
+      record {
+        is = then;
+        few = omega (arith, few, begun);
+        quiet = quiet_link shown moves gave_first gave (ticks_now a) (ticks_now b) (collected a.collector).ticks (collected b.collector).ticks hand is.quiet ticks;
+        links = one_more l0.accepted l.accepted l2.accepted (links_now a) link is.links next ∙ ap (with_all l0.accepted) (sym links);
+        faults = omega (arith, faults, more);
+        same_ports = same_ports ∙ is.same_ports;
+      }
+
+  -- There was no memory for a link.
+  pub halted_lost : (l l2 : Listening) (link : Accepted) (gave : Option (List ℕ)) (a b : Acceptor I O T H C) (hand : Option H) (lost : LostLink I O T) → Going l gave a hand → a.begun < plan.count → l2.accepted ≡ with_next l.accepted link → l.faults ≤ l2.faults → l2.ports ≡ l.ports
+      → Taking b → (collected b.collector).ticks ≡ (collected a.collector).ticks → ticks_now b ≡ ticks_now a → links_now b ≡ links_now a → b.begun ≡ a.begun → IsLostLink read_half write_half given link lost
+      → IsHalted read_half write_half given shown may moves collected expects lock kinds plan l0 l2 gave_first gave b hand (record { stop = OutOfMemory; lost = Some lost })
+  halted_lost l l2 link gave a b hand lost is few next more same_ports then same_ticks same same_links begun lost_is =
+      let faults = is.faults in
+      record {
+        is = then;
+        quiet = quiet_same shown moves gave_first gave (ticks_now a) (ticks_now b) (collected a.collector).ticks (collected b.collector).ticks hand is.quiet same_ticks same;
+        missed = link ∷ [];
+        links = one_more l0.accepted l.accepted l2.accepted (links_now a) link is.links next ∙ ap (λ l. with_all l0.accepted (l ++ link ∷ [])) (sym same_links);
+        stopped = (omega (arith, few, begun), refl);
+        back = lost_is;
+        fault = λ same. absurd (cc);
+        faults = omega (arith, faults, more);
+        same_ports = same_ports ∙ is.same_ports;
+      }
+
+  -- No more links are accepted, for another cause.
+  pub halted_none : (l : Listening) (gave : Option (List ℕ)) (a : Acceptor I O T H C) (hand : Option H) (stop : Stop) → Going l gave a hand → HostStopped stop l.told plan.count a.begun [] → (stop ≡ AcceptFault → Rose l0.faults l.faults)
+      → IsHalted read_half write_half given shown may moves collected expects lock kinds plan l0 l gave_first gave a hand (record { stop = stop; lost = None })
+  halted_none l gave a hand stop is stopped fault = record {
+    is = is.is;
+    quiet = is.quiet;
+    missed = [];
+    links = is.links ∙ ap (with_all l0.accepted) (sym (append-nil (links_now a)));
+    stopped = stopped;
+    back = tt;
+    fault = fault;
+    faults = is.faults;
+    same_ports = is.same_ports;
+  }
+
+-- At first no link is accepted.
+pub hosting_first : {I O T H C : Type 0} (read_half : I → ReadHalf) (write_half : O → WriteHalf) (given : T → Option (List ℕ)) (shown : H → WorkerState) (may : Invocation → Outcome → Type 0) (moves : States → Call → States → Type 0)
+    (collected : C → Collected (LinkReport I O T H)) (expects : C → LinkReport I O T H → Type 0) (lock : TurnLock) (kinds : List Kind) (plan : ServePlan) (l : Listening) (gave : Option (List ℕ)) (a : Acceptor I O T H C) (hand : Option H)
+    → IsAccepting (TalksOver read_half write_half given shown may moves kinds) (IsMadeFor read_half write_half given shown moves plan) shown collected expects lock kinds a → a.all ≡ [] → (collected a.collector).ticks ≡ [] → hand ≡ None
+    → IsHosting read_half write_half given shown may moves collected expects lock kinds plan l l gave gave a hand
+hosting_first {I = I} {O = O} {T = T} {H = H} read_half write_half given shown may moves collected expects lock kinds plan l gave a hand is none no_tick handless =
+    let count = is.begun ∙ ap (λ (l : List (StartedLink I O T H)). length l) none in
+    record {
+      is = is;
+      few = omega (arith, count);
+      quiet = subst (λ (o : Option H). TicksQuietly shown moves gave gave (ticks_of (shown_all read_half write_half given a.all)) (collected a.collector).ticks o) (sym handless)
+          (quiet_first shown moves gave (ticks_of (shown_all read_half write_half given a.all)) (collected a.collector).ticks (ap (λ (l : List (StartedLink I O T H)). ticks_of (shown_all read_half write_half given l)) none) no_tick);
+      links = sym (with_none l.accepted) ∙ ap (λ (s : List (StartedLink I O T H)). with_all l.accepted (links_of (shown_all read_half write_half given s))) (sym none);
+      faults = omega arith;
+      same_ports = refl;
+    }

@@ -1,0 +1,231 @@
+//! Accepting links until the listener is told to stop.
+ghost use Rattle.std.specs.Prelude.{◌≡◌, ◌≤◌, ◌<◌, ℕ, List, [], length, Option, None, Ok};
+ghost use Rattle.mod_utf.specs.Utf.{utf};
+ghost use Rattle.wire_io.specs.Links.{Listening, Waits, IfCame, accepted_as};
+ghost use Rattle.wire_io.specs.Wire.{AreNewHalves};
+ghost use Rattle.wire_io.specs.declared.limits.TheConstants.{MAX_HOST_BYTES};
+ghost use Rattle.wire_io.specs.declared.source.Failed.{Failed};
+ghost use Rattle.conn_server.specs.Accepts.{IsAccepting};
+ghost use Rattle.conn_server.specs.Hosts.{GoesOn, IsHalted, IsHosting};
+ghost use Rattle.conn_server.specs.Made.{IsMadeFor};
+ghost use Rattle.conn_server.specs.Talks.{TalksOver};
+ghost use Rattle.conn_server.specs.declared.plan.TheConstants.{LAST_NUMBER};
+
+use crate::accept_loop::Stop;
+use crate::admission::{Acceptor, LostLink};
+use crate::collector::Collector;
+use crate::link_task::LinkReport;
+use crate::plan::ServePlan;
+use crate::shared::Shared;
+use call_dispatch::{Crew, Worker};
+use std::sync::Wait;
+use std::thread::{Scope, Threads};
+use wire_io::{Clock, Link, Listener, Sink, Source, Waited};
+
+/// The most links that are live when another is accepted.
+const MAX_LIVE: usize = 8_192;
+
+/// The most times that a failing listener is asked again, after a pause each, while no link is live.
+const MAX_IDLE_TRIES: u32 = 4;
+
+/// Why a host accepts no more links, and the link for which there was no memory, if that is why.
+#[derive(Drop)]
+pub struct Halt<I, O, T> {
+    pub stop: Stop,
+    pub lost: Option<LostLink<I, O, T>>,
+}
+
+/// Accepts links until the listener is told to stop.
+#[derive(Drop)]
+pub struct Host<I: Source, O: Sink, T: Clock, H: Worker, C> {
+    pub acceptor: Acceptor<I, O, T, H, C>,
+    /// The hand of number 0, once there was a quiet second and memory for it.
+    pub hand: Option<H>,
+    /// The number of times that the listener failed without a live link since it last answered.
+    pub idle_tries: u32,
+}
+
+/// Returns the most links that are served.
+fn count_of(plan: &ServePlan) -> u32
+    ensures { result ≡ plan.now.count }
+{
+    plan.count
+}
+
+impl<
+    I: Source + Drop,
+    O: Sink + Drop,
+    T: Clock + Drop,
+    H: Worker + Drop,
+    C: Collector<LinkReport<I, O, T, H>>,
+> Host<I, O, T, H, C> {
+    /// Notes that the listener failed, and says whether it is given up.
+    fn gives_up(&mut self) -> bool
+        ensures acceptor { self.new.acceptor ≡ self.old.acceptor }
+        ensures hand { self.new.hand ≡ self.old.hand }
+    {
+        if self.acceptor.live.is_empty() {
+            self.idle_tries = self.idle_tries.saturating_add(1);
+        }
+        self.idle_tries > MAX_IDLE_TRIES
+    }
+
+    /// Does what is to be done after the listener answered: a link is admitted, a quiet second has its Tick, and a host that was told to stop stops.
+    fn take_waited<'s, E, R: Threads + Wait + Sync, Q: Clock, G: Crew<Hand = H>>(
+        &mut self,
+        scope: &Scope<'s, E>,
+        shared: &Shared<'s, R>,
+        crew: &G,
+        ticks: &mut Q,
+        waited: Waited<Link<I, O, T>>,
+    ) -> Option<Halt<I, O, T>>
+    where
+        I: Send + 's,
+        O: Send + 's,
+        T: Send + 's,
+        H: Send + 's,
+        requires host { length (utf shared.now.plan.now.host) ≤ MAX_HOST_BYTES }
+        requires accepting { IsAccepting
+            (TalksOver I.half O.half T.given H.shown H.may H.moves shared.now.book.now)
+            (IsMadeFor I.half O.half T.given H.shown H.moves shared.now.plan.now)
+            H.shown C.collected C.expects shared.now.lock.now shared.now.book.now self.old.acceptor }
+        requires few { self.old.acceptor.begun < shared.now.plan.now.count }
+        requires numbered { self.old.acceptor.begun < LAST_NUMBER }
+        requires halves { IfCame waited (λ link. AreNewHalves (I.half link.source) (O.half link.sink)) }
+        ensures goes_on { (l0 l1 l2 : Listening) (gave_first : Option (List ℕ))
+            → IsHosting I.half O.half T.given H.shown H.may H.moves C.collected C.expects
+            shared.now.lock.now shared.now.book.now shared.now.plan.now
+            l0 l1 gave_first (Q.given ticks.old) self.old.acceptor self.old.hand
+            → Waits {E = Failed} (accepted_as I.half O.half T.given) l1 l2 (Ok waited) → l2.ports ≡ l1.ports
+            → GoesOn I.half O.half T.given H.shown H.may H.moves C.collected C.expects
+            shared.now.lock.now shared.now.book.now shared.now.plan.now
+            l0 l2 gave_first (Q.given ticks.new) self.new.acceptor self.new.hand result }
+    {
+        self.idle_tries = 0;
+        self.acceptor.join_ended(shared);
+        match waited {
+            Waited::Came(link) => match self.acceptor.admit(scope, shared, crew, link) {
+                Some(lost) => Some(Halt {
+                    stop: Stop::OutOfMemory,
+                    lost: Some(lost),
+                }),
+                None => None,
+            },
+            Waited::Quiet => {
+                let mut hand = self.hand.take();
+                self.acceptor.tick_quietly(shared, crew, ticks, &mut hand);
+                self.hand = hand;
+                None
+            }
+            Waited::Told => Some(Halt {
+                stop: Stop::Told,
+                lost: None,
+            }),
+        }
+    }
+
+    /// Waits for the next link for a second at most, and does what is to be done then; or waits for a link to end, where as many are live as may be.
+    fn step<
+        's,
+        E,
+        R: Threads + Wait + Sync,
+        L: Listener<In = I, Out = O, Ticks = T>,
+        Q: Clock,
+        G: Crew<Hand = H>,
+    >(
+        &mut self,
+        scope: &Scope<'s, E>,
+        shared: &Shared<'s, R>,
+        crew: &G,
+        listener: &mut L,
+        ticks: &mut Q,
+    ) -> Option<Halt<I, O, T>>
+    where
+        I: Send + 's,
+        O: Send + 's,
+        T: Send + 's,
+        H: Send + 's,
+        requires host { length (utf shared.now.plan.now.host) ≤ MAX_HOST_BYTES }
+        requires accepting { IsAccepting
+            (TalksOver I.half O.half T.given H.shown H.may H.moves shared.now.book.now)
+            (IsMadeFor I.half O.half T.given H.shown H.moves shared.now.plan.now)
+            H.shown C.collected C.expects shared.now.lock.now shared.now.book.now self.old.acceptor }
+        ensures goes_on { (l0 : Listening) (gave_first : Option (List ℕ))
+            → IsHosting I.half O.half T.given H.shown H.may H.moves C.collected C.expects
+            shared.now.lock.now shared.now.book.now shared.now.plan.now
+            l0 (L.listening listener.old) gave_first (Q.given ticks.old) self.old.acceptor self.old.hand
+            → GoesOn I.half O.half T.given H.shown H.may H.moves C.collected C.expects
+            shared.now.lock.now shared.now.book.now shared.now.plan.now
+            l0 (L.listening listener.new) gave_first (Q.given ticks.new) self.new.acceptor self.new.hand result }
+    {
+        if self.acceptor.begun >= count_of(shared.plan) {
+            return Some(Halt {
+                stop: Stop::All,
+                lost: None,
+            });
+        }
+        let seen = shared.ended.count();
+        if self.acceptor.live.len() >= MAX_LIVE {
+            shared.ended.pause(shared.rt, seen);
+            self.acceptor.join_ended(shared);
+            return None;
+        }
+        match listener.wait() {
+            Ok(waited) => self.take_waited(scope, shared, crew, ticks, waited),
+            Err(_failed) => {
+                self.acceptor.join_ended(shared);
+                if self.gives_up() {
+                    return Some(Halt {
+                        stop: Stop::AcceptFault,
+                        lost: None,
+                    });
+                }
+                shared.ended.pause(shared.rt, seen);
+                None
+            }
+        }
+    }
+
+    /// Accepts links until the listener is told to stop, or for another cause. A thread of the scope serves each.
+    pub fn run<
+        's,
+        E,
+        R: Threads + Wait + Sync,
+        L: Listener<In = I, Out = O, Ticks = T>,
+        Q: Clock,
+        G: Crew<Hand = H>,
+    >(
+        &mut self,
+        scope: &Scope<'s, E>,
+        shared: &Shared<'s, R>,
+        crew: &G,
+        listener: &mut L,
+        ticks: &mut Q,
+    ) -> Halt<I, O, T>
+    where
+        I: Send + 's,
+        O: Send + 's,
+        T: Send + 's,
+        H: Send + 's,
+        requires host { length (utf shared.now.plan.now.host) ≤ MAX_HOST_BYTES }
+        requires accepting { IsAccepting
+            (TalksOver I.half O.half T.given H.shown H.may H.moves shared.now.book.now)
+            (IsMadeFor I.half O.half T.given H.shown H.moves shared.now.plan.now)
+            H.shown C.collected C.expects shared.now.lock.now shared.now.book.now self.old.acceptor }
+        requires fresh { (self.old.acceptor.all ≡ [])
+            × ((C.collected self.old.acceptor.collector).ticks ≡ []) }
+        requires handless { self.old.hand ≡ None }
+        ensures halted { IsHalted I.half O.half T.given H.shown H.may H.moves C.collected C.expects
+            shared.now.lock.now shared.now.book.now shared.now.plan.now
+            (L.listening listener.old) (L.listening listener.new) (Q.given ticks.old) (Q.given ticks.new)
+            self.new.acceptor self.new.hand result }
+    {
+        for _ in shared.rt.forever() {
+            match self.step(scope, shared, crew, listener, ticks) {
+                Some(halt) => return halt,
+                None => {}
+            }
+        }
+        unreachable!()
+    }
+}

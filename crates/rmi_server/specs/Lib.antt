@@ -1,0 +1,10 @@
+pub mod Faults
+pub mod Reading
+pub mod Replies
+pub mod Fits
+pub mod Kinds
+pub mod Opens
+pub mod SiteFaults
+pub mod Begun
+pub mod Sites
+pub mod Served

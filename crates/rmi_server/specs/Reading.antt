@@ -1,0 +1,110 @@
+-- What a service reads of a call's arguments.
+use Rattle.std.specs.Prelude.{◌≡◌, ◌⊎◌, ℕ, ℤ, Bool, List, [], ◌∷◌, slice_get, Option, Some, None, Result, Ok, Err}
+use Rattle.class_desc.specs.declared.slot.Slot.{Slot}
+use Rattle.class_desc.specs.declared.slot.Item.TheVariants as contents
+use Rattle.java_shapes.specs.declared.fault.ShapeFault.{ShapeFault}
+use Rattle.java_shapes.specs.declared.fault.ShapeFault.TheVariants as shapes
+use Rattle.jrmp_frames.specs.declared.arguments.Arg.{Arg}
+use Rattle.jrmp_frames.specs.declared.arguments.Arg.TheVariants as arguments
+use Rattle.ser_values.specs.declared.value.Value.{Value}
+use Rattle.ser_values.specs.declared.value.Value.TheVariants.{Boolean, Byte, Char, Short, Int, Long}
+use Rattle.ser_values.specs.declared.node.Node.{Node}
+use Rattle.ser_values.specs.declared.graph.Graph.{Graph}
+use Rattle.ser_values.specs.Finished.{IsGraphOf, IsOrder}
+use Rattle.ser_values.specs.declared.limits.TheConstants.{LEVELS}
+use Rattle.rmi_server.specs.declared.fault.Wanted.{Wanted}
+use Rattle.rmi_server.specs.declared.fault.Wanted.TheVariants as wanted_kinds
+use Rattle.rmi_server.specs.declared.fault.CallFault.{CallFault}
+use Rattle.rmi_server.specs.declared.fault.CallFault.TheVariants.{WrongArgument, OutOfMemory}
+
+-- ---- what stands at a place
+
+abbrev pub value_in : Option Arg → Option Value
+value_in (Some (arguments.Prim value)) = Some value
+value_in _ = None
+
+-- the number, character or truth value at a place
+abbrev pub value_at : List Arg → ℕ → Option Value
+value_at args place = value_in (slice_get args place)
+
+abbrev pub slot_in : Option Arg → Option Slot
+slot_in (Some (arguments.Ref slot)) = Some slot
+slot_in _ = None
+
+-- the reference at a place
+abbrev pub slot_at : List Arg → ℕ → Option Slot
+slot_at args place = slot_in (slice_get args place)
+
+abbrev pub boolean_in : Option Value → Option Bool
+boolean_in (Some (Boolean value)) = Some value
+boolean_in _ = None
+
+abbrev pub byte_in : Option Value → Option ℕ
+byte_in (Some (Byte value)) = Some value
+byte_in _ = None
+
+abbrev pub char_in : Option Value → Option ℕ
+char_in (Some (Char value)) = Some value
+char_in _ = None
+
+abbrev pub short_in : Option Value → Option ℤ
+short_in (Some (Short value)) = Some value
+short_in _ = None
+
+abbrev pub int_in : Option Value → Option ℤ
+int_in (Some (Int value)) = Some value
+int_in _ = None
+
+abbrev pub long_in : Option Value → Option ℤ
+long_in (Some (Long value)) = Some value
+long_in _ = None
+
+abbrev pub boolean_at : List Arg → ℕ → Option Bool
+boolean_at args place = boolean_in (value_at args place)
+
+abbrev pub byte_at : List Arg → ℕ → Option ℕ
+byte_at args place = byte_in (value_at args place)
+
+abbrev pub char_at : List Arg → ℕ → Option ℕ
+char_at args place = char_in (value_at args place)
+
+abbrev pub short_at : List Arg → ℕ → Option ℤ
+short_at args place = short_in (value_at args place)
+
+abbrev pub int_at : List Arg → ℕ → Option ℤ
+int_at args place = int_in (value_at args place)
+
+abbrev pub long_at : List Arg → ℕ → Option ℤ
+long_at args place = long_in (value_at args place)
+
+-- What the reference reaches of these nodes is no graph: a rule of graphs is broken, or it is too deep.
+abbrev pub IsNoGraph : List Node → Slot → Type 0
+IsNoGraph nodes slot = (order : List ℕ) → ¬ IsOrder nodes LEVELS (contents.Ref slot ∷ []) order
+
+-- ---- what a reader answers
+
+-- The value that is wanted, or the fault that names the place and the type, exactly where there is none.
+abbrev pub Reads : {T : Type 0} → Wanted → ℕ → Option T → Result T CallFault → Type 0
+Reads wanted place (Some value) result = result ≡ Ok value
+Reads wanted place None result = result ≡ Err (WrongArgument place wanted)
+
+-- The same of what a reference is viewed as; there may be no memory for that.
+abbrev pub ReadsAt : {T : Type 0} → (Slot → Option T) → Wanted → ℕ → Option Slot → Result T CallFault → Type 0
+ReadsAt view wanted place (Some slot) result = Reads wanted place (view slot) result ⊎ (result ≡ Err OutOfMemory)
+ReadsAt view wanted place None result = result ≡ Err (WrongArgument place wanted)
+
+-- What a reference reaches of these nodes, as a graph of its own; the fault that names the place, where that is no graph; or no memory.
+abbrev pub ReadsPart : List Node → ℕ → Slot → Result Graph CallFault → Type 0
+ReadsPart nodes place slot (Ok graph) = IsGraphOf nodes (contents.Ref slot ∷ []) graph.nodes graph.items
+ReadsPart nodes place slot (Err OutOfMemory) = Unit {0}
+ReadsPart nodes place slot (Err fault) = (fault ≡ WrongArgument place wanted_kinds.Object) × IsNoGraph nodes slot
+
+-- The same where the argument is this reference.
+abbrev pub ReadsGraph : List Node → ℕ → Option Slot → Result Graph CallFault → Type 0
+ReadsGraph nodes place (Some slot) result = ReadsPart nodes place slot result
+ReadsGraph nodes place None result = result ≡ Err (WrongArgument place wanted_kinds.Object)
+
+-- The fault of an argument that was not read as a type.
+abbrev pub unshaped : ShapeFault → ℕ → Wanted → CallFault
+unshaped shapes.WrongShape place wanted = WrongArgument place wanted
+unshaped shapes.OutOfMemory place wanted = OutOfMemory

@@ -1,0 +1,24 @@
+//! Ends of inputs that set a flag.
+use crate::must;
+use input_end::{FlaggedEnd, InputEnd, MemInputEnd};
+use std::alloc::Global;
+use std::process::Abort;
+use std::sync::Arc;
+use std::sync::atomic::{AtomicBool, Ordering};
+
+/// Looks at an input whose third look sees the end: the flag is set from then on.
+fn check_flag(rt: &impl Abort, alloc: Global) -> Option<()> {
+    let flag = Arc::new(alloc, AtomicBool::new(false)).ok()?;
+    let mut end = FlaggedEnd::new(MemInputEnd::new(Some(2)), Arc::try_clone(&flag).ok()?);
+    for is_seen in [false, false, true, true] {
+        must(rt, end.look() == is_seen, "a look");
+        must(rt, end.was_seen() == is_seen, "it was seen");
+        must(rt, flag.load(Ordering::SeqCst) == is_seen, "the flag");
+    }
+    Some(())
+}
+
+#[test]
+fn the_end_sets_the_flag(rt: HostRuntime) {
+    must(&rt, check_flag(&rt, rt.alloc()).is_some(), "memory");
+}

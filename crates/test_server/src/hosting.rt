@@ -1,0 +1,159 @@
+//! The sample served until its listener is told to stop.
+ghost use Rattle.std.specs.Prelude.{◌≡◌};
+
+use crate::gates::{Gated, GatedSink, GatedSource};
+use crate::holding::Holding;
+use crate::servers::{CONFIG, Cases, check_all, is_short, plan_of};
+use crate::telling::{MADE, Recorders, space_with_made};
+use crate::texts::{moments_of, must};
+use call_dispatch::{Crew, Recorded};
+use conn_server::{Begin, DropsReports, Hosted, KeepsReports, Server, Stop};
+use sample_app::{sample_book, sample_space};
+use sequence::Kinds;
+use space::Space;
+use std::alloc::Global;
+use std::process::Abort;
+use std::sync::Wait;
+use std::thread::Threads;
+use turn_lock::TurnLock;
+use wire_io::MemClock;
+
+/// The reports of links that were kept.
+type Kept<H> = KeepsReports<GatedSource, GatedSink, MemClock, H>;
+
+/// The result of a host whose reports were kept.
+type HostedBy<H> = Hosted<GatedSource, GatedSink, MemClock, Kept<H>, H>;
+
+/// The moments of the quiet seconds.
+const SECONDS: &str = "300000 300001";
+
+/// Serves the links over a space until the listener is told to stop; None where there is no memory.
+fn host_over<R: Threads + Wait + Abort + Sync, G: Crew>(
+    rt: &R,
+    alloc: Global,
+    listener: &mut Gated,
+    crew: &G,
+    space: Space,
+) -> Option<HostedBy<G::Hand>> {
+    let plan = plan_of(rt, alloc, 100_000, 1099);
+    if !is_short(&plan.host) {
+        return None;
+    }
+    let book = sample_book(alloc).ok()?;
+    let mut ticks = MemClock::new(moments_of(rt, alloc, SECONDS));
+    match TurnLock::around(alloc, space) {
+        Ok((lock, root)) => {
+            let server = Server {
+                rt,
+                alloc,
+                crew,
+                book: &book,
+            };
+            let begin = Begin {
+                root,
+                collector: KeepsReports::new(alloc),
+            };
+            Some(server.host(listener, &mut ticks, lock, begin, &plan))
+        }
+        Err(_space) => None,
+    }
+}
+
+/// Three clients: the worker is inside the call of the first one, the second has sent nothing, and the third is inside a call, until the listener is
+/// told to stop.
+const LIVE: &str = "0 | 1234 | 0 | | opening add_one | ack number +5 first 00000000 +0 | Ended
+500 | 1234 | 0 | |  |  | Truncated { at: 0 }
+500 | 1234 | 0 | | opening 50 ACED0005 | ack | Truncated { at: 18 }";
+
+/// Hosts the three clients, and looks at what each got; None where there is no memory.
+fn check_live<R: Threads + Wait + Abort + Sync>(rt: &R, alloc: Global) -> Option<()> {
+    let mut cases = Cases::new(alloc);
+    for line in LIVE.split('\n') {
+        cases.add(rt, alloc, line);
+    }
+    let mut listener = cases.hosted(alloc, Kinds::new(alloc), 3)?;
+    let crew = Holding {
+        ended: listener.ended()?,
+    };
+    let space = sample_space(alloc, &CONFIG).ok()?;
+    let hosted = host_over(rt, alloc, &mut listener, &crew, space)?;
+    let (links, ticks) = hosted.collector.in_order();
+    check_all(rt, alloc, links.as_slice(), LIVE);
+    must(rt, hosted.stop == Stop::Told, "stop");
+    must(rt, ticks.len() == 3, "a tick each");
+    Some(())
+}
+
+#[test]
+fn live_links_are_served_to_their_ends(rt: HostRuntime) {
+    must(&rt, check_live(&rt, rt.alloc()).is_some(), "memory");
+}
+
+/// Hosts no client for two seconds, over a space in which a counter was made that awaits its acknowledgement until the moment 300,000; None where there
+/// is no memory.
+fn check_quiet<R: Threads + Wait + Abort + Sync>(rt: &R, alloc: Global) -> Option<()> {
+    let mut quiet = Kinds::new(alloc);
+    quiet.push(0).ok()?;
+    quiet.push(1).ok()?;
+    let mut listener = Cases::new(alloc).hosted(alloc, quiet, 2)?;
+    let space = space_with_made(alloc)?;
+    let hosted = host_over(rt, alloc, &mut listener, &Recorders { alloc }, space)?;
+    let (links, ticks) = hosted.collector.in_order();
+    must(rt, hosted.stop == Stop::Told, "stop");
+    must(rt, links.is_empty() && ticks.len() == 2, "two ticks");
+    match &hosted.hand {
+        Some(hand) => must(rt, is_told_once(hand.recorded()), "told once"),
+        None => must(rt, false, "a hand"),
+    }
+    Some(())
+}
+
+/// Returns whether a hand was told that the counter is gone, and of nothing else.
+fn is_told_once(recorded: &[Recorded]) -> bool {
+    match recorded {
+        [Recorded::Unreferenced(gone)] => gone.number == MADE.number,
+        _ => false,
+    }
+}
+
+#[test]
+fn a_lease_ends_in_a_quiet_second(rt: HostRuntime) {
+    must(&rt, check_quiet(&rt, rt.alloc()).is_some(), "memory");
+}
+
+/// Hosts no client, with reports that are dropped, until the listener is told to stop at once; None where there is no memory.
+fn check_none<R: Threads + Wait + Abort + Sync>(rt: &R, alloc: Global) -> Option<()> {
+    let mut listener = Cases::new(alloc).hosted(alloc, Kinds::new(alloc), 0)?;
+    let space = sample_space(alloc, &CONFIG).ok()?;
+    let plan = plan_of(rt, alloc, 100_000, 1099);
+    if !is_short(&plan.host) {
+        return None;
+    }
+    let crew = Recorders { alloc };
+    let book = sample_book(alloc).ok()?;
+    let mut ticks = MemClock::new(moments_of(rt, alloc, SECONDS));
+    match TurnLock::around(alloc, space) {
+        Ok((lock, root)) => {
+            let server = Server {
+                rt,
+                alloc,
+                crew: &crew,
+                book: &book,
+            };
+            let begin = Begin {
+                root,
+                collector: DropsReports::new(),
+            };
+            let hosted = server.host(&mut listener, &mut ticks, lock, begin, &plan);
+            must(rt, hosted.stop == Stop::Told, "stop");
+            must(rt, hosted.hand.is_none(), "no hand");
+            Some(())
+        }
+        Err(_space) => None,
+    }
+}
+
+#[test]
+fn a_host_is_told_to_stop_at_once(rt: HostRuntime) {
+    must(&rt, check_none(&rt, rt.alloc()).is_some(), "memory");
+}
