@@ -92,11 +92,11 @@ class Java:
         """Runs checks of the client, and takes the lines that it prints."""
         self.checks("Client", port, *checks)
 
-    def checks(self, program, *words):
+    def checks(self, program, *words, flags=()):
         """Runs a program of checks, and takes the lines that it prints."""
         name = " ".join([program, "ends:", *map(str, words[1:])])
         with check(name):
-            ran = subprocess.run(self.words(program, *words), stdout=subprocess.PIPE, stderr=subprocess.STDOUT, timeout=2 * PATIENCE, check=False)
+            ran = subprocess.run(self.words(program, *words, flags=flags), stdout=subprocess.PIPE, stderr=subprocess.STDOUT, timeout=2 * PATIENCE, check=False)
             lines = ran.stdout.decode(errors="replace").splitlines()
             for line in lines:
                 told(line)

@@ -1,5 +1,6 @@
 // SPDX-License-Identifier: Apache-2.0 OR MIT
-//! Times a part of the product, which the first word names: `graphs`, `streams`, `suid`, `lock` or `client`. The other words say how much of it.
+//! Times a part of the product, which the first word names: `graphs`, `streams`, `suid`, `lock` or
+//! `client`. The other words say how much of it. Scripts of the same names in `bench/` run it.
 #![tactic(auto)]
 
 mod classes;

@@ -52,7 +52,7 @@ pub ack_steps : (may : Invocation → Outcome → Type 0) (moves : States → Ca
     → StandsWhole may moves terms start (spot_at first held side drawn) first.at sent (opened opening exchanges) → IsAtCode (opened opening exchanges) → length exchanges < MAX_MESSAGES → first.at + 15 ≤ first.stop
     → Takes first mid (code_byte DgcAck ∷ []) → Acknowledges may moves mid now side side2 sent result → StepsTo may moves terms start (spot_at now held side2 drawn) now.at opening exchanges result
 ack_steps may moves terms start first mid now held side side2 drawn sent opening exchanges (Ok sent2) stands code few room coded (same, (uid, moment, answer, fits, noted, takes, led)) =
-    let e : Exchange = acknowledged uid moment answer in
+    let e : Exchange = acknowledged (record { uid = uid; moment = moment; answer = answer }) in
     let all : Takes first now (dgc_ack uid) = takes_more first mid now (code_byte DgcAck ∷ []) (bytes_of_uid uid) coded takes in (
       e,
       refl,
@@ -60,7 +60,7 @@ ack_steps may moves terms start first mid now held side side2 drawn sent opening
           (record { left = all.left; held = sym (with_end-nothing held); led = led; drawn = sym (add-zero drawn) }) all.at (same ∙ sym (add-zero sent)),
     )
 ack_steps may moves terms start first mid now held side side2 drawn sent opening exchanges (Err end) stands code few room coded (inl (memory, (uid, moment, fits, takes, led))) =
-    let e : Exchange = acknowledged uid moment (Err HistoryFull) in
+    let e : Exchange = acknowledged (record { uid = uid; moment = moment; answer = Err HistoryFull }) in
     let all : Takes first now (dgc_ack uid) = takes_more first mid now (code_byte DgcAck ∷ []) (bytes_of_uid uid) coded takes in
     let tail : Transcript = record { taken = dgc_ack uid; acts = lost moment ∷ []; draws = 0; written = [] } in
     let T : ConnEnd → Type 0 = λ x. Talked may moves terms start (spot_at now held side2 drawn) x in

@@ -83,10 +83,10 @@ AreBlameless None = Unit {0}
 
 -- No exchange closes the connection for a failure of the outside.
 closes_blameless : (head : CallHead) (s : AtHead) → AreBlameless (served_closes head s)
-closes_blameless head (absent moment turn) = ((λ same. cc), (λ w. w))
+closes_blameless head (absent gone) = ((λ same. cc), (λ w. w))
 closes_blameless head (refused moment) = ((λ same. cc), (λ w. w))
-closes_blameless head (begun moment turn kind (unknown moment2 place)) = ((λ same. cc), (λ w. w))
-closes_blameless head (begun moment turn kind (ran place arguments outcome conclusion)) = tt
+closes_blameless head (begun start (unknown up2)) = ((λ same. cc), (λ w. w))
+closes_blameless head (begun start (ran inv conclusion)) = tt
 
 write_is : (sent : ℕ) (end : ConnEnd) → end ≡ ends.WriteFault sent → end ≢ ends.ReadFault
 write_is sent end how same = cc

@@ -165,21 +165,21 @@ some_is a b same = cc
 
 -- Where the last exchange closes the connection, this is its end.
 closed_ends : (terms : Terms) (drawn : ℕ) (w : Completed) (rest : Option (List ℕ)) (head : CallHead) (s : AtHead) (end : ConnEnd) → served_closes head s ≡ Some end → IsClosed w end → Ends terms drawn w (bytes_taken []) rest end
-closed_ends terms drawn w rest head (absent moment turn) end same closed =
+closed_ends terms drawn w rest head (absent gone) end same closed =
     let P : ConnEnd → Type 0 = λ e. IsClosed w e → Ends terms drawn w (bytes_taken []) rest e in
     subst P (some_is (ends.NoSuchObject head.id) end same) (λ c. (c, refl)) closed
 closed_ends terms drawn w rest head (refused moment) end same closed =
     let P : ConnEnd → Type 0 = λ e. IsClosed w e → Ends terms drawn w (bytes_taken []) rest e in
     subst P (some_is ends.SpaceFull end same) (λ c. (c, refl)) closed
-closed_ends terms drawn w rest head (begun moment turn kind (unknown moment2 place)) end same closed =
+closed_ends terms drawn w rest head (begun start (unknown up2)) end same closed =
     let P : ConnEnd → Type 0 = λ e. IsClosed w e → Ends terms drawn w (bytes_taken []) rest e in
     subst P (some_is (ends.NoSuchMethod head.operation head.hash) end same) (λ c. (c, refl)) closed
-closed_ends terms drawn w rest head (begun moment turn kind (ran place arguments outcome conclusion)) end same closed = absurd (cc)
+closed_ends terms drawn w rest head (begun start (ran inv conclusion)) end same closed = absurd (cc)
 
 -- The exchange may come where so many were drawn since the beginning.
 may_come : (may : Invocation → Outcome → Type 0) (moves : States → Call → States → Type 0) (terms : Terms) (start first : ConnectionState) (p q : PullState) (held : Option (List ℕ)) (side : Observed) (drawn sent : ℕ) (opening : Opening) (exchanges : List Exchange) (bytes : List ℕ) (head : CallHead) (uid : Uid) (s : AtHead)
     → IsCoded may moves terms start first (spot_at p held side drawn) p.at p.stop sent opening exchanges → is_system head.id ≡ false → FitsHead head → q.at ≤ q.stop → uid ≡ uid_drawn terms.unique terms.time drawn → Takes p q bytes → IsServed terms head bytes uid s
-    → IsExchange terms (start.drawn + draws_in exchanges) (served bytes head uid s)
+    → IsExchange terms (start.drawn + draws_in exchanges) (served (record { bytes = bytes; head = head; uid = uid }) s)
 may_come may moves terms start first p q held side drawn sent opening exchanges bytes head uid s h other fits within is takes legal =
     (other, is ∙ ap (uid_drawn terms.unique terms.time) (h.drawn ∙ h.stands.goes.drawn), fits, omega (arith, within, takes.at, takes.stop, h.position, h.limit), legal)
 
@@ -202,7 +202,7 @@ call_cut may moves terms start first p q held side side2 drawn drew sent opening
     subst T (sym memory) (talks_on may moves terms start first (spot_at q held side2 drew) h.place sent (opened opening exchanges) tail ends.OutOfMemory h.stands
     (call_goes may moves terms start first (spot_at p held side drawn) (spot_at q held side2 drew) p.at p.stop sent opening exchanges bytes acts d [] h takes.left (sym (with_end-nothing held)) led drawn_is)
     (inr (inl (
-      served bytes head uid s,
+      served (record { bytes = bytes; head = head; uid = uid }) s,
       record {
         next = (h.code, h.few, may_come may moves terms start first p q held side drawn sent opening exchanges bytes head uid s h other fits within is takes legal);
         message = refl;
@@ -220,7 +220,7 @@ call_sent : (may : Invocation → Outcome → Type 0) (moves : States → Call �
     → Led may moves side side2 (served_acts head uid s) → drew ≡ drawn + 1 → close ≡ served_closes head s → Writes held held2 sent (served_written uid s) written
     → StepsTo may moves terms start (spot_at q held2 side2 drew) q.at opening exchanges (result_or_close written close)
 call_sent may moves terms start first p q held held2 side side2 drawn drew sent opening exchanges bytes head uid s None (Ok sent2) h other fits within is takes legal led drew_is closes writes =
-    let e : Exchange = served bytes head uid s in
+    let e : Exchange = served (record { bytes = bytes; head = head; uid = uid }) s in
     let ats : q.at ≡ h.place + length (code_byte CallCode ∷ bytes) = omega (arith, takes.at, h.position) in (
       e,
       sym closes,
@@ -230,7 +230,7 @@ call_sent may moves terms start first p q held held2 side side2 drawn drew sent 
           ats writes.1,
     )
 call_sent may moves terms start first p q held held2 side side2 drawn drew sent opening exchanges bytes head uid s (Some end) (Ok sent2) h other fits within is takes legal led drew_is closes writes =
-    let e : Exchange = served bytes head uid s in
+    let e : Exchange = served (record { bytes = bytes; head = head; uid = uid }) s in
     let now : ConnectionState = spot_at q held2 side2 drew in
     let ats : q.at ≡ h.place + length (code_byte CallCode ∷ bytes) = omega (arith, takes.at, h.position) in
     let stood : StandsWhole may moves terms start now q.at sent2 (opened opening (exchanges ++ e ∷ [])) =
@@ -241,7 +241,7 @@ call_sent may moves terms start first p q held held2 side side2 drawn drew sent 
     talks_took may moves terms start now now q.at sent2 (opened opening (exchanges ++ e ∷ [])) [] end stood (sym (with_front-nothing q.left)) refl refl refl
     (closed_ends terms start.drawn (opened opening (exchanges ++ e ∷ [])) q.left head s end (sym closes) (closed_more exchanges e ∙ sym closes))
 call_sent may moves terms start first p q held held2 side side2 drawn drew sent opening exchanges bytes head uid s close (Err end) h other fits within is takes legal led drew_is closes (part, less, how, wrote) =
-    let e : Exchange = served bytes head uid s in
+    let e : Exchange = served (record { bytes = bytes; head = head; uid = uid }) s in
     let T : ConnEnd → Type 0 = λ x. Talked may moves terms start (spot_at q held2 side2 drew) x in
     subst T (sym how) (talks_cut may moves terms start first (spot_at q held2 side2 drew) h.place sent part (opened opening exchanges) (transcript_by e) h.stands
     (inr (inr (e, (h.code, h.few, may_come may moves terms start first p q held side drawn sent opening exchanges bytes head uid s h other fits within is takes legal), refl))) less

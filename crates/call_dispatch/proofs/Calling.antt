@@ -45,13 +45,13 @@ pub unknown_runs : (may : Invocation → Outcome → Type 0) (moves : States →
     → IsPrepared (fault_return uid no_method) (Some (ends.NoSuchMethod head.operation head.hash)) result → RunsOn may moves terms uid head kind first now a b drawn drew result
 unknown_runs may moves terms uid head kind first now stand a b drawn drew moment place (Ok answer) none reads led prepared =
     let (bytes, takes, whole) = head_ends first now head stand reads in
-    (unknown moment place, bytes, takes, (whole, none), led, prepared.0, prepared.1)
+    (unknown (record { moment = moment; place = place }), bytes, takes, (whole, none), led, prepared.0, prepared.1)
 unknown_runs may moves terms uid head kind first now stand a b drawn drew moment place (Err end) none reads led prepared =
     let (bytes, takes, whole) = head_ends first now head stand reads in
     inl (
       prepared,
       (
-        unknown moment place,
+        unknown (record { moment = moment; place = place }),
         bytes,
         takes,
         (whole, none),
@@ -73,7 +73,7 @@ pub ran_runs : (may : Invocation → Outcome → Type 0) (moves : States → Cal
     → Led may moves a b (called (invokes (invocation_of head.id kind place arguments) outcome) ∷ []) → Concludes may moves terms head.id uid method.result outcome b c result
     → RunsOn may moves terms uid head kind first now a c drawn drew result
 ran_runs may moves terms uid head kind place method arguments outcome first now a b c drawn drew (Ok answer) known here takes invoked (con, is, led, bytes, close) = (
-  ran place arguments outcome con,
+  ran (record { place = place; arguments = arguments; outcome = outcome }) con,
   takes.message,
   takes.takes,
   (known, (method, here, takes.call, is)),
@@ -86,18 +86,18 @@ ran_runs may moves terms uid head kind place method arguments outcome first now 
   elim how [
     | inl (none, (moment, at, up)) ↦ (let inv : Invocation = invocation_of head.id kind place arguments in
         let led : Led may moves a b (called (invokes inv OutOfMemory) ∷ []) = rw none at invoked in (
-          ran place arguments (Fault []) (faulted moment at),
+          ran (record { place = place; arguments = arguments; outcome = Fault [] }) (faulted (record { moment = moment; place = at })),
           takes.message,
           takes.takes,
           (known, (method, here, takes.call, (no_fault terms uid method.result [], (λ same. cc)))),
           record {
             acts = called (invokes inv OutOfMemory) ∷ abandon_act moment head.id at ∷ [];
             led = led_more may moves a b c (called (invokes inv OutOfMemory) ∷ []) (abandon_act moment head.id at ∷ []) led up;
-            cut = (λ shown runs. cut_first head.id moment at shown (running_acts head uid kind (ran place arguments (Fault []) (faulted moment at))) (called (invokes inv OutOfMemory) ∷ []) runs (inr refl));
+            cut = (λ shown runs. cut_first head.id moment at shown (running_acts head uid kind (ran (record { place = place; arguments = arguments; outcome = Fault [] }) (faulted (record { moment = moment; place = at })))) (called (invokes inv OutOfMemory) ∷ []) runs (inr refl));
           },
         ))
     | inr (con, is, short) ↦ (let call : Act = called (invokes (invocation_of head.id kind place arguments) outcome) in (
-      ran place arguments outcome con,
+      ran (record { place = place; arguments = arguments; outcome = outcome }) con,
       takes.message,
       takes.takes,
       (known, (method, here, takes.call, is)),
@@ -118,7 +118,7 @@ ran_runs may moves terms uid head kind place method arguments outcome first now 
 pub begun_answers : (may : Invocation → Outcome → Type 0) (moves : States → Call → States → Type 0) (terms : Terms) (uid : Uid) (head : CallHead) (kind moment : ℕ) (turn : Turn) (first now : PullState) (a b c : Observed) (drawn drew : ℕ) (result : Result Answer ConnEnd)
     → turn.reply ≡ Started kind → Led may moves a b (acts_of moment (Begin head.id) (Ok turn)) → RunsOn may moves terms uid head kind first now b c drawn drew result → Answers may moves terms uid head first now a c drawn drew result
 begun_answers may moves terms uid head kind moment turn first now a b c drawn drew (Ok answer) started begins (r, bytes, takes, is, led, bytes_are, closes) = (
-  begun moment turn kind r,
+  begun (record { moment = moment; turn = turn; kind = kind }) r,
   bytes,
   takes,
   (started, is),
@@ -130,7 +130,7 @@ begun_answers may moves terms uid head kind moment turn first now a b c drawn dr
   | inl (memory, (r, bytes, takes, is, short)) ↦ inl (
     memory,
     (
-      begun moment turn kind r,
+      begun (record { moment = moment; turn = turn; kind = kind }) r,
       bytes,
       takes,
       (started, is),

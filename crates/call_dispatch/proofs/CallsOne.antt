@@ -43,12 +43,12 @@ use Rattle.call_dispatch.proofs.Tapes.{turn_tape, conclusion_ticks, running_tick
 -- ---- what a Call begins with
 
 pub served_begins : (terms : Terms) (head : CallHead) (bytes : List ℕ) (uid : Uid) (s : AtHead) → IsServed terms head bytes uid s → Begins head bytes
-served_begins terms head bytes uid (absent moment turn) ((left, heading), none) = record { front = bytes; left = left; more = []; is = sym (append-nil bytes); heading = heading }
+served_begins terms head bytes uid (absent gone) ((left, heading), none) = record { front = bytes; left = left; more = []; is = sym (append-nil bytes); heading = heading }
 served_begins terms head bytes uid (refused moment) (left, heading) = record { front = bytes; left = left; more = []; is = sym (append-nil bytes); heading = heading }
-served_begins terms head bytes uid (begun moment turn kind (unknown moment2 place)) (started, ((left, heading), none)) =
+served_begins terms head bytes uid (begun start (unknown up2)) (started, ((left, heading), none)) =
     record { front = bytes; left = left; more = []; is = sym (append-nil bytes); heading = heading }
-served_begins terms head bytes uid (begun moment turn kind (ran place arguments outcome conclusion)) (started, (known, (method, method_is, call, concluded))) =
-    call_begins head method.params arguments bytes call
+served_begins terms head bytes uid (begun start (ran inv conclusion)) (started, (known, (method, method_is, call, concluded))) =
+    call_begins head method.params inv.arguments bytes call
 
 -- Fronts of one list that begin with heads begin with one head.
 pub begin_same : (head head2 : CallHead) (bytes bytes2 rest rest2 : List ℕ) → FitsHead head → FitsHead head2 → Begins head bytes → Begins head2 bytes2 → bytes ++ rest ≡ bytes2 ++ rest2 → head ≡ head2
@@ -85,25 +85,31 @@ arguments_same a b n i v = ap (λ (g : Graph). arguments_with g a.values) (graph
 -- An outcome of a call comes to one conclusion.
 conclusion_one : (terms : Terms) (uid : Uid) (result_type result_type2 : Option TypeCode) (outcome outcome2 : Outcome) (c c2 : Conclusion) (t t2 : List OutsideAnswer) → outcome ≡ outcome2
     → IsConclusion terms uid result_type outcome c → IsConclusion terms uid result_type2 outcome2 c2 → conclusion_ticks c ++ t ≡ conclusion_ticks c2 ++ t2 → (c ≡ c2) × (t ≡ t2)
-conclusion_one terms uid result_type result_type2 outcome outcome2 (finished listed moment turn bytes) (finished listed2 moment2 turn2 bytes2) t t2 same (fit, (lists, over, is)) (fit2, (lists2, over2, is2)) e =
-    let moments : moment ≡ moment2 = cc in
-    let turns : turn ≡ turn2 = cc in
-    let lists_same : listed ≡ listed2 = lists ∙ ap (listed_by terms) same ∙ sym lists2 in
-    let bytes_same : bytes ≡ bytes2 = is ∙ ap (λ o. normal_return terms uid o turn.reply) same ∙ ap (λ (x : Turn). normal_return terms uid outcome2 x.reply) turns ∙ sym is2 in (
-      ap (λ x. finished x moment turn bytes) lists_same ∙ ap (λ x. finished listed2 x turn bytes) moments ∙ ap (λ x. finished listed2 moment2 x bytes) turns ∙ ap (λ x. finished listed2 moment2 turn2 x) bytes_same,
+conclusion_one terms uid result_type result_type2 outcome outcome2 (finished fin) (finished fin2) t t2 same (fit, (lists, over, is)) (fit2, (lists2, over2, is2)) e =
+    let moments : fin.moment ≡ fin2.moment = cc in
+    let turns : fin.turn ≡ fin2.turn = cc in
+    let lists_same : fin.listed ≡ fin2.listed = lists ∙ ap (listed_by terms) same ∙ sym lists2 in
+    let bytes_same : fin.bytes ≡ fin2.bytes = is ∙ ap (λ o. normal_return terms uid o fin.turn.reply) same ∙ ap (λ (x : Turn). normal_return terms uid outcome2 x.reply) turns ∙ sym is2 in (
+      (λ i. finished (record { listed = lists_same i; moment = moments i; turn = turns i; bytes = bytes_same i })),
       ap (drop 1) e,
     )
-conclusion_one terms uid result_type result_type2 outcome outcome2 (finished listed moment turn bytes) (denied listed2 moment2 refusal at place) t t2 same is is2 e = absurd (cc)
-conclusion_one terms uid result_type result_type2 outcome outcome2 (finished listed moment turn bytes) (faulted moment2 place) t t2 same is is2 e = absurd (cc)
-conclusion_one terms uid result_type result_type2 outcome outcome2 (denied listed moment refusal at place) (finished listed2 moment2 turn bytes) t t2 same is is2 e = absurd (cc)
-conclusion_one terms uid result_type result_type2 outcome outcome2 (denied listed moment refusal at place) (denied listed2 moment2 refusal2 at2 place2) t t2 same (fit, (lists, other)) (fit2, (lists2, other2)) e =
-    let lists_same : listed ≡ listed2 = lists ∙ ap (listed_by terms) same ∙ sym lists2 in
-    let ticked : denied listed2 moment refusal at place ≡ denied listed2 moment2 refusal2 at2 place2 = cc in
-    (ap (λ x. denied x moment refusal at place) lists_same ∙ ticked, ap (drop 2) e)
-conclusion_one terms uid result_type result_type2 outcome outcome2 (denied listed moment refusal at place) (faulted moment2 place2) t t2 same is is2 e = absurd (cc)
-conclusion_one terms uid result_type result_type2 outcome outcome2 (faulted moment place) (finished listed2 moment2 turn bytes) t t2 same is is2 e = absurd (cc)
-conclusion_one terms uid result_type result_type2 outcome outcome2 (faulted moment place) (denied listed2 moment2 refusal at place2) t t2 same is is2 e = absurd (cc)
-conclusion_one terms uid result_type result_type2 outcome outcome2 (faulted moment place) (faulted moment2 place2) t t2 same is is2 e = ((cc), (cc))
+conclusion_one terms uid result_type result_type2 outcome outcome2 (finished fin) (denied den2) t t2 same is is2 e = absurd (cc)
+conclusion_one terms uid result_type result_type2 outcome outcome2 (finished fin) (faulted up2) t t2 same is is2 e = absurd (cc)
+conclusion_one terms uid result_type result_type2 outcome outcome2 (denied den) (finished fin2) t t2 same is is2 e = absurd (cc)
+conclusion_one terms uid result_type result_type2 outcome outcome2 (denied den) (denied den2) t t2 same (fit, (lists, other)) (fit2, (lists2, other2)) e =
+    let lists_same : den.listed ≡ den2.listed = lists ∙ ap (listed_by terms) same ∙ sym lists2 in
+    let moments : den.moment ≡ den2.moment = cc in
+    let refusals_same : den.refused ≡ den2.refused = cc in
+    let end_moments : den.end_moment ≡ den2.end_moment = cc in
+    let places : den.place ≡ den2.place = cc in
+    ((λ i. denied (record { listed = lists_same i; moment = moments i; refused = refusals_same i; end_moment = end_moments i; place = places i })), ap (drop 2) e)
+conclusion_one terms uid result_type result_type2 outcome outcome2 (denied den) (faulted up2) t t2 same is is2 e = absurd (cc)
+conclusion_one terms uid result_type result_type2 outcome outcome2 (faulted up) (finished fin2) t t2 same is is2 e = absurd (cc)
+conclusion_one terms uid result_type result_type2 outcome outcome2 (faulted up) (denied den2) t t2 same is is2 e = absurd (cc)
+conclusion_one terms uid result_type result_type2 outcome outcome2 (faulted up) (faulted up2) t t2 same is is2 e =
+    let moments : up.moment ≡ up2.moment = cc in
+    let places : up.place ≡ up2.place = cc in
+    ((λ i. faulted (record { moment = moments i; place = places i })), (cc))
 
 abbrev some_place : ℕ → Option ℕ
 some_place place = Some place
@@ -138,7 +144,7 @@ OneRunning r r2 bytes bytes2 t t2 = (r ≡ r2) × (bytes ≡ bytes2) × (t ≡ t
 -- A Call that was read whole is invoked with one list of arguments.
 ran_same : (terms : Terms) (uid : Uid) (head : CallHead) (method method2 : Method) (place place2 : ℕ) (a a2 : Arguments) (o o2 : Outcome) (c c2 : Conclusion) (bytes bytes2 rest rest2 : List ℕ) (t t2 : List OutsideAnswer)
     → place ≡ place2 → method ≡ method2 → CallBytes head method.params a (0x50 ∷ bytes) → CallBytes head method2.params a2 (0x50 ∷ bytes2)
-    → IsConclusion terms uid method.result o c → IsConclusion terms uid method2.result o2 c2 → bytes ++ rest ≡ bytes2 ++ rest2 → running_ticks (ran place a o c) ++ t ≡ running_ticks (ran place2 a2 o2 c2) ++ t2 → OneRunning (ran place a o c) (ran place2 a2 o2 c2) bytes bytes2 t t2
+    → IsConclusion terms uid method.result o c → IsConclusion terms uid method2.result o2 c2 → bytes ++ rest ≡ bytes2 ++ rest2 → running_ticks (ran (record { place = place; arguments = a; outcome = o }) c) ++ t ≡ running_ticks (ran (record { place = place2; arguments = a2; outcome = o2 }) c2) ++ t2 → OneRunning (ran (record { place = place; arguments = a; outcome = o }) c) (ran (record { place = place2; arguments = a2; outcome = o2 }) c2) bytes bytes2 t t2
 ran_same terms uid head method method2 place place2 a a2 o o2 c c2 bytes bytes2 rest rest2 t t2 places methods call call2 is is2 input e =
     let P : Method → Type 0 = λ m. CallBytes head m.params a2 (0x50 ∷ bytes2) in
     let same = call_is_one method.params head head a a2 (0x50 ∷ bytes) (0x50 ∷ bytes2) rest rest2 call (subst P (sym methods) call2) (ap (λ (l : List ℕ). 0x50 ∷ l) input) in
@@ -146,20 +152,22 @@ ran_same terms uid head method method2 place place2 a a2 o o2 c c2 bytes bytes2 
     let outcomes : o ≡ o2 = cc in
     let later : conclusion_ticks c ++ t ≡ conclusion_ticks c2 ++ t2 = ap (drop 1) e in
     let one = conclusion_one terms uid method.result method2.result o o2 c c2 t t2 outcomes is is2 later in (
-      ap (λ x. ran x a o c) places ∙ ap (λ x. ran place2 x o c) arguments ∙ ap (λ x. ran place2 a2 x c) outcomes ∙ ap (λ x. ran place2 a2 o2 x) one.0,
+      (λ i. ran (record { place = places i; arguments = arguments i; outcome = outcomes i }) (one.0 i)),
       ap (drop 1) same.0,
       one.1,
     )
 
 running_one : (terms : Terms) (head : CallHead) (kind : ℕ) (bytes bytes2 : List ℕ) (uid : Uid) (r r2 : Running) (rest rest2 : List ℕ) (t t2 : List OutsideAnswer) → IsRunning terms head kind bytes uid r → IsRunning terms head kind bytes2 uid r2
     → bytes ++ rest ≡ bytes2 ++ rest2 → running_ticks r ++ t ≡ running_ticks r2 ++ t2 → OneRunning r r2 bytes bytes2 t t2
-running_one terms head kind bytes bytes2 uid (unknown moment place) (unknown moment2 place2) rest rest2 t t2 ((left, a), none) ((left2, b), none2) input e =
-    ((cc), front_same head bytes bytes2 rest rest2 left left2 a b input, (cc))
-running_one terms head kind bytes bytes2 uid (unknown moment place) (ran place2 arguments outcome conclusion) rest rest2 t t2 a b input e = absurd (none_known terms.kinds kind head place2 b.0 a.1)
-running_one terms head kind bytes bytes2 uid (ran place arguments outcome conclusion) (unknown moment2 place2) rest rest2 t t2 a b input e = absurd (none_known terms.kinds kind head place a.0 b.1)
-running_one terms head kind bytes bytes2 uid (ran place arguments outcome conclusion) (ran place2 arguments2 outcome2 conclusion2) rest rest2 t t2 (known, (method, is, call, concluded)) (known2, (method2, is2, call2, concluded2)) input e =
-    let same = known_same terms.kinds kind head place place2 method method2 known known2 is is2 in
-    ran_same terms uid head method method2 place place2 arguments arguments2 outcome outcome2 conclusion conclusion2 bytes bytes2 rest rest2 t t2 same.0 same.1 call call2 concluded concluded2 input e
+running_one terms head kind bytes bytes2 uid (unknown up) (unknown up2) rest rest2 t t2 ((left, a), none) ((left2, b), none2) input e =
+    let moments : up.moment ≡ up2.moment = cc in
+    let places : up.place ≡ up2.place = cc in
+    ((λ i. unknown (record { moment = moments i; place = places i })), front_same head bytes bytes2 rest rest2 left left2 a b input, (cc))
+running_one terms head kind bytes bytes2 uid (unknown up) (ran inv2 conclusion) rest rest2 t t2 a b input e = absurd (none_known terms.kinds kind head inv2.place b.0 a.1)
+running_one terms head kind bytes bytes2 uid (ran inv conclusion) (unknown up2) rest rest2 t t2 a b input e = absurd (none_known terms.kinds kind head inv.place a.0 b.1)
+running_one terms head kind bytes bytes2 uid (ran inv conclusion) (ran inv2 conclusion2) rest rest2 t t2 (known, (method, is, call, concluded)) (known2, (method2, is2, call2, concluded2)) input e =
+    let same = known_same terms.kinds kind head inv.place inv2.place method method2 known known2 is is2 in
+    ran_same terms uid head method method2 inv.place inv2.place inv.arguments inv2.arguments inv.outcome inv2.outcome conclusion conclusion2 bytes bytes2 rest rest2 t t2 same.0 same.1 call call2 concluded concluded2 input e
 
 started_same : (turn turn2 : Turn) (kind kind2 : ℕ) → turn ≡ turn2 → turn.reply ≡ Started kind → turn2.reply ≡ Started kind2 → kind ≡ kind2
 started_same turn turn2 kind kind2 same is is2 =
@@ -177,26 +185,28 @@ OneServed s s2 bytes bytes2 t t2 = (s ≡ s2) × (bytes ≡ bytes2) × (t ≡ t2
 -- A Call of one head is served in one way.
 pub served_one : (terms : Terms) (head : CallHead) (bytes bytes2 : List ℕ) (uid : Uid) (s s2 : AtHead) (rest rest2 : List ℕ) (t t2 : List OutsideAnswer) → IsServed terms head bytes uid s → IsServed terms head bytes2 uid s2
     → bytes ++ rest ≡ bytes2 ++ rest2 → served_ticks s ++ t ≡ served_ticks s2 ++ t2 → OneServed s s2 bytes bytes2 t t2
-served_one terms head bytes bytes2 uid (absent moment turn) (absent moment2 turn2) rest rest2 t t2 ((left, a), none) ((left2, b), none2) input e =
-    ((cc), front_same head bytes bytes2 rest rest2 left left2 a b input, (cc))
-served_one terms head bytes bytes2 uid (absent moment turn) (refused moment2) rest rest2 t t2 a b input e = absurd (cc)
-served_one terms head bytes bytes2 uid (absent moment turn) (begun moment2 turn2 kind2 r2) rest rest2 t t2 a b input e =
-    let turns : turn ≡ turn2 = cc in absurd (not_started turn turn2 kind2 turns a.1 b.0)
-served_one terms head bytes bytes2 uid (refused moment) (absent moment2 turn2) rest rest2 t t2 a b input e = absurd (cc)
+served_one terms head bytes bytes2 uid (absent gone) (absent gone2) rest rest2 t t2 ((left, a), none) ((left2, b), none2) input e =
+    let moments : gone.moment ≡ gone2.moment = cc in
+    let turns : gone.turn ≡ gone2.turn = cc in
+    ((λ i. absent (record { moment = moments i; turn = turns i })), front_same head bytes bytes2 rest rest2 left left2 a b input, (cc))
+served_one terms head bytes bytes2 uid (absent gone) (refused moment2) rest rest2 t t2 a b input e = absurd (cc)
+served_one terms head bytes bytes2 uid (absent gone) (begun start2 r2) rest rest2 t t2 a b input e =
+    let turns : gone.turn ≡ start2.turn = cc in absurd (not_started gone.turn start2.turn start2.kind turns a.1 b.0)
+served_one terms head bytes bytes2 uid (refused moment) (absent gone2) rest rest2 t t2 a b input e = absurd (cc)
 served_one terms head bytes bytes2 uid (refused moment) (refused moment2) rest rest2 t t2 (left, a) (left2, b) input e =
     ((cc), front_same head bytes bytes2 rest rest2 left left2 a b input, (cc))
-served_one terms head bytes bytes2 uid (refused moment) (begun moment2 turn2 kind2 r2) rest rest2 t t2 a b input e = absurd (cc)
-served_one terms head bytes bytes2 uid (begun moment turn kind r) (absent moment2 turn2) rest rest2 t t2 a b input e =
-    let turns : turn2 ≡ turn = cc in absurd (not_started turn2 turn kind turns b.1 a.0)
-served_one terms head bytes bytes2 uid (begun moment turn kind r) (refused moment2) rest rest2 t t2 a b input e = absurd (cc)
-served_one terms head bytes bytes2 uid (begun moment turn kind r) (begun moment2 turn2 kind2 r2) rest rest2 t t2 (started, a) (started2, b) input e =
-    let moments : moment ≡ moment2 = cc in
-    let turns : turn ≡ turn2 = cc in
-    let same : kind ≡ kind2 = started_same turn turn2 kind kind2 turns started started2 in
+served_one terms head bytes bytes2 uid (refused moment) (begun start2 r2) rest rest2 t t2 a b input e = absurd (cc)
+served_one terms head bytes bytes2 uid (begun start r) (absent gone2) rest rest2 t t2 a b input e =
+    let turns : gone2.turn ≡ start.turn = cc in absurd (not_started gone2.turn start.turn start.kind turns b.1 a.0)
+served_one terms head bytes bytes2 uid (begun start r) (refused moment2) rest rest2 t t2 a b input e = absurd (cc)
+served_one terms head bytes bytes2 uid (begun start r) (begun start2 r2) rest rest2 t t2 (started, a) (started2, b) input e =
+    let moments : start.moment ≡ start2.moment = cc in
+    let turns : start.turn ≡ start2.turn = cc in
+    let same : start.kind ≡ start2.kind = started_same start.turn start2.turn start.kind start2.kind turns started started2 in
     let P : ℕ → Type 0 = λ k. IsRunning terms head k bytes2 uid r2 in
     let later : running_ticks r ++ t ≡ running_ticks r2 ++ t2 = ap (drop 1) e in
-    let one = running_one terms head kind bytes bytes2 uid r r2 rest rest2 t t2 a (subst P (sym same) b) input later in
-    (ap (λ x. begun x turn kind r) moments ∙ ap (λ x. begun moment2 x kind r) turns ∙ ap (λ x. begun moment2 turn2 x r) same ∙ ap (λ x. begun moment2 turn2 kind2 x) one.0, one.1, one.2)
+    let one = running_one terms head start.kind bytes bytes2 uid r r2 rest rest2 t t2 a (subst P (sym same) b) input later in
+    ((λ i. begun (record { moment = moments i; turn = turns i; kind = same i }) (one.0 i)), one.1, one.2)
 
 -- ---- ends in a Call
 
@@ -286,14 +296,14 @@ arguments_one kinds at tail tail2 rest rest2 end end2 t t2 a settled b settled2 
 -- A call that is given up isn't served.
 not_given_up : (terms : Terms) (head : CallHead) (bytes : List ℕ) (uid : Uid) (moment : ℕ) (turn : Turn) (kind place moment2 place2 : ℕ) (s : AtHead) (t u : List OutsideAnswer) → turn.reply ≡ Started kind → IsMethodOf terms.kinds kind head place
     → IsServed terms head bytes uid s → ends_ticks moment turn moment2 place2 ++ t ≡ served_ticks s ++ u → ⊥
-not_given_up terms head bytes uid moment turn kind place moment2 place2 (absent moment3 turn2) t u started known (h, none) e =
-    let turns : turn2 ≡ turn = cc in not_started turn2 turn kind turns none started
+not_given_up terms head bytes uid moment turn kind place moment2 place2 (absent gone3) t u started known (h, none) e =
+    let turns : gone3.turn ≡ turn = cc in not_started gone3.turn turn kind turns none started
 not_given_up terms head bytes uid moment turn kind place moment2 place2 (refused moment3) t u started known is e = cc
-not_given_up terms head bytes uid moment turn kind place moment2 place2 (begun moment3 turn2 kind2 (unknown moment4 place3)) t u started known (started2, (h, none)) e =
-    let turns : turn2 ≡ turn = cc in
+not_given_up terms head bytes uid moment turn kind place moment2 place2 (begun start3 (unknown up4)) t u started known (started2, (h, none)) e =
+    let turns : start3.turn ≡ turn = cc in
     let P : ℕ → Type 0 = λ k. HasNoMethod terms.kinds k head in
-    none_known terms.kinds kind head place known (subst P (started_same turn2 turn kind2 kind turns started2 started) none)
-not_given_up terms head bytes uid moment turn kind place moment2 place2 (begun moment3 turn2 kind2 (ran place3 arguments outcome conclusion)) t u started known is e = cc
+    none_known terms.kinds kind head place known (subst P (started_same start3.turn turn start3.kind kind turns started2 started) none)
+not_given_up terms head bytes uid moment turn kind place moment2 place2 (begun start3 (ran inv3 conclusion)) t u started known is e = cc
 
 -- Reading doesn't end in the arguments of a Call that is served.
 arguments_not_served : (terms : Terms) (at : ℕ) (tail : Transcript) (rest : List ℕ) (end : ConnEnd) (head : CallHead) (bytes : List ℕ) (uid : Uid) (s : AtHead) (xs : List ℕ) (t u : List OutsideAnswer)

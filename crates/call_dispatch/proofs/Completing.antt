@@ -85,20 +85,20 @@ quiet_end asks.List quiet end = refl
 quiet_end asks.Tick quiet end = refl
 
 conclusion_begun : (object : ObjId) (uid : Uid) (outcome : Outcome) (c : Conclusion) → begun_by (conclusion_acts object uid outcome c) ≡ []
-conclusion_begun object uid outcome (finished listed moment turn bytes) = none_begun moment (finish_with object outcome listed uid) (Ok turn) (λ end. refl)
-conclusion_begun object uid outcome (denied listed moment refusal end_moment place) =
-    begun_append (acts_of moment (finish_with object outcome listed uid) (Err refusal)) (abandon_act end_moment object place ∷ [])
-    ∙ ap (λ (l : List AskedEnd). l ++ []) (none_begun moment (finish_with object outcome listed uid) (Err refusal) (λ end. refl))
-conclusion_begun object uid outcome (faulted moment place) = refl
+conclusion_begun object uid outcome (finished fin) = none_begun fin.moment (finish_with object outcome fin.listed uid) (Ok fin.turn) (λ end. refl)
+conclusion_begun object uid outcome (denied den) =
+    begun_append (acts_of den.moment (finish_with object outcome den.listed uid) (Err den.refused)) (abandon_act den.end_moment object den.place ∷ [])
+    ∙ ap (λ (l : List AskedEnd). l ++ []) (none_begun den.moment (finish_with object outcome den.listed uid) (Err den.refused) (λ end. refl))
+conclusion_begun object uid outcome (faulted up) = refl
 
 running_begun : (head : CallHead) (uid : Uid) (kind : ℕ) (r : Running) → begun_by (running_acts head uid kind r) ≡ []
-running_begun head uid kind (no_such moment place) = refl
-running_begun head uid kind (ran place arguments outcome conclusion) = conclusion_begun head.id uid outcome conclusion
+running_begun head uid kind (no_such up) = refl
+running_begun head uid kind (ran inv conclusion) = conclusion_begun head.id uid inv.outcome conclusion
 
 turn_begun : (moment : ℕ) (object : ObjId) (turn : Turn) → begun_by (acts_of moment (asks.Begin object) (Ok turn)) ≡ Turned turn ∷ []
 turn_begun moment object turn = ap (flat_map begin_end) (turn_entries moment (asks.Begin object) turn)
 
-served_begun : (head : CallHead) (uid : Uid) (moment : ℕ) (turn : Turn) (kind : ℕ) (r : Running) → begun_by (served_acts head uid (begun moment turn kind r)) ≡ Turned turn ∷ []
+served_begun : (head : CallHead) (uid : Uid) (moment : ℕ) (turn : Turn) (kind : ℕ) (r : Running) → begun_by (served_acts head uid (begun (record { moment = moment; turn = turn; kind = kind }) r)) ≡ Turned turn ∷ []
 served_begun head uid moment turn kind r =
     begun_append (acts_of moment (asks.Begin head.id) (Ok turn)) (running_acts head uid kind r)
     ∙ ap (λ (l : List AskedEnd). l ++ begun_by (running_acts head uid kind r)) (turn_begun moment head.id turn)
@@ -132,33 +132,33 @@ no_object kind turn none started =
 -- A whole Call of an exported object is served on.
 served_passes : (terms : Terms) (bytes : List ℕ) (head : CallHead) (uid : Uid) (s : Way) (kind : ℕ) (head2 : CallHead) (bytes2 xs ys : List ℕ) (sents : List Sent) (later : List Act)
     → FitsHead head → IsServed terms head bytes uid s → IsWholeCall terms.kinds kind head2 bytes2 → bytes ++ xs ≡ bytes2 ++ ys
-    → StartEach (kind ∷ flat_map kind_called sents) (begun_by (served_acts head uid s ++ later)) → Passes (served bytes head uid s) (sent_call kind head2 bytes2) xs ys sents later
-served_passes terms bytes head uid (absent moment turn) kind head2 bytes2 xs ys sents later fits (begins, none) w input starts =
-    let one = starts_one kind (flat_map kind_called sents) (acts_of moment (asks.Begin head.id) (Ok turn)) later turn (turn_begun moment head.id turn) starts in
-    absurd (no_object kind turn none one.0)
+    → StartEach (kind ∷ flat_map kind_called sents) (begun_by (served_acts head uid s ++ later)) → Passes (served (record { bytes = bytes; head = head; uid = uid }) s) (sent_call (record { kind = kind; head = head2; bytes = bytes2 })) xs ys sents later
+served_passes terms bytes head uid (absent gone) kind head2 bytes2 xs ys sents later fits (begins, none) w input starts =
+    let one = starts_one kind (flat_map kind_called sents) (acts_of gone.moment (asks.Begin head.id) (Ok gone.turn)) later gone.turn (turn_begun gone.moment head.id gone.turn) starts in
+    absurd (no_object kind gone.turn none one.0)
 served_passes terms bytes head uid (refused moment) kind head2 bytes2 xs ys sents later fits is w input starts = absurd starts.0
-served_passes terms bytes head uid (begun moment turn kind2 (no_such moment2 place2)) kind head2 bytes2 xs ys sents later fits (started, (begins, none)) w input starts =
-    let acts : List Act = served_acts head uid (begun moment turn kind2 (no_such moment2 place2)) in
-    let one = starts_one kind (flat_map kind_called sents) acts later turn (served_begun head uid moment turn kind2 (no_such moment2 place2)) starts in
-    let kinds_same : kind2 ≡ kind = kind_same kind2 kind (sym started ∙ one.0) in
+served_passes terms bytes head uid (begun start (no_such up2)) kind head2 bytes2 xs ys sents later fits (started, (begins, none)) w input starts =
+    let acts : List Act = served_acts head uid (begun start (no_such up2)) in
+    let one = starts_one kind (flat_map kind_called sents) acts later start.turn (served_begun head uid start.moment start.turn start.kind (no_such up2)) starts in
+    let kinds_same : start.kind ≡ kind = kind_same start.kind kind (sym started ∙ one.0) in
     let heads : head ≡ head2 =
-    begin_same head head2 bytes bytes2 xs ys fits w.numbers (served_begins terms head bytes uid (begun moment turn kind2 (no_such moment2 place2)) (started, (begins, none))) (whole_begins terms.kinds kind head2 bytes2 w) input in
+    begin_same head head2 bytes bytes2 xs ys fits w.numbers (served_begins terms head bytes uid (begun start (no_such up2)) (started, (begins, none))) (whole_begins terms.kinds kind head2 bytes2 w) input in
     let P : ℕ → Type 0 = λ k. HasNoMethod terms.kinds k head in
     let Q : CallHead → Type 0 = λ h. HasNoMethod terms.kinds kind h in
     absurd (none_known terms.kinds kind head2 w.place w.known (subst Q heads (subst P kinds_same none)))
-served_passes terms bytes head uid (begun moment turn kind2 (ran place arguments outcome conclusion)) kind head2 bytes2 xs ys sents later fits (started, (known, (method, method_is, call, concluded))) w input starts =
-    let r : Running = ran place arguments outcome conclusion in
-    let one = starts_one kind (flat_map kind_called sents) (served_acts head uid (begun moment turn kind2 r)) later turn (served_begun head uid moment turn kind2 r) starts in
-    let kinds_same : kind2 ≡ kind = kind_same kind2 kind (sym started ∙ one.0) in
+served_passes terms bytes head uid (begun start (ran inv conclusion)) kind head2 bytes2 xs ys sents later fits (started, (known, (method, method_is, call, concluded))) w input starts =
+    let r : Running = ran inv conclusion in
+    let one = starts_one kind (flat_map kind_called sents) (served_acts head uid (begun start r)) later start.turn (served_begun head uid start.moment start.turn start.kind r) starts in
+    let kinds_same : start.kind ≡ kind = kind_same start.kind kind (sym started ∙ one.0) in
     let heads : head ≡ head2 =
-    begin_same head head2 bytes bytes2 xs ys fits w.numbers (served_begins terms head bytes uid (begun moment turn kind2 r) (started, (known, (method, method_is, call, concluded)))) (whole_begins terms.kinds kind head2 bytes2 w) input in
-    let P : ℕ → Type 0 = λ k. IsMethodOf terms.kinds k head place in
-    let Q : CallHead → Type 0 = λ h. IsMethodOf terms.kinds kind h place in
-    let known2 : IsMethodOf terms.kinds kind head2 place = subst Q heads (subst P kinds_same known) in
-    let is2 : slice_get (methods_of terms.kinds kind) place ≡ Some method = ap (λ k. slice_get (methods_of terms.kinds k) place) (sym kinds_same) ∙ method_is in
-    let methods = known_same terms.kinds kind head2 place w.place method w.method known2 w.known is2 w.method_is in
+    begin_same head head2 bytes bytes2 xs ys fits w.numbers (served_begins terms head bytes uid (begun start r) (started, (known, (method, method_is, call, concluded)))) (whole_begins terms.kinds kind head2 bytes2 w) input in
+    let P : ℕ → Type 0 = λ k. IsMethodOf terms.kinds k head inv.place in
+    let Q : CallHead → Type 0 = λ h. IsMethodOf terms.kinds kind h inv.place in
+    let known2 : IsMethodOf terms.kinds kind head2 inv.place = subst Q heads (subst P kinds_same known) in
+    let is2 : slice_get (methods_of terms.kinds kind) inv.place ≡ Some method = ap (λ k. slice_get (methods_of terms.kinds k) inv.place) (sym kinds_same) ∙ method_is in
+    let methods = known_same terms.kinds kind head2 inv.place w.place method w.method known2 w.known is2 w.method_is in
     let R : Method → Type 0 = λ m. CallBytes head2 m.params w.arguments (0x50 ∷ bytes2) in
-    let same = call_is_one method.params head head2 arguments w.arguments (0x50 ∷ bytes) (0x50 ∷ bytes2) xs ys call (subst R (sym methods.1) w.spelled) (ap (λ (l : List ℕ). 0x50 ∷ l) input) in
+    let same = call_is_one method.params head head2 inv.arguments w.arguments (0x50 ∷ bytes) (0x50 ∷ bytes2) xs ys call (subst R (sym methods.1) w.spelled) (ap (λ (l : List ℕ). 0x50 ∷ l) input) in
     record { message = same.0; goes = refl; behind = same_behind bytes bytes2 xs ys (ap (drop 1) same.0) input; starts = one.1 }
 
 abbrev some_method : SystemMethod → Option SystemMethod
@@ -182,24 +182,24 @@ system_taken head head2 method arguments bytes bytes2 xs ys known call w heads i
 -- It is answered on.
 system_passes : (terms : Terms) (drawn : ℕ) (bytes : List ℕ) (head : CallHead) (uid : Uid) (s : System) (head2 : CallHead) (bytes2 xs ys : List ℕ) (sents : List Sent) (later : List Act)
     → FitsHead head → IsSystem terms drawn head bytes uid s → IsWholeSystemCall head2 bytes2 → bytes ++ xs ≡ bytes2 ++ ys
-    → StartEach (flat_map kind_called sents) (begun_by (system_acts s ++ later)) → Passes (system bytes head uid s) (sent_system_call head2 bytes2) xs ys sents later
+    → StartEach (flat_map kind_called sents) (begun_by (system_acts s ++ later)) → Passes (system (record { bytes = bytes; head = head; uid = uid }) s) (sent_system_call (record { head = head2; bytes = bytes2 })) xs ys sents later
 system_passes terms drawn bytes head uid unknown head2 bytes2 xs ys sents later fits (begins, none, is) w input starts =
     let heads : head ≡ head2 = begin_same head head2 bytes bytes2 xs ys fits w.numbers (system_begins terms drawn head bytes uid unknown (begins, none, is)) (whole_system_begins head2 bytes2 w) input in
     absurd (no_method w.method (sym w.known ∙ ap system_method (sym heads) ∙ none))
-system_passes terms drawn bytes head uid (rejected method arguments bar) head2 bytes2 xs ys sents later fits (known, call, is, e) w input starts =
-    let heads : head ≡ head2 = begin_same head head2 bytes bytes2 xs ys fits w.numbers (system_begins terms drawn head bytes uid (rejected method arguments bar) (known, call, is, e)) (whole_system_begins head2 bytes2 w) input in
-    let same = system_taken head head2 method arguments bytes bytes2 xs ys known call w heads input in
+system_passes terms drawn bytes head uid (rejected rej) head2 bytes2 xs ys sents later fits (known, call, is, e) w input starts =
+    let heads : head ≡ head2 = begin_same head head2 bytes bytes2 xs ys fits w.numbers (system_begins terms drawn head bytes uid (rejected rej) (known, call, is, e)) (whole_system_begins head2 bytes2 w) input in
+    let same = system_taken head head2 rej.method rej.arguments bytes bytes2 xs ys known call w heads input in
     record { message = same; goes = refl; behind = same_behind bytes bytes2 xs ys (ap (drop 1) same) input; starts = starts }
-system_passes terms drawn bytes head uid (turned method arguments ask moment answer written) head2 bytes2 xs ys sents later fits (known, call, is, e, fit, ws) w input starts =
+system_passes terms drawn bytes head uid (turned took) head2 bytes2 xs ys sents later fits (known, call, is, e, fit, ws) w input starts =
     let heads : head ≡ head2 =
-    begin_same head head2 bytes bytes2 xs ys fits w.numbers (system_begins terms drawn head bytes uid (turned method arguments ask moment answer written) (known, call, is, e, fit, ws)) (whole_system_begins head2 bytes2 w) input in
-    let same = system_taken head head2 method arguments bytes bytes2 xs ys known call w heads input in
-    let quiet = request_quiet terms method arguments (drawn_at terms drawn) uid ask e in
+    begin_same head head2 bytes bytes2 xs ys fits w.numbers (system_begins terms drawn head bytes uid (turned took) (known, call, is, e, fit, ws)) (whole_system_begins head2 bytes2 w) input in
+    let same = system_taken head head2 took.method took.arguments bytes bytes2 xs ys known call w heads input in
+    let quiet = request_quiet terms took.method took.arguments (drawn_at terms drawn) uid took.ask e in
     record {
       message = same;
       goes = refl;
       behind = same_behind bytes bytes2 xs ys (ap (drop 1) same) input;
-      starts = starts_on (flat_map kind_called sents) (acts_of moment ask answer) later (none_begun moment ask answer (quiet_end ask quiet)) starts;
+      starts = starts_on (flat_map kind_called sents) (acts_of took.moment took.ask took.answer) later (none_begun took.moment took.ask took.answer (quiet_end took.ask quiet)) starts;
     }
 
 -- An exchange that begins the bytes of whole messages takes the first of them, and the connection goes on.
@@ -207,33 +207,33 @@ passes : (terms : Terms) (drawn : ℕ) (e : Exchange) (s : Sent) (xs ys : List �
     → StartEach (flat_map kind_called (s ∷ sents)) (begun_by (acts_by e ++ later)) → Passes e s xs ys sents later
 passes terms drawn ping sent_ping xs ys sents later is whole input starts = record { message = refl; goes = refl; behind = ap (drop 1) input; starts = starts }
 passes terms drawn ping (sent_ack uid) xs ys sents later is whole input starts = absurd (no_ping xs (bytes_of_uid uid ++ ys) input)
-passes terms drawn ping (sent_call kind head bytes) xs ys sents later is whole input starts = absurd (no_call (bytes ++ ys) xs (sym input))
-passes terms drawn ping (sent_system_call head bytes) xs ys sents later is whole input starts = absurd (no_call (bytes ++ ys) xs (sym input))
-passes terms drawn (acknowledged uid moment answer) sent_ping xs ys sents later is whole input starts = absurd (no_ping ys (bytes_of_uid uid ++ xs) (sym input))
-passes terms drawn (acknowledged uid moment answer) (sent_ack uid2) xs ys sents later (fits, noted) whole input starts =
-    let one = uid_same uid uid2 xs ys fits whole (ap (drop 1) input) in
+passes terms drawn ping (sent_call sent) xs ys sents later is whole input starts = absurd (no_call (sent.bytes ++ ys) xs (sym input))
+passes terms drawn ping (sent_system_call sent) xs ys sents later is whole input starts = absurd (no_call (sent.bytes ++ ys) xs (sym input))
+passes terms drawn (acknowledged noted) sent_ping xs ys sents later is whole input starts = absurd (no_ping ys (bytes_of_uid noted.uid ++ xs) (sym input))
+passes terms drawn (acknowledged noted2) (sent_ack uid2) xs ys sents later (fits, noted) whole input starts =
+    let one = uid_same noted2.uid uid2 xs ys fits whole (ap (drop 1) input) in
     record {
       message = ap dgc_ack one.0;
       goes = refl;
       behind = one.1;
-      starts = starts_on (flat_map kind_called sents) (acts_of moment (asks.Ack uid) answer) later (none_begun moment (asks.Ack uid) answer (λ end. refl)) starts;
+      starts = starts_on (flat_map kind_called sents) (acts_of noted2.moment (asks.Ack noted2.uid) noted2.answer) later (none_begun noted2.moment (asks.Ack noted2.uid) noted2.answer (λ end. refl)) starts;
     }
-passes terms drawn (acknowledged uid moment answer) (sent_call kind head bytes) xs ys sents later is whole input starts = absurd (no_ack (bytes ++ ys) (bytes_of_uid uid ++ xs) (sym input))
-passes terms drawn (acknowledged uid moment answer) (sent_system_call head bytes) xs ys sents later is whole input starts = absurd (no_ack (bytes ++ ys) (bytes_of_uid uid ++ xs) (sym input))
-passes terms drawn (served bytes head uid s) sent_ping xs ys sents later is whole input starts = absurd (no_call (bytes ++ xs) ys input)
-passes terms drawn (served bytes head uid s) (sent_ack uid2) xs ys sents later is whole input starts = absurd (no_ack (bytes ++ xs) (bytes_of_uid uid2 ++ ys) input)
-passes terms drawn (served bytes head uid s) (sent_call kind head2 bytes2) xs ys sents later (other, draw, fits, few, is) whole input starts =
-    served_passes terms bytes head uid s kind head2 bytes2 xs ys sents later fits is whole (ap (drop 1) input) starts
-passes terms drawn (served bytes head uid s) (sent_system_call head2 bytes2) xs ys sents later (other, draw, fits, few, is) whole input starts =
-    let heads : head ≡ head2 = begin_same head head2 bytes bytes2 xs ys fits whole.numbers (served_begins terms head bytes uid s is) (whole_system_begins head2 bytes2 whole) (ap (drop 1) input) in
-    absurd (heads_differ head2 head (sym heads) whole.own other)
-passes terms drawn (system bytes head uid s) sent_ping xs ys sents later is whole input starts = absurd (no_call (bytes ++ xs) ys input)
-passes terms drawn (system bytes head uid s) (sent_ack uid2) xs ys sents later is whole input starts = absurd (no_ack (bytes ++ xs) (bytes_of_uid uid2 ++ ys) input)
-passes terms drawn (system bytes head uid s) (sent_call kind head2 bytes2) xs ys sents later (own, fits, few, is) whole input starts =
-    let heads : head ≡ head2 = begin_same head head2 bytes bytes2 xs ys fits whole.numbers (system_begins terms drawn head bytes uid s is) (whole_begins terms.kinds kind head2 bytes2 whole) (ap (drop 1) input) in
-    absurd (heads_differ head head2 heads own whole.other)
-passes terms drawn (system bytes head uid s) (sent_system_call head2 bytes2) xs ys sents later (own, fits, few, is) whole input starts =
-    system_passes terms drawn bytes head uid s head2 bytes2 xs ys sents later fits is whole (ap (drop 1) input) starts
+passes terms drawn (acknowledged noted) (sent_call sent) xs ys sents later is whole input starts = absurd (no_ack (sent.bytes ++ ys) (bytes_of_uid noted.uid ++ xs) (sym input))
+passes terms drawn (acknowledged noted) (sent_system_call sent) xs ys sents later is whole input starts = absurd (no_ack (sent.bytes ++ ys) (bytes_of_uid noted.uid ++ xs) (sym input))
+passes terms drawn (served msg s) sent_ping xs ys sents later is whole input starts = absurd (no_call (msg.bytes ++ xs) ys input)
+passes terms drawn (served msg s) (sent_ack uid2) xs ys sents later is whole input starts = absurd (no_ack (msg.bytes ++ xs) (bytes_of_uid uid2 ++ ys) input)
+passes terms drawn (served msg s) (sent_call sent) xs ys sents later (other, draw, fits, few, is) whole input starts =
+    served_passes terms msg.bytes msg.head msg.uid s sent.kind sent.head sent.bytes xs ys sents later fits is whole (ap (drop 1) input) starts
+passes terms drawn (served msg s) (sent_system_call sent2) xs ys sents later (other, draw, fits, few, is) whole input starts =
+    let heads : msg.head ≡ sent2.head = begin_same msg.head sent2.head msg.bytes sent2.bytes xs ys fits whole.numbers (served_begins terms msg.head msg.bytes msg.uid s is) (whole_system_begins sent2.head sent2.bytes whole) (ap (drop 1) input) in
+    absurd (heads_differ sent2.head msg.head (sym heads) whole.own other)
+passes terms drawn (system msg s) sent_ping xs ys sents later is whole input starts = absurd (no_call (msg.bytes ++ xs) ys input)
+passes terms drawn (system msg s) (sent_ack uid2) xs ys sents later is whole input starts = absurd (no_ack (msg.bytes ++ xs) (bytes_of_uid uid2 ++ ys) input)
+passes terms drawn (system msg s) (sent_call sent) xs ys sents later (own, fits, few, is) whole input starts =
+    let heads : msg.head ≡ sent.head = begin_same msg.head sent.head msg.bytes sent.bytes xs ys fits whole.numbers (system_begins terms drawn msg.head msg.bytes msg.uid s is) (whole_begins terms.kinds sent.kind sent.head sent.bytes whole) (ap (drop 1) input) in
+    absurd (heads_differ msg.head sent.head heads own whole.other)
+passes terms drawn (system msg s) (sent_system_call sent2) xs ys sents later (own, fits, few, is) whole input starts =
+    system_passes terms drawn msg.bytes msg.head msg.uid s sent2.head sent2.bytes xs ys sents later fits is whole (ap (drop 1) input) starts
 
 -- ---- some exchanges beside the messages
 
@@ -250,9 +250,9 @@ record Walked (kinds : List Kind) (es : List Exchange) (sents : List Sent) (b : 
 
 not_nothing : (e : Exchange) (xs : List ℕ) → taken_by e ++ xs ≡ [] → ⊥
 not_nothing ping xs is = cc
-not_nothing (acknowledged uid moment answer) xs is = cc
-not_nothing (served bytes head uid s) xs is = cc
-not_nothing (system bytes head uid s) xs is = cc
+not_nothing (acknowledged noted) xs is = cc
+not_nothing (served msg s) xs is = cc
+not_nothing (system msg s) xs is = cc
 
 first_same : (a b : List ℕ) (ms ns : List (List ℕ)) → a ≡ b → ms ≡ ns → a ∷ ms ≡ b ∷ ns
 first_same a b ms ns one more = ap (λ (l : List ℕ). l ∷ ms) one ∙ ap (λ (l : List (List ℕ)). b ∷ l) more
@@ -290,15 +290,15 @@ end_next single_op (e ∷ es) goes = rw goes refl
 -- an exchange that takes the message
 abbrev stand_in : Sent → Exchange
 stand_in sent_ping = ping
-stand_in (sent_ack uid) = acknowledged uid 0 (Err refusals.HistoryFull)
-stand_in (sent_call kind head bytes) = served bytes head head.id.space (refused 0)
-stand_in (sent_system_call head bytes) = served bytes head head.id.space (refused 0)
+stand_in (sent_ack uid) = acknowledged (record { uid = uid; moment = 0; answer = Err refusals.HistoryFull })
+stand_in (sent_call sent) = served (record { bytes = sent.bytes; head = sent.head; uid = sent.head.id.space }) (refused 0)
+stand_in (sent_system_call sent) = served (record { bytes = sent.bytes; head = sent.head; uid = sent.head.id.space }) (refused 0)
 
 stand_in_takes : (s : Sent) → taken_by (stand_in s) ≡ bytes_sent s
 stand_in_takes sent_ping = refl
 stand_in_takes (sent_ack uid) = refl
-stand_in_takes (sent_call kind head bytes) = refl
-stand_in_takes (sent_system_call head bytes) = refl
+stand_in_takes (sent_call sent) = refl
+stand_in_takes (sent_system_call sent) = refl
 
 -- The input ended where the connection did, and nothing came behind the exchanges.
 abbrev EndsHere : Transcript → List ℕ → ConnEnd → Type 0
@@ -327,10 +327,10 @@ message_goes_on terms opening es tail rest end s xs kinds (inl (more, is, stop))
 message_goes_on terms opening es tail rest end sent_ping xs kinds (inr (more, taken, calls, inside)) settled goes few whole starts input = no_call (more ++ rest) xs (sym (call_input tail more rest taken) ∙ input)
 message_goes_on terms opening es tail rest end (sent_ack uid) xs kinds (inr (more, taken, calls, inside)) settled goes few whole starts input =
     no_ack (more ++ rest) (bytes_of_uid uid ++ xs) (sym (call_input tail more rest taken) ∙ input)
-message_goes_on terms opening es tail rest end (sent_call kind head bytes) xs kinds (inr (more, taken, calls, inside)) settled goes few whole starts input =
-    call_whole terms.kinds (length (taken_in (opened opening es))) tail rest end kind head bytes xs kinds inside settled whole starts input
-message_goes_on terms opening es tail rest end (sent_system_call head bytes) xs kinds (inr (more, taken, calls, inside)) settled goes few whole starts input =
-    system_call_whole terms.kinds (length (taken_in (opened opening es))) tail rest end head bytes xs inside settled whole input
+message_goes_on terms opening es tail rest end (sent_call sent) xs kinds (inr (more, taken, calls, inside)) settled goes few whole starts input =
+    call_whole terms.kinds (length (taken_in (opened opening es))) tail rest end sent.kind sent.head sent.bytes xs kinds inside settled whole starts input
+message_goes_on terms opening es tail rest end (sent_system_call sent) xs kinds (inr (more, taken, calls, inside)) settled goes few whole starts input =
+    system_call_whole terms.kinds (length (taken_in (opened opening es))) tail rest end sent.head sent.bytes xs inside settled whole input
 
 -- Behind the exchanges that take the first of the messages, there is none left and the connection ended.
 ends_here : (terms : Terms) (opening : Opening) (es : List Exchange) (tail : Transcript) (rest : List ℕ) (end : ConnEnd) (later : List Sent) → StopsAt terms opening es tail rest end → IsSettled end → StaysOpen es

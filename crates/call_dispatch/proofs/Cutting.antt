@@ -75,9 +75,9 @@ cut_after shown xs row acts h =
 
 denied_short : (may : Invocation → Outcome → Type 0) (moves : States → Call → States → Type 0) (object : ObjId) (uid : Uid) (outcome : Outcome) (listed : List ObjId) (a b c : Observed) (moment moment2 place : ℕ) (refused : Refused)
     → Led may moves a b (acts_of moment (finish_with object outcome listed uid) (Err refused)) → Led may moves b c (abandon_act moment2 object place ∷ [])
-    → CutShort may moves a c object (conclusion_acts object uid outcome (denied listed moment refused moment2 place))
+    → CutShort may moves a c object (conclusion_acts object uid outcome (denied (record { listed = listed; moment = moment; refused = refused; end_moment = moment2; place = place })))
 denied_short may moves object uid outcome listed a b c moment moment2 place refused first then = record {
-  acts = conclusion_acts object uid outcome (denied listed moment refused moment2 place);
+  acts = conclusion_acts object uid outcome (denied (record { listed = listed; moment = moment; refused = refused; end_moment = moment2; place = place }));
   led = led_more may moves a b c _ _ first then;
   cut = (λ shown runs.
       let turn : List Act = acts_of moment (finish_with object outcome listed uid) (Err refused) in
@@ -94,34 +94,34 @@ pub finishes_refused : (may : Invocation → Outcome → Type 0) (moves : States
     → listed ≡ listed_by terms outcome → Led may moves a b (acts_of moment (finish_with object outcome listed uid) (Err refused)) → Led may moves b c (abandon_act moment2 object place ∷ [])
     → IsDenied uid refused result → Finishes may moves terms object uid outcome a c result
 finishes_refused may moves terms object uid outcome listed a b c moment moment2 place refused (Ok answer) same first then (other, is, unclosed) =
-    (denied listed moment refused moment2 place, (same, other), led_more may moves a b c _ _ first then, is, unclosed)
+    (denied (record { listed = listed; moment = moment; refused = refused; end_moment = moment2; place = place }), (same, other), led_more may moves a b c _ _ first then, is, unclosed)
 finishes_refused may moves terms object uid outcome listed a b c moment moment2 place refusals.OutOfMemory (Err end) same first then memory = (
   memory,
   (
-    denied listed moment refusals.HistoryFull moment2 place,
+    denied (record { listed = listed; moment = moment; refused = refusals.HistoryFull; end_moment = moment2; place = place }),
     (same, (λ e. cc)),
     record {
       acts = lost moment ∷ abandon_act moment2 object place ∷ [];
       led = led_more may moves a b c (lost moment ∷ []) (abandon_act moment2 object place ∷ []) first then;
-      cut = (λ shown runs. cut_first object moment2 place shown (conclusion_acts object uid outcome (denied listed moment refusals.HistoryFull moment2 place)) (lost moment ∷ []) runs (inr refl));
+      cut = (λ shown runs. cut_first object moment2 place shown (conclusion_acts object uid outcome (denied (record { listed = listed; moment = moment; refused = refusals.HistoryFull; end_moment = moment2; place = place }))) (lost moment ∷ []) runs (inr refl));
     },
   ),
 )
 finishes_refused may moves terms object uid outcome listed a b c moment moment2 place refusals.HistoryFull (Err end) same first then memory =
-    (memory, (denied listed moment refusals.HistoryFull moment2 place, (same, (λ e. cc)), denied_short may moves object uid outcome listed a b c moment moment2 place refusals.HistoryFull first then))
+    (memory, (denied (record { listed = listed; moment = moment; refused = refusals.HistoryFull; end_moment = moment2; place = place }), (same, (λ e. cc)), denied_short may moves object uid outcome listed a b c moment moment2 place refusals.HistoryFull first then))
 finishes_refused may moves terms object uid outcome listed a b c moment moment2 place (refusals.Full kind) (Err end) same first then memory =
-    (memory, (denied listed moment (refusals.Full kind) moment2 place, (same, (λ e. cc)), denied_short may moves object uid outcome listed a b c moment moment2 place (refusals.Full kind) first then))
+    (memory, (denied (record { listed = listed; moment = moment; refused = refusals.Full kind; end_moment = moment2; place = place }), (same, (λ e. cc)), denied_short may moves object uid outcome listed a b c moment moment2 place (refusals.Full kind) first then))
 
 -- Finish was answered, and then its Return was there or there was no memory for it.
 pub finishes_answered : (may : Invocation → Outcome → Type 0) (moves : States → Call → States → Type 0) (terms : Terms) (object : ObjId) (uid : Uid) (outcome : Outcome) (listed : List ObjId) (a b : Observed) (moment : ℕ) (turn : Turn) (result : Result Answer ConnEnd)
     → listed ≡ listed_by terms outcome → IsFinished (made_by outcome) turn.reply → Led may moves a b (acts_of moment (finish_with object outcome listed uid) (Ok turn))
     → IsPrepared (normal_return terms uid outcome turn.reply) None result → Finishes may moves terms object uid outcome a b result
 finishes_answered may moves terms object uid outcome listed a b moment turn (Ok answer) same over led prepared =
-    (finished listed moment turn (normal_return terms uid outcome turn.reply), (same, over, refl), led, prepared.0, prepared.1)
+    (finished (record { listed = listed; moment = moment; turn = turn; bytes = normal_return terms uid outcome turn.reply }), (same, over, refl), led, prepared.0, prepared.1)
 finishes_answered may moves terms object uid outcome listed a b moment turn (Err end) same over led prepared = (
   prepared,
   (
-    finished listed moment turn (normal_return terms uid outcome turn.reply),
+    finished (record { listed = listed; moment = moment; turn = turn; bytes = normal_return terms uid outcome turn.reply }),
     (same, over, refl),
     record {
       acts = acts_of moment (finish_with object outcome listed uid) (Ok turn);
@@ -134,9 +134,9 @@ finishes_answered may moves terms object uid outcome listed a b moment turn (Err
 -- ---- concluding
 
 granted_concludes : (terms : Terms) (uid : Uid) (result_type : Option TypeCode) (outcome : Outcome) (c : Conclusion) → fits terms uid result_type outcome ≡ true → IsGranted terms uid outcome c → IsConclusion terms uid result_type outcome c
-granted_concludes terms uid result_type outcome (finished listed moment turn bytes) fit granted = (fit, granted)
-granted_concludes terms uid result_type outcome (denied listed moment refused moment2 place) fit granted = (fit, granted)
-granted_concludes terms uid result_type outcome (faulted moment place) fit granted = absurd granted
+granted_concludes terms uid result_type outcome (finished fin) fit granted = (fit, granted)
+granted_concludes terms uid result_type outcome (denied den) fit granted = (fit, granted)
+granted_concludes terms uid result_type outcome (faulted up) fit granted = absurd granted
 
 -- A call whose outcome fits is concluded as it is finished.
 pub finish_concludes : (may : Invocation → Outcome → Type 0) (moves : States → Call → States → Type 0) (terms : Terms) (object : ObjId) (uid : Uid) (result_type : Option TypeCode) (outcome : Outcome) (a b : Observed) (result : Result Answer ConnEnd)
@@ -150,13 +150,13 @@ finish_concludes may moves terms object uid result_type outcome a b (Err end) fi
 pub fault_concludes : (may : Invocation → Outcome → Type 0) (moves : States → Call → States → Type 0) (terms : Terms) (object : ObjId) (uid : Uid) (result_type : Option TypeCode) (outcome : Outcome) (a b : Observed) (moment place : ℕ) (answer : Answer)
     → fits terms uid result_type outcome ≡ false → outcome ≢ OutOfMemory → Led may moves a b (abandon_act moment object place ∷ []) → answer.bytes ≡ fault_return uid (fault_message uid outcome) → answer.close ≡ None
     → Concludes may moves terms object uid result_type outcome a b (Ok answer)
-fault_concludes may moves terms object uid result_type outcome a b moment place answer unfit other led bytes_are unclosed = (faulted moment place, (unfit, other), led, bytes_are, unclosed)
+fault_concludes may moves terms object uid result_type outcome a b moment place answer unfit other led bytes_are unclosed = (faulted (record { moment = moment; place = place }), (unfit, other), led, bytes_are, unclosed)
 
 -- Some conclusion may come of every outcome but the worker's want of memory.
 concluded : (terms : Terms) (object : ObjId) (uid : Uid) (result_type : Option TypeCode) (outcome : Outcome) (b : Bool) → fits terms uid result_type outcome ≡ b → outcome ≢ OutOfMemory
     → (c : Conclusion) × IsConclusion terms uid result_type outcome c × IsFailed (conclusion_acts object uid outcome c) []
-concluded terms object uid result_type outcome true fit other = (denied (listed_by terms outcome) 0 refusals.HistoryFull 0 0, (fit, (refl, (λ same. cc))), inl refl)
-concluded terms object uid result_type outcome false fit other = (faulted 0 0, (fit, other), inl refl)
+concluded terms object uid result_type outcome true fit other = (denied (record { listed = listed_by terms outcome; moment = 0; refused = refusals.HistoryFull; end_moment = 0; place = 0 }), (fit, (refl, (λ same. cc))), inl refl)
+concluded terms object uid result_type outcome false fit other = (faulted (record { moment = 0; place = 0 }), (fit, other), inl refl)
 
 abandoned_concludes : (may : Invocation → Outcome → Type 0) (moves : States → Call → States → Type 0) (terms : Terms) (object : ObjId) (uid : Uid) (result_type : Option TypeCode) (outcome : Outcome) (a b : Observed) (moment place : ℕ)
     → outcome ≢ OutOfMemory → Led may moves a b (abandon_act moment object place ∷ []) → Concludes may moves terms object uid result_type outcome a b (Err ends.OutOfMemory)

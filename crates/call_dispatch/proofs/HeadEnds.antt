@@ -1,5 +1,5 @@
 -- The bytes that were taken of a head.
-use Rattle.std.proofs.Common.{◌≡◌, ℕ, ◌+◌, ◌-◌, List, [], ◌∷◌, length, Result, Ok, Err, refl, ap, sym, subst, ◌∙◌, arith, append-nil}
+use Rattle.std.proofs.Common.{◌≡◌, ℕ, ◌+◌, List, [], ◌∷◌, length, Result, Ok, Err, refl, ap, sym, subst, ◌∙◌, arith, append-nil}
 use Rattle.wire_io.specs.Pulled.{PullState}
 use Rattle.class_desc.specs.declared.slot.Item.TheVariants as items
 use Rattle.stream_grammar.specs.Reading.{magic_at}

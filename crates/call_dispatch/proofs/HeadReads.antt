@@ -1,10 +1,10 @@
 -- A Call's head is read, whatever comes behind it; and bytes begin with one head.
 use Rattle.std.specs.Prelude.{FitsSigned}
 use Rattle.std.specs.Int.{cast_unsigned, cast_signed}
-use Rattle.std.proofs.Common.{◌≡◌, ℕ, ℤ, ◌+◌, ◌-◌, w32, w64, List, [], ◌∷◌, ◌++◌, length, take, drop, take_at, drop_at, Ok, refl, sym, ap, ◌∙◌, append-nil, arith}
+use Rattle.std.proofs.Common.{◌≡◌, ℕ, ℤ, w32, w64, List, [], ◌∷◌, ◌++◌, length, take, drop, take_at, drop_at, Ok, refl, sym, ap, ◌∙◌, append-nil, arith}
 use Rattle.std.proofs.lemmas.Int.{ints, to_z-of_z}
 use Rattle.std.proofs.lemmas.List.{append_cancel_right}
-use Rattle.std.proofs.lemmas.Nat.{from_be_bytes-to_be_bytes_4, from_be_bytes-to_be_bytes_8}
+use Rattle.std.proofs.lemmas.Nat.{from_be_bytes-to_be_bytes_8}
 use Rattle.object_ids.specs.declared.ids.ObjId.{ObjId}
 use Rattle.object_ids.specs.Bytes.{signed_bytes, signed_from_bytes, bytes_of_uid, uid_from_bytes, bytes_of_objid, objid_from_bytes}
 use Rattle.object_ids.proofs.Spelling.{uid-spelled, objid-spelled}
@@ -15,7 +15,6 @@ use Rattle.ser_read.specs.Named.{add_bytes}
 use Rattle.ser_read.specs.Wants.{Stand, run_at, bytes_at}
 use Rattle.ser_read.specs.Heading.{inside_block}
 use Rattle.ser_read.proofs.Heading.{head_runs, added_some, some_wanted}
-use Rattle.ser_read.proofs.Runs.{behind}
 use Rattle.ser_read.proofs.Served.{given_is}
 use Rattle.jrmp_frames.specs.declared.arguments.Arguments.{Arguments}
 use Rattle.jrmp_frames.specs.declared.head.CallHead.{CallHead}
@@ -23,6 +22,7 @@ use Rattle.jrmp_frames.specs.Messages.{head_bytes, CallBytes}
 use Rattle.jrmp_frames.specs.Calls.{head_at}
 use Rattle.jrmp_frames.proofs.CallLaws.{call_has_head}
 use Rattle.call_dispatch.specs.Served.{FitsHead, EndsWithHead}
+use Rattle.java_shapes.proofs.RefNotes.{port_back}
 
 -- ---- heads
 
@@ -50,9 +50,6 @@ one_front head head2 bytes bytes2 rest rest2 left left2 a b e =
 
 -- ---- the numbers of a head
 
-signed_4 : (x : ℤ) → FitsSigned w32 x → signed_from_bytes w32 (signed_bytes w32 x) ≡ x
-signed_4 x fits = ap (cast_signed w32) (from_be_bytes-to_be_bytes_4 (cast_unsigned w32 x) (omega (arith, ints))) ∙ to_z-of_z w32 x fits
-
 signed_8 : (x : ℤ) → FitsSigned w64 x → signed_from_bytes w64 (signed_bytes w64 x) ≡ x
 signed_8 x fits = ap (cast_signed w64) (from_be_bytes-to_be_bytes_8 (cast_unsigned w64 x) (omega (arith, ints))) ∙ to_z-of_z w64 x fits
 
@@ -74,7 +71,7 @@ same_head a b f g e =
     let one = parts_same 22 (bytes_of_objid a.id) (bytes_of_objid b.id) (signed_bytes w32 a.operation ++ signed_bytes w64 a.hash) (signed_bytes w32 b.operation ++ signed_bytes w64 b.hash) refl refl e in
     let two = parts_same 4 (signed_bytes w32 a.operation) (signed_bytes w32 b.operation) (signed_bytes w64 a.hash) (signed_bytes w64 b.hash) refl refl one.1 in
     let ids : a.id ≡ b.id = sym (objid_back a f) ∙ ap objid_from_bytes one.0 ∙ objid_back b g in
-    let operations : a.operation ≡ b.operation = sym (signed_4 a.operation f.operation) ∙ ap (signed_from_bytes w32) two.0 ∙ signed_4 b.operation g.operation in
+    let operations : a.operation ≡ b.operation = sym (port_back a.operation f.operation) ∙ ap (signed_from_bytes w32) two.0 ∙ port_back b.operation g.operation in
     let hashes : a.hash ≡ b.hash = sym (signed_8 a.hash f.hash) ∙ ap (signed_from_bytes w64) two.1 ∙ signed_8 b.hash g.hash in
     ap (λ x. head_with x a.operation a.hash) ids ∙ ap (λ x. head_with b.id x a.hash) operations ∙ ap (λ x. head_with b.id b.operation x) hashes
 

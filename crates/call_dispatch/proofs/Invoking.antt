@@ -48,24 +48,24 @@ turn_none moment ask (Err (Full kind)) = refl
 turn_none moment ask (Err OutOfMemory) = refl
 
 conclusion_none : (object : ObjId) (uid : Uid) (outcome : Outcome) (c : Conclusion) → invocations_in (conclusion_acts object uid outcome c) ≡ []
-conclusion_none object uid outcome (finished listed moment turn bytes) = turn_none moment (finish_with object outcome listed uid) (Ok turn)
-conclusion_none object uid outcome (denied listed moment refusal moment2 place) =
-    in_more (acts_of moment (finish_with object outcome listed uid) (Err refusal)) (abandon_act moment2 object place ∷ []) ∙ ap (λ (l : List Invocation). l ++ []) (turn_none moment (finish_with object outcome listed uid) (Err refusal))
-conclusion_none object uid outcome (faulted moment place) = refl
+conclusion_none object uid outcome (finished fin) = turn_none fin.moment (finish_with object outcome fin.listed uid) (Ok fin.turn)
+conclusion_none object uid outcome (denied den) =
+    in_more (acts_of den.moment (finish_with object outcome den.listed uid) (Err den.refused)) (abandon_act den.end_moment object den.place ∷ []) ∙ ap (λ (l : List Invocation). l ++ []) (turn_none den.moment (finish_with object outcome den.listed uid) (Err den.refused))
+conclusion_none object uid outcome (faulted up) = refl
 
 running_once : (terms : Terms) (head : CallHead) (kind : ℕ) (bytes : List ℕ) (uid : Uid) (r : Running) → IsRunning terms head kind bytes uid r → IsInvokedOnce terms.kinds head bytes (invocations_in (running_acts head uid kind r))
-running_once terms head kind bytes uid (unknown moment place) is = tt
-running_once terms head kind bytes uid (ran place arguments outcome c) (known, (method, here, spelled, concluded)) =
-    let call : Invocation = invocation_of head.id kind place arguments in
+running_once terms head kind bytes uid (unknown up) is = tt
+running_once terms head kind bytes uid (ran inv c) (known, (method, here, spelled, concluded)) =
+    let call : Invocation = invocation_of head.id kind inv.place inv.arguments in
     let once : IsInvokedOnce terms.kinds head bytes (call ∷ []) = record { object = refl; known = known; method = method; method_is = here; spelled = spelled } in
-    subst (λ (l : List Invocation). IsInvokedOnce terms.kinds head bytes (call ∷ l)) (sym (conclusion_none head.id uid outcome c)) once
+    subst (λ (l : List Invocation). IsInvokedOnce terms.kinds head bytes (call ∷ l)) (sym (conclusion_none head.id uid inv.outcome c)) once
 
 pub call_is_invoked_once : CallIsInvokedOnce
-call_is_invoked_once terms head bytes uid (absent moment turn) is = subst (λ (l : List Invocation). IsInvokedOnce terms.kinds head bytes l) (sym (turn_none moment (Begin head.id) (Ok turn))) tt
+call_is_invoked_once terms head bytes uid (absent gone) is = subst (λ (l : List Invocation). IsInvokedOnce terms.kinds head bytes l) (sym (turn_none gone.moment (Begin head.id) (Ok gone.turn))) tt
 call_is_invoked_once terms head bytes uid (refused moment) is = tt
-call_is_invoked_once terms head bytes uid (begun moment turn kind r) (started, is) =
-    let same = in_more (acts_of moment (Begin head.id) (Ok turn)) (running_acts head uid kind r) ∙ ap (λ (l : List Invocation). l ++ invocations_in (running_acts head uid kind r)) (turn_none moment (Begin head.id) (Ok turn)) in
-    subst (λ (l : List Invocation). IsInvokedOnce terms.kinds head bytes l) (sym same) (running_once terms head kind bytes uid r is)
+call_is_invoked_once terms head bytes uid (begun start r) (started, is) =
+    let same = in_more (acts_of start.moment (Begin head.id) (Ok start.turn)) (running_acts head uid start.kind r) ∙ ap (λ (l : List Invocation). l ++ invocations_in (running_acts head uid start.kind r)) (turn_none start.moment (Begin head.id) (Ok start.turn)) in
+    subst (λ (l : List Invocation). IsInvokedOnce terms.kinds head bytes l) (sym same) (running_once terms head start.kind bytes uid r is)
 
 -- ---- in a connection
 
@@ -89,16 +89,16 @@ leads_more kinds (m ∷ ms) ns xs ys (inr (call, others, is, mine, first)) then 
 -- A call of the registry or the collector leads to none.
 system_none : (s : System) → invocations_in (system_acts s) ≡ []
 system_none nameless = refl
-system_none (rejected method arguments bar) = refl
-system_none (turned method arguments ask moment answer written) = turn_none moment ask answer
+system_none (rejected rej) = refl
+system_none (turned took) = turn_none took.moment took.ask took.answer
 
 -- An exchange leads to at most one.
 exchange_leads : (terms : Terms) (drawn : ℕ) (e : Exchange) → IsExchange terms drawn e → LeadTo terms.kinds (taken_by e ∷ []) (invocations_in (acts_by e))
 exchange_leads terms drawn ping is = inl refl
-exchange_leads terms drawn (acknowledged uid moment answer) is = inl (turn_none moment (Ack uid) answer)
-exchange_leads terms drawn (system bytes head uid s) is = inl (system_none s)
-exchange_leads terms drawn (served bytes head uid s) (other, draw, fits, few, is) =
-    once_leads terms.kinds head bytes (invocations_in (acts_by (served bytes head uid s))) (call_is_invoked_once terms head bytes uid s is)
+exchange_leads terms drawn (acknowledged noted) is = inl (turn_none noted.moment (Ack noted.uid) noted.answer)
+exchange_leads terms drawn (system msg s) is = inl (system_none s)
+exchange_leads terms drawn (served msg s) (other, draw, fits, few, is) =
+    once_leads terms.kinds msg.head msg.bytes (invocations_in (acts_by (served msg s))) (call_is_invoked_once terms msg.head msg.bytes msg.uid s is)
 
 exchanges_lead : (terms : Terms) (drawn : ℕ) (es : List Exchange) → IsChain terms drawn es → LeadTo terms.kinds (map taken_by es) (invocations_in (flat_map acts_by es))
 exchanges_lead terms drawn [] chain = refl

@@ -59,8 +59,8 @@ uid_same uid uid2 xs ys fits fits2 same =
     let uids : uid ≡ uid2 = sym (uid-spelled uid xs fits.unique fits.time fits.count) ∙ ap uid_from_bytes same ∙ uid-spelled uid2 ys fits2.unique fits2.time fits2.count in
     (uids, same_behind (bytes_of_uid uid) (bytes_of_uid uid2) xs ys (ap bytes_of_uid uids) same)
 
-acknowledged_same : (u u2 : Uid) (m m2 : ℕ) (a a2 : Result Turn Refused) → u ≡ u2 → m ≡ m2 → a ≡ a2 → acknowledged u m a ≡ acknowledged u2 m2 a2
-acknowledged_same u u2 m m2 a a2 us ms answers = ap (λ x. acknowledged x m a) us ∙ ap (λ x. acknowledged u2 x a) ms ∙ ap (λ x. acknowledged u2 m2 x) answers
+acknowledged_same : (u u2 : Uid) (m m2 : ℕ) (a a2 : Result Turn Refused) → u ≡ u2 → m ≡ m2 → a ≡ a2 → acknowledged (record { uid = u; moment = m; answer = a }) ≡ acknowledged (record { uid = u2; moment = m2; answer = a2 })
+acknowledged_same u u2 m m2 a a2 us ms answers = λ i. acknowledged (record { uid = us i; moment = ms i; answer = answers i })
 
 -- what the outside hands in at an acknowledgement
 abbrev ack_ticks : ℕ → Result Turn Refused → List OutsideAnswer
@@ -78,11 +78,11 @@ ack_one m m2 (Ok turn) (Err refusal) t t2 same = absurd (cc)
 ack_one m m2 (Err refusal) (Ok turn) t t2 same = absurd (cc)
 ack_one m m2 (Err refusal) (Err refusal2) t t2 same = ((cc), (cc), (cc))
 
-served_same : (b b2 : List ℕ) (h h2 : CallHead) (u u2 : Uid) (s s2 : Way) → b ≡ b2 → h ≡ h2 → u ≡ u2 → s ≡ s2 → served b h u s ≡ served b2 h2 u2 s2
-served_same b b2 h h2 u u2 s s2 bs hs us ss = ap (λ x. served x h u s) bs ∙ ap (λ x. served b2 x u s) hs ∙ ap (λ x. served b2 h2 x s) us ∙ ap (λ x. served b2 h2 u2 x) ss
+served_same : (b b2 : List ℕ) (h h2 : CallHead) (u u2 : Uid) (s s2 : Way) → b ≡ b2 → h ≡ h2 → u ≡ u2 → s ≡ s2 → served (record { bytes = b; head = h; uid = u }) s ≡ served (record { bytes = b2; head = h2; uid = u2 }) s2
+served_same b b2 h h2 u u2 s s2 bs hs us ss = λ i. served (record { bytes = bs i; head = hs i; uid = us i }) (ss i)
 
-system_same : (b b2 : List ℕ) (h h2 : CallHead) (u u2 : Uid) (s s2 : System) → b ≡ b2 → h ≡ h2 → u ≡ u2 → s ≡ s2 → system b h u s ≡ system b2 h2 u2 s2
-system_same b b2 h h2 u u2 s s2 bs hs us ss = ap (λ x. system x h u s) bs ∙ ap (λ x. system b2 x u s) hs ∙ ap (λ x. system b2 h2 x s) us ∙ ap (λ x. system b2 h2 u2 x) ss
+system_same : (b b2 : List ℕ) (h h2 : CallHead) (u u2 : Uid) (s s2 : System) → b ≡ b2 → h ≡ h2 → u ≡ u2 → s ≡ s2 → system (record { bytes = b; head = h; uid = u }) s ≡ system (record { bytes = b2; head = h2; uid = u2 }) s2
+system_same b b2 h h2 u u2 s s2 bs hs us ss = λ i. system (record { bytes = bs i; head = hs i; uid = us i }) (ss i)
 
 -- Two exchanges that begin one input and one list of answers are one.
 pub next_is_one : (terms : Terms) (drawn : ℕ) (e f : Exchange) (rest rest2 : List ℕ) (t t2 : List OutsideAnswer)
@@ -90,36 +90,36 @@ pub next_is_one : (terms : Terms) (drawn : ℕ) (e f : Exchange) (rest rest2 : L
     → taken_by e ++ rest ≡ taken_by f ++ rest2 → tape (acts_by e) ++ t ≡ tape (acts_by f) ++ t2
     → (e ≡ f) × (rest ≡ rest2) × (t ≡ t2)
 next_is_one terms drawn ping ping rest rest2 t t2 is is2 input ticking = (refl, ap (drop 1) input, ticking)
-next_is_one terms drawn ping (acknowledged uid moment answer) rest rest2 t t2 is is2 input ticking = absurd (no_ping rest (bytes_of_uid uid ++ rest2) input)
-next_is_one terms drawn (acknowledged uid moment answer) ping rest rest2 t t2 is is2 input ticking = absurd (no_ping rest2 (bytes_of_uid uid ++ rest) (sym input))
-next_is_one terms drawn (acknowledged uid moment answer) (acknowledged uid2 moment2 answer2) rest rest2 t t2 (fits, noted) (fits2, noted2) input ticking =
-    let one = uid_same uid uid2 rest rest2 fits fits2 (ap (drop 1) input) in
-    let handed : ack_ticks moment answer ++ t ≡ ack_ticks moment2 answer2 ++ t2 =
-    ap (λ (l : List OutsideAnswer). l ++ t) (sym (ack_tape uid moment answer noted)) ∙ ticking ∙ ap (λ (l : List OutsideAnswer). l ++ t2) (ack_tape uid2 moment2 answer2 noted2) in
-    let told = ack_one moment moment2 answer answer2 t t2 handed in
-    (acknowledged_same uid uid2 moment moment2 answer answer2 one.0 told.0 told.1, one.1, told.2)
-next_is_one terms drawn (acknowledged uid moment answer) (served bytes head uid2 s) rest rest2 t t2 is is2 input ticking = absurd (no_ack (bytes ++ rest2) (bytes_of_uid uid ++ rest) (sym input))
-next_is_one terms drawn (served bytes head uid2 s) (acknowledged uid moment answer) rest rest2 t t2 is is2 input ticking = absurd (no_ack (bytes ++ rest) (bytes_of_uid uid ++ rest2) input)
-next_is_one terms drawn ping (served bytes head uid s) rest rest2 t t2 is is2 input ticking = absurd (no_call (bytes ++ rest2) rest (sym input))
-next_is_one terms drawn (served bytes head uid s) ping rest rest2 t t2 is is2 input ticking = absurd (no_call (bytes ++ rest) rest2 input)
-next_is_one terms drawn (served bytes head uid s) (served bytes2 head2 uid2 s2) rest rest2 t t2 (other, draw, fits, few, is) (other2, draw2, fits2, few2, is2) input ticking =
-    let uids : uid ≡ uid2 = draw ∙ sym draw2 in
-    let behind : bytes ++ rest ≡ bytes2 ++ rest2 = ap (drop 1) input in
-    let P : Uid → Type 0 = λ u. IsServed terms head2 bytes2 u s2 in
-    let one = exchange_one terms head head2 bytes bytes2 uid s s2 rest rest2 t t2 fits fits2 is (subst P (sym uids) is2) behind (ticking ∙ ap (λ (u : Uid). tape (served_acts head2 u s2) ++ t2) (sym uids)) in
-    (served_same bytes bytes2 head head2 uid uid2 s s2 one.2 one.0 uids one.1, same_behind bytes bytes2 rest rest2 one.2 behind, one.3)
-next_is_one terms drawn ping (system bytes head uid s) rest rest2 t t2 is is2 input ticking = absurd (no_call (bytes ++ rest2) rest (sym input))
-next_is_one terms drawn (system bytes head uid s) ping rest rest2 t t2 is is2 input ticking = absurd (no_call (bytes ++ rest) rest2 input)
-next_is_one terms drawn (acknowledged uid moment answer) (system bytes head uid2 s) rest rest2 t t2 is is2 input ticking = absurd (no_ack (bytes ++ rest2) (bytes_of_uid uid ++ rest) (sym input))
-next_is_one terms drawn (system bytes head uid2 s) (acknowledged uid moment answer) rest rest2 t t2 is is2 input ticking = absurd (no_ack (bytes ++ rest) (bytes_of_uid uid ++ rest2) input)
-next_is_one terms drawn (system bytes head uid s) (served bytes2 head2 uid2 s2) rest rest2 t t2 (own, fits, few, is) (other, draw, fits2, few2, is2) input ticking =
-    absurd (system_not_served terms drawn head head2 bytes bytes2 uid uid2 s s2 rest rest2 fits fits2 own other is is2 (ap (drop 1) input))
-next_is_one terms drawn (served bytes head uid s) (system bytes2 head2 uid2 s2) rest rest2 t t2 (other, draw, fits, few, is) (own, fits2, few2, is2) input ticking =
-    absurd (system_not_served terms drawn head2 head bytes2 bytes uid2 uid s2 s rest2 rest fits2 fits own other is2 is (ap (drop 1) (sym input)))
-next_is_one terms drawn (system bytes head uid s) (system bytes2 head2 uid2 s2) rest rest2 t t2 (own, fits, few, is) (own2, fits2, few2, is2) input ticking =
-    let behind : bytes ++ rest ≡ bytes2 ++ rest2 = ap (drop 1) input in
-    let one = system_exchange_one terms drawn head head2 bytes bytes2 uid uid2 s s2 rest rest2 t t2 fits fits2 is is2 behind ticking in
-    (system_same bytes bytes2 head head2 uid uid2 s s2 one.1.2 one.0 one.1.0 one.1.1, same_behind bytes bytes2 rest rest2 one.1.2 behind, one.1.3)
+next_is_one terms drawn ping (acknowledged noted) rest rest2 t t2 is is2 input ticking = absurd (no_ping rest (bytes_of_uid noted.uid ++ rest2) input)
+next_is_one terms drawn (acknowledged noted) ping rest rest2 t t2 is is2 input ticking = absurd (no_ping rest2 (bytes_of_uid noted.uid ++ rest) (sym input))
+next_is_one terms drawn (acknowledged noted3) (acknowledged noted4) rest rest2 t t2 (fits, noted) (fits2, noted2) input ticking =
+    let one = uid_same noted3.uid noted4.uid rest rest2 fits fits2 (ap (drop 1) input) in
+    let handed : ack_ticks noted3.moment noted3.answer ++ t ≡ ack_ticks noted4.moment noted4.answer ++ t2 =
+    ap (λ (l : List OutsideAnswer). l ++ t) (sym (ack_tape noted3.uid noted3.moment noted3.answer noted)) ∙ ticking ∙ ap (λ (l : List OutsideAnswer). l ++ t2) (ack_tape noted4.uid noted4.moment noted4.answer noted2) in
+    let told = ack_one noted3.moment noted4.moment noted3.answer noted4.answer t t2 handed in
+    (acknowledged_same noted3.uid noted4.uid noted3.moment noted4.moment noted3.answer noted4.answer one.0 told.0 told.1, one.1, told.2)
+next_is_one terms drawn (acknowledged noted) (served msg s) rest rest2 t t2 is is2 input ticking = absurd (no_ack (msg.bytes ++ rest2) (bytes_of_uid noted.uid ++ rest) (sym input))
+next_is_one terms drawn (served msg s) (acknowledged noted) rest rest2 t t2 is is2 input ticking = absurd (no_ack (msg.bytes ++ rest) (bytes_of_uid noted.uid ++ rest2) input)
+next_is_one terms drawn ping (served msg s) rest rest2 t t2 is is2 input ticking = absurd (no_call (msg.bytes ++ rest2) rest (sym input))
+next_is_one terms drawn (served msg s) ping rest rest2 t t2 is is2 input ticking = absurd (no_call (msg.bytes ++ rest) rest2 input)
+next_is_one terms drawn (served msg s) (served msg2 s2) rest rest2 t t2 (other, draw, fits, few, is) (other2, draw2, fits2, few2, is2) input ticking =
+    let uids : msg.uid ≡ msg2.uid = draw ∙ sym draw2 in
+    let behind : msg.bytes ++ rest ≡ msg2.bytes ++ rest2 = ap (drop 1) input in
+    let P : Uid → Type 0 = λ u. IsServed terms msg2.head msg2.bytes u s2 in
+    let one = exchange_one terms msg.head msg2.head msg.bytes msg2.bytes msg.uid s s2 rest rest2 t t2 fits fits2 is (subst P (sym uids) is2) behind (ticking ∙ ap (λ (u : Uid). tape (served_acts msg2.head u s2) ++ t2) (sym uids)) in
+    (served_same msg.bytes msg2.bytes msg.head msg2.head msg.uid msg2.uid s s2 one.2 one.0 uids one.1, same_behind msg.bytes msg2.bytes rest rest2 one.2 behind, one.3)
+next_is_one terms drawn ping (system msg s) rest rest2 t t2 is is2 input ticking = absurd (no_call (msg.bytes ++ rest2) rest (sym input))
+next_is_one terms drawn (system msg s) ping rest rest2 t t2 is is2 input ticking = absurd (no_call (msg.bytes ++ rest) rest2 input)
+next_is_one terms drawn (acknowledged noted) (system msg s) rest rest2 t t2 is is2 input ticking = absurd (no_ack (msg.bytes ++ rest2) (bytes_of_uid noted.uid ++ rest) (sym input))
+next_is_one terms drawn (system msg s) (acknowledged noted) rest rest2 t t2 is is2 input ticking = absurd (no_ack (msg.bytes ++ rest) (bytes_of_uid noted.uid ++ rest2) input)
+next_is_one terms drawn (system msg s) (served msg2 s2) rest rest2 t t2 (own, fits, few, is) (other, draw, fits2, few2, is2) input ticking =
+    absurd (system_not_served terms drawn msg.head msg2.head msg.bytes msg2.bytes msg.uid msg2.uid s s2 rest rest2 fits fits2 own other is is2 (ap (drop 1) input))
+next_is_one terms drawn (served msg s) (system msg2 s2) rest rest2 t t2 (other, draw, fits, few, is) (own, fits2, few2, is2) input ticking =
+    absurd (system_not_served terms drawn msg2.head msg.head msg2.bytes msg.bytes msg2.uid msg.uid s2 s rest2 rest fits2 fits own other is2 is (ap (drop 1) (sym input)))
+next_is_one terms drawn (system msg s) (system msg2 s2) rest rest2 t t2 (own, fits, few, is) (own2, fits2, few2, is2) input ticking =
+    let behind : msg.bytes ++ rest ≡ msg2.bytes ++ rest2 = ap (drop 1) input in
+    let one = system_exchange_one terms drawn msg.head msg2.head msg.bytes msg2.bytes msg.uid msg2.uid s s2 rest rest2 t t2 fits fits2 is is2 behind ticking in
+    (system_same msg.bytes msg2.bytes msg.head msg2.head msg.uid msg2.uid s s2 one.1.2 one.0 one.1.0 one.1.1, same_behind msg.bytes msg2.bytes rest rest2 one.1.2 behind, one.1.3)
 
 -- ---- what comes next
 
@@ -159,19 +159,19 @@ next opening es xs = unless_closed xs (open_next opening es (length (taken_in (o
 -- an exchange that comes next
 abbrev pub went : Exchange → List ℕ → Next
 went ping xs = pinged xs
-went (acknowledged uid moment answer) xs = acking (bytes_of_uid uid ++ xs)
-went (served bytes head uid s) xs = calling (bytes ++ xs)
-went (system bytes head uid s) xs = calling (bytes ++ xs)
+went (acknowledged noted) xs = acking (bytes_of_uid noted.uid ++ xs)
+went (served msg s) xs = calling (msg.bytes ++ xs)
+went (system msg s) xs = calling (msg.bytes ++ xs)
 
 code_reads : (n at : ℕ) (e : Exchange) (rest : List ℕ) → n < MAX_MESSAGES → code_next n at (taken_by e ++ rest) ≡ went e rest
 code_reads n at ping rest few = let no = neq-eqb n MAX_MESSAGES (λ same. omega arith) in rw no refl
-code_reads n at (acknowledged uid moment answer) rest few =
+code_reads n at (acknowledged noted) rest few =
     let no = neq-eqb n MAX_MESSAGES (λ same. omega arith) in
-    let long : length (bytes_of_uid uid ++ rest) ≡ 14 + length rest = length-append (bytes_of_uid uid) rest in
-    let enough : nat_lt (length (bytes_of_uid uid ++ rest)) 14 ≡ false = grind (arith, nat_tests, long) in
+    let long : length (bytes_of_uid noted.uid ++ rest) ≡ 14 + length rest = length-append (bytes_of_uid noted.uid) rest in
+    let enough : nat_lt (length (bytes_of_uid noted.uid ++ rest)) 14 ≡ false = grind (arith, nat_tests, long) in
     rw (no, enough) refl
-code_reads n at (served bytes head uid s) rest few = let no = neq-eqb n MAX_MESSAGES (λ same. omega arith) in rw no refl
-code_reads n at (system bytes head uid s) rest few = let no = neq-eqb n MAX_MESSAGES (λ same. omega arith) in rw no refl
+code_reads n at (served msg s) rest few = let no = neq-eqb n MAX_MESSAGES (λ same. omega arith) in rw no refl
+code_reads n at (system msg s) rest few = let no = neq-eqb n MAX_MESSAGES (λ same. omega arith) in rw no refl
 
 open_reads : (opening : Opening) (es : List Exchange) (at : ℕ) (e : Exchange) (rest : List ℕ) → length es < most_messages opening → open_next opening es at (taken_by e ++ rest) ≡ went e rest
 open_reads (stream endpoint) es at e rest few = code_reads (length es) at e rest few
@@ -319,9 +319,9 @@ ends_one terms opening es tail tail2 rest rest2 end end2 t t2 (inr (more, taken,
 
 pub stopped_went : (end : ConnEnd) (rest : List ℕ) (f : Exchange) (xs : List ℕ) → stopped end rest ≡ went f xs → ⊥
 stopped_went end rest ping xs same = cc
-stopped_went end rest (acknowledged uid moment answer) xs same = cc
-stopped_went end rest (served bytes head uid s) xs same = cc
-stopped_went end rest (system bytes head uid s) xs same = cc
+stopped_went end rest (acknowledged noted) xs same = cc
+stopped_went end rest (served msg s) xs same = cc
+stopped_went end rest (system msg s) xs same = cc
 
 -- An end doesn't stand where an exchange goes on.
 not_both : (terms : Terms) (opening : Opening) (es : List Exchange) (drawn : ℕ) (tail : Transcript) (rest : List ℕ) (end : ConnEnd) (f : Exchange) (xs : List ℕ) (t u : List OutsideAnswer) → StopsAt terms opening es tail rest end → IsSettled end
@@ -331,12 +331,12 @@ not_both terms opening es drawn tail rest end f xs t u (inl (more, is, stop)) se
     stopped_went end rest f xs (next_same opening es (more ++ rest) (taken_by f ++ xs) (stopped end rest) (went f xs) same_input stop (next_reads opening es f xs few goes))
 not_both terms opening es drawn tail rest end ping xs t u (inr (more, taken, calls, inside)) settled few goes legal input ticking =
     no_call (more ++ rest) xs (sym (call_input tail more rest taken) ∙ input)
-not_both terms opening es drawn tail rest end (acknowledged uid moment answer) xs t u (inr (more, taken, calls, inside)) settled few goes legal input ticking =
-    no_ack (more ++ rest) (bytes_of_uid uid ++ xs) (sym (call_input tail more rest taken) ∙ input)
-not_both terms opening es drawn tail rest end (served bytes head uid s) xs t u (inr (more, taken, calls, inside)) settled few goes (other, draw, fits, small, is) input ticking =
-    in_any_not_served terms (length (taken_in (opened opening es))) tail rest end head bytes uid s xs t u inside settled other fits small is input ticking
-not_both terms opening es drawn tail rest end (system bytes head uid s) xs t u (inr (more, taken, calls, inside)) settled few goes (own, fits, small, is) input ticking =
-    in_any_not_answered terms drawn (length (taken_in (opened opening es))) tail rest end head bytes uid s xs inside settled own fits small is input
+not_both terms opening es drawn tail rest end (acknowledged noted) xs t u (inr (more, taken, calls, inside)) settled few goes legal input ticking =
+    no_ack (more ++ rest) (bytes_of_uid noted.uid ++ xs) (sym (call_input tail more rest taken) ∙ input)
+not_both terms opening es drawn tail rest end (served msg s) xs t u (inr (more, taken, calls, inside)) settled few goes (other, draw, fits, small, is) input ticking =
+    in_any_not_served terms (length (taken_in (opened opening es))) tail rest end msg.head msg.bytes msg.uid s xs t u inside settled other fits small is input ticking
+not_both terms opening es drawn tail rest end (system msg s) xs t u (inr (more, taken, calls, inside)) settled few goes (own, fits, small, is) input ticking =
+    in_any_not_answered terms drawn (length (taken_in (opened opening es))) tail rest end msg.head msg.bytes msg.uid s xs inside settled own fits small is input
 
 -- ---- exchanges
 

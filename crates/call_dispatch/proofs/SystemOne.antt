@@ -52,8 +52,8 @@ use Rattle.call_dispatch.proofs.CallsOne.{served_begins, begin_same, front_same,
 
 pub system_begins : (terms : Terms) (drawn : ℕ) (head : CallHead) (bytes : List ℕ) (uid : Uid) (s : System) → IsSystem terms drawn head bytes uid s → Begins head bytes
 system_begins terms drawn head bytes uid unknown ((left, heading), none, is) = record { front = bytes; left = left; more = []; is = sym (append-nil bytes); heading = heading }
-system_begins terms drawn head bytes uid (rejected method arguments bar) (known, call, is, e) = call_begins head (params_of method) arguments bytes call
-system_begins terms drawn head bytes uid (turned method arguments ask moment answer written) (known, call, is, e, fits, ws) = call_begins head (params_of method) arguments bytes call
+system_begins terms drawn head bytes uid (rejected rej) (known, call, is, e) = call_begins head (params_of rej.method) rej.arguments bytes call
+system_begins terms drawn head bytes uid (turned took) (known, call, is, e, fits, ws) = call_begins head (params_of took.method) took.arguments bytes call
 
 abbrev some_method : SystemMethod → Option SystemMethod
 some_method method = Some method
@@ -100,12 +100,12 @@ ticks_one m m2 (Ok turn) (Err refusal) t t2 same = absurd (cc)
 ticks_one m m2 (Err refusal) (Ok turn) t t2 same = absurd (cc)
 ticks_one m m2 (Err refusal) (Err refusal2) t t2 same = ((cc), (cc), (cc))
 
-barred_same : (m m2 : SystemMethod) (a a2 : Arguments) (b b2 : Rejection) → m ≡ m2 → a ≡ a2 → b ≡ b2 → rejected m a b ≡ rejected m2 a2 b2
-barred_same m m2 a a2 b b2 ms args bs = ap (λ x. rejected x a b) ms ∙ ap (λ x. rejected m2 x b) args ∙ ap (λ x. rejected m2 a2 x) bs
+barred_same : (m m2 : SystemMethod) (a a2 : Arguments) (b b2 : Rejection) → m ≡ m2 → a ≡ a2 → b ≡ b2 → rejected (record { method = m; arguments = a; rejection = b }) ≡ rejected (record { method = m2; arguments = a2; rejection = b2 })
+barred_same m m2 a a2 b b2 ms args bs = λ i. rejected (record { method = ms i; arguments = args i; rejection = bs i })
 
-turned_same : (m m2 : SystemMethod) (a a2 : Arguments) (k k2 : Ask) (x x2 : ℕ) (r r2 : Result Turn Refused) (w w2 : List ℕ) → m ≡ m2 → a ≡ a2 → k ≡ k2 → x ≡ x2 → r ≡ r2 → w ≡ w2 → turned m a k x r w ≡ turned m2 a2 k2 x2 r2 w2
+turned_same : (m m2 : SystemMethod) (a a2 : Arguments) (k k2 : Ask) (x x2 : ℕ) (r r2 : Result Turn Refused) (w w2 : List ℕ) → m ≡ m2 → a ≡ a2 → k ≡ k2 → x ≡ x2 → r ≡ r2 → w ≡ w2 → turned (record { method = m; arguments = a; ask = k; moment = x; answer = r; written = w }) ≡ turned (record { method = m2; arguments = a2; ask = k2; moment = x2; answer = r2; written = w2 })
 turned_same m m2 a a2 k k2 x x2 r r2 w w2 ms args ks xs rs ws =
-    ap (λ z. turned z a k x r w) ms ∙ ap (λ z. turned m2 z k x r w) args ∙ ap (λ z. turned m2 a2 z x r w) ks ∙ ap (λ z. turned m2 a2 k2 z r w) xs ∙ ap (λ z. turned m2 a2 k2 x2 z w) rs ∙ ap (λ z. turned m2 a2 k2 x2 r2 z) ws
+    λ i. turned (record { method = ms i; arguments = args i; ask = ks i; moment = xs i; answer = rs i; written = ws i })
 
 abbrev asks : Ask → Result Ask Rejection
 asks ask = Ok ask
@@ -130,31 +130,31 @@ pub system_one : (terms : Terms) (drawn : ℕ) (head : CallHead) (bytes bytes2 :
     → bytes ++ rest ≡ bytes2 ++ rest2 → tape (system_acts s) ++ t ≡ tape (system_acts s2) ++ t2 → OneSystem uid uid2 s s2 bytes bytes2 t t2
 system_one terms drawn head bytes bytes2 uid uid2 unknown unknown rest rest2 t t2 ((left, a), none, is) ((left2, b), none2, is2) input ticking =
     (is ∙ sym is2, refl, front_same head bytes bytes2 rest rest2 left left2 a b input, ticking)
-system_one terms drawn head bytes bytes2 uid uid2 unknown (rejected m2 a2 bar2) rest rest2 t t2 (h, none, is) (known2, call2, is2, e2) input ticking = absurd (no_method m2 (sym known2 ∙ none))
-system_one terms drawn head bytes bytes2 uid uid2 unknown (turned m2 a2 ask2 moment2 answer2 w2) rest rest2 t t2 (h, none, is) (known2, call2, is2, e2, fits2, ws2) input ticking = absurd (no_method m2 (sym known2 ∙ none))
-system_one terms drawn head bytes bytes2 uid uid2 (rejected m a bar) unknown rest rest2 t t2 (known, call, is, e) (h, none, is2) input ticking = absurd (no_method m (sym known ∙ none))
-system_one terms drawn head bytes bytes2 uid uid2 (turned m a ask moment answer w) unknown rest rest2 t t2 (known, call, is, e, fits, ws) (h, none, is2) input ticking = absurd (no_method m (sym known ∙ none))
-system_one terms drawn head bytes bytes2 uid uid2 (rejected m a bar) (rejected m2 a2 bar2) rest rest2 t t2 (known, call, is, e) (known2, call2, is2, e2) input ticking =
-    let read = read_same head m m2 a a2 bytes bytes2 rest rest2 known known2 call call2 input in
-    let same = demanded_same terms drawn m m2 a a2 uid uid2 (bars bar) (bars bar2) read.0 read.1 is is2 e e2 in
-    (same.0, barred_same m m2 a a2 bar bar2 read.0 read.1 (bars_same bar bar2 same.1), read.2, ticking)
-system_one terms drawn head bytes bytes2 uid uid2 (rejected m a bar) (turned m2 a2 ask2 moment2 answer2 w2) rest rest2 t t2 (known, call, is, e) (known2, call2, is2, e2, fits2, ws2) input ticking =
-    let read = read_same head m m2 a a2 bytes bytes2 rest rest2 known known2 call call2 input in
-    let same = demanded_same terms drawn m m2 a a2 uid uid2 (bars bar) (asks ask2) read.0 read.1 is is2 e e2 in
-    absurd (not_barred ask2 bar (sym same.1))
-system_one terms drawn head bytes bytes2 uid uid2 (turned m a ask moment answer w) (rejected m2 a2 bar2) rest rest2 t t2 (known, call, is, e, fits, ws) (known2, call2, is2, e2) input ticking =
-    let read = read_same head m m2 a a2 bytes bytes2 rest rest2 known known2 call call2 input in
-    let same = demanded_same terms drawn m m2 a a2 uid uid2 (asks ask) (bars bar2) read.0 read.1 is is2 e e2 in
-    absurd (not_barred ask bar2 same.1)
-system_one terms drawn head bytes bytes2 uid uid2 (turned m a ask moment answer w) (turned m2 a2 ask2 moment2 answer2 w2) rest rest2 t t2 (known, call, is, e, (other, fits), ws) (known2, call2, is2, e2, (other2, fits2), ws2) input ticking =
-    let read = read_same head m m2 a a2 bytes bytes2 rest rest2 known known2 call call2 input in
-    let same = demanded_same terms drawn m m2 a a2 uid uid2 (asks ask) (asks ask2) read.0 read.1 is is2 e e2 in
-    let ask_same : ask ≡ ask2 = asks_same ask ask2 same.1 in
-    let handed : turn_ticks moment answer ++ t ≡ turn_ticks moment2 answer2 ++ t2 =
-    ap (λ (l : List OutsideAnswer). l ++ t) (sym (turned_tape ask moment answer other)) ∙ ticking ∙ ap (λ (l : List OutsideAnswer). l ++ t2) (turned_tape ask2 moment2 answer2 other2) in
-    let told = ticks_one moment moment2 answer answer2 t t2 handed in
-    let written : w ≡ w2 = ws ∙ ap (λ x. answer_written terms x ask answer) same.0 ∙ ap (λ x. answer_written terms uid2 x answer) ask_same ∙ ap (λ x. answer_written terms uid2 ask2 x) told.1 ∙ sym ws2 in
-    (same.0, turned_same m m2 a a2 ask ask2 moment moment2 answer answer2 w w2 read.0 read.1 ask_same told.0 told.1 written, read.2, told.2)
+system_one terms drawn head bytes bytes2 uid uid2 unknown (rejected rej2) rest rest2 t t2 (h, none, is) (known2, call2, is2, e2) input ticking = absurd (no_method rej2.method (sym known2 ∙ none))
+system_one terms drawn head bytes bytes2 uid uid2 unknown (turned took2) rest rest2 t t2 (h, none, is) (known2, call2, is2, e2, fits2, ws2) input ticking = absurd (no_method took2.method (sym known2 ∙ none))
+system_one terms drawn head bytes bytes2 uid uid2 (rejected rej) unknown rest rest2 t t2 (known, call, is, e) (h, none, is2) input ticking = absurd (no_method rej.method (sym known ∙ none))
+system_one terms drawn head bytes bytes2 uid uid2 (turned took) unknown rest rest2 t t2 (known, call, is, e, fits, ws) (h, none, is2) input ticking = absurd (no_method took.method (sym known ∙ none))
+system_one terms drawn head bytes bytes2 uid uid2 (rejected rej) (rejected rej2) rest rest2 t t2 (known, call, is, e) (known2, call2, is2, e2) input ticking =
+    let read = read_same head rej.method rej2.method rej.arguments rej2.arguments bytes bytes2 rest rest2 known known2 call call2 input in
+    let same = demanded_same terms drawn rej.method rej2.method rej.arguments rej2.arguments uid uid2 (bars rej.rejection) (bars rej2.rejection) read.0 read.1 is is2 e e2 in
+    (same.0, barred_same rej.method rej2.method rej.arguments rej2.arguments rej.rejection rej2.rejection read.0 read.1 (bars_same rej.rejection rej2.rejection same.1), read.2, ticking)
+system_one terms drawn head bytes bytes2 uid uid2 (rejected rej) (turned took2) rest rest2 t t2 (known, call, is, e) (known2, call2, is2, e2, fits2, ws2) input ticking =
+    let read = read_same head rej.method took2.method rej.arguments took2.arguments bytes bytes2 rest rest2 known known2 call call2 input in
+    let same = demanded_same terms drawn rej.method took2.method rej.arguments took2.arguments uid uid2 (bars rej.rejection) (asks took2.ask) read.0 read.1 is is2 e e2 in
+    absurd (not_barred took2.ask rej.rejection (sym same.1))
+system_one terms drawn head bytes bytes2 uid uid2 (turned took) (rejected rej2) rest rest2 t t2 (known, call, is, e, fits, ws) (known2, call2, is2, e2) input ticking =
+    let read = read_same head took.method rej2.method took.arguments rej2.arguments bytes bytes2 rest rest2 known known2 call call2 input in
+    let same = demanded_same terms drawn took.method rej2.method took.arguments rej2.arguments uid uid2 (asks took.ask) (bars rej2.rejection) read.0 read.1 is is2 e e2 in
+    absurd (not_barred took.ask rej2.rejection same.1)
+system_one terms drawn head bytes bytes2 uid uid2 (turned took) (turned took2) rest rest2 t t2 (known, call, is, e, (other, fits), ws) (known2, call2, is2, e2, (other2, fits2), ws2) input ticking =
+    let read = read_same head took.method took2.method took.arguments took2.arguments bytes bytes2 rest rest2 known known2 call call2 input in
+    let same = demanded_same terms drawn took.method took2.method took.arguments took2.arguments uid uid2 (asks took.ask) (asks took2.ask) read.0 read.1 is is2 e e2 in
+    let ask_same : took.ask ≡ took2.ask = asks_same took.ask took2.ask same.1 in
+    let handed : turn_ticks took.moment took.answer ++ t ≡ turn_ticks took2.moment took2.answer ++ t2 =
+    ap (λ (l : List OutsideAnswer). l ++ t) (sym (turned_tape took.ask took.moment took.answer other)) ∙ ticking ∙ ap (λ (l : List OutsideAnswer). l ++ t2) (turned_tape took2.ask took2.moment took2.answer other2) in
+    let told = ticks_one took.moment took2.moment took.answer took2.answer t t2 handed in
+    let written : took.written ≡ took2.written = ws ∙ ap (λ x. answer_written terms x took.ask took.answer) same.0 ∙ ap (λ x. answer_written terms uid2 x took.answer) ask_same ∙ ap (λ x. answer_written terms uid2 took2.ask x) told.1 ∙ sym ws2 in
+    (same.0, turned_same took.method took2.method took.arguments took2.arguments took.ask took2.ask took.moment took2.moment took.answer took2.answer took.written took2.written read.0 read.1 ask_same told.0 told.1 written, read.2, told.2)
 
 -- A Call is answered in one way, by one head.
 pub system_exchange_one : (terms : Terms) (drawn : ℕ) (head head2 : CallHead) (bytes bytes2 : List ℕ) (uid uid2 : Uid) (s s2 : System) (rest rest2 : List ℕ) (t t2 : List OutsideAnswer) → FitsHead head → FitsHead head2
@@ -264,12 +264,12 @@ system_not_read at tail rest end method arguments bytes xs a settled few known c
 system_not_answered : (terms : Terms) (drawn at : ℕ) (tail : Transcript) (rest : List ℕ) (end : ConnEnd) (head : CallHead) (bytes : List ℕ) (uid : Uid) (s : System) (xs : List ℕ) → (a : EndsInSystem at tail (Some rest) end) → IsSettled end
     → head ≡ a.head → 1 + length bytes ≤ MESSAGE_BYTES → IsSystem terms drawn head bytes uid s → (a.front ++ a.more) ++ rest ≡ bytes ++ xs → ⊥
 system_not_answered terms drawn at tail rest end head bytes uid unknown xs a settled heads few (h, none, is) input = no_method a.method (sym a.known ∙ ap system_method (sym heads) ∙ none)
-system_not_answered terms drawn at tail rest end head bytes uid (rejected method arguments bar) xs a settled heads few (known, call, is, e) input =
-    let P : CallHead → Type 0 = λ h. CallBytes h (params_of method) arguments (0x50 ∷ bytes) in
-    system_not_read at tail rest end method arguments bytes xs a settled few (ap system_method (sym heads) ∙ known) (subst P heads call) input
-system_not_answered terms drawn at tail rest end head bytes uid (turned method arguments ask moment answer written) xs a settled heads few (known, call, is, e, fits, ws) input =
-    let P : CallHead → Type 0 = λ h. CallBytes h (params_of method) arguments (0x50 ∷ bytes) in
-    system_not_read at tail rest end method arguments bytes xs a settled few (ap system_method (sym heads) ∙ known) (subst P heads call) input
+system_not_answered terms drawn at tail rest end head bytes uid (rejected rej) xs a settled heads few (known, call, is, e) input =
+    let P : CallHead → Type 0 = λ h. CallBytes h (params_of rej.method) rej.arguments (0x50 ∷ bytes) in
+    system_not_read at tail rest end rej.method rej.arguments bytes xs a settled few (ap system_method (sym heads) ∙ known) (subst P heads call) input
+system_not_answered terms drawn at tail rest end head bytes uid (turned took) xs a settled heads few (known, call, is, e, fits, ws) input =
+    let P : CallHead → Type 0 = λ h. CallBytes h (params_of took.method) took.arguments (0x50 ∷ bytes) in
+    system_not_read at tail rest end took.method took.arguments bytes xs a settled few (ap system_method (sym heads) ∙ known) (subst P heads call) input
 
 abbrev OneEnd : ConnEnd → ConnEnd → Transcript → Transcript → List ℕ → List ℕ → Type 0
 OneEnd end end2 tail tail2 rest rest2 = (end ≡ end2) × (tail ≡ tail2) × (rest ≡ rest2)

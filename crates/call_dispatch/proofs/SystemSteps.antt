@@ -74,21 +74,21 @@ closed_ends : (terms : Terms) (drawn : ℕ) (w : Completed) (rest : Option (List
 closed_ends terms drawn w rest head unknown end same closed =
     let P : ConnEnd → Type 0 = λ e. IsClosed w e → Ends terms drawn w (bytes_taken []) rest e in
     subst P (some_is (ends.NoSuchMethod head.operation head.hash) end same) (λ c. (c, refl)) closed
-closed_ends terms drawn w rest head (rejected method arguments bar) end same closed = absurd (cc)
-closed_ends terms drawn w rest head (turned method arguments ask moment answer written) end same closed = absurd (cc)
+closed_ends terms drawn w rest head (rejected rej) end same closed = absurd (cc)
+closed_ends terms drawn w rest head (turned took) end same closed = absurd (cc)
 
 -- The exchange may come where so many were drawn since the beginning.
 may_come : (may : Invocation → Outcome → Type 0) (moves : States → Call → States → Type 0) (terms : Terms) (start first : ConnectionState) (p q : PullState) (held : Option (List ℕ)) (side : Observed) (drawn sent : ℕ) (opening : Opening) (exchanges : List Exchange) (bytes : List ℕ) (head : CallHead) (uid : Uid) (s : System)
     → IsCoded may moves terms start first (spot_at p held side drawn) p.at p.stop sent opening exchanges → is_system head.id ≡ true → FitsHead head → q.at ≤ q.stop → Takes p q bytes → IsSystem terms drawn head bytes uid s
-    → IsExchange terms (start.drawn + draws_in exchanges) (system bytes head uid s)
+    → IsExchange terms (start.drawn + draws_in exchanges) (system (record { bytes = bytes; head = head; uid = uid }) s)
 may_come may moves terms start first p q held side drawn sent opening exchanges bytes head uid s h own fits within takes legal =
     let P : ℕ → Type 0 = λ n. IsSystem terms n head bytes uid s in
     (own, fits, omega (arith, within, takes.at, takes.stop, h.position, h.limit), subst P (h.drawn ∙ h.stands.goes.drawn) legal)
 
 draws_some : (s : System) → 0 < system_draws s
 draws_some unknown = omega arith
-draws_some (rejected method arguments bar) = omega arith
-draws_some (turned method arguments ask moment answer written) = omega arith
+draws_some (rejected rej) = omega arith
+draws_some (turned took) = omega arith
 
 -- There was no memory for all of its row.
 system_cut : (may : Invocation → Outcome → Type 0) (moves : States → Call → States → Type 0) (terms : Terms) (start first : ConnectionState) (p q : PullState) (held : Option (List ℕ)) (side side2 : Observed) (drawn drew sent : ℕ) (opening : Opening) (exchanges : List Exchange)
@@ -103,7 +103,7 @@ system_cut may moves terms start first p q held side side2 drawn drew sent openi
     subst T (sym memory) (talks_on may moves terms start first (spot_at q held side2 drew) h.place sent (opened opening exchanges) tail ends.OutOfMemory h.stands
     (call_goes may moves terms start first (spot_at p held side drawn) (spot_at q held side2 drew) p.at p.stop sent opening exchanges bytes acts draws [] h takes.left (sym (with_end-nothing held)) led drew_is)
     (inr (inl (
-      system bytes head uid s,
+      system (record { bytes = bytes; head = head; uid = uid }) s,
       record {
         next = (h.code, h.few, may_come may moves terms start first p q held side drawn sent opening exchanges bytes head uid s h own fits within takes legal);
         message = refl;
@@ -121,7 +121,7 @@ system_sent : (may : Invocation → Outcome → Type 0) (moves : States → Call
     → Led may moves side side2 (system_acts s) → drew ≡ drawn + system_draws s → close ≡ system_closes head s → Writes held held2 sent (system_written uid s) written
     → StepsTo may moves terms start (spot_at q held2 side2 drew) q.at opening exchanges (result_or_close written close)
 system_sent may moves terms start first p q held held2 side side2 drawn drew sent opening exchanges bytes head uid s None (Ok sent2) h own fits within takes legal led drew_is closes writes =
-    let e : Exchange = system bytes head uid s in
+    let e : Exchange = system (record { bytes = bytes; head = head; uid = uid }) s in
     let ats : q.at ≡ h.place + length (code_byte CallCode ∷ bytes) = omega (arith, takes.at, h.position) in (
       e,
       sym closes,
@@ -131,7 +131,7 @@ system_sent may moves terms start first p q held held2 side side2 drawn drew sen
           ats writes.1,
     )
 system_sent may moves terms start first p q held held2 side side2 drawn drew sent opening exchanges bytes head uid s (Some end) (Ok sent2) h own fits within takes legal led drew_is closes writes =
-    let e : Exchange = system bytes head uid s in
+    let e : Exchange = system (record { bytes = bytes; head = head; uid = uid }) s in
     let now : ConnectionState = spot_at q held2 side2 drew in
     let ats : q.at ≡ h.place + length (code_byte CallCode ∷ bytes) = omega (arith, takes.at, h.position) in
     let stood : StandsWhole may moves terms start now q.at sent2 (opened opening (exchanges ++ e ∷ [])) =
@@ -142,7 +142,7 @@ system_sent may moves terms start first p q held held2 side side2 drawn drew sen
     talks_took may moves terms start now now q.at sent2 (opened opening (exchanges ++ e ∷ [])) [] end stood (sym (with_front-nothing q.left)) refl refl refl
     (closed_ends terms start.drawn (opened opening (exchanges ++ e ∷ [])) q.left head s end (sym closes) (closed_more exchanges e ∙ sym closes))
 system_sent may moves terms start first p q held held2 side side2 drawn drew sent opening exchanges bytes head uid s close (Err end) h own fits within takes legal led drew_is closes (part, less, how, wrote) =
-    let e : Exchange = system bytes head uid s in
+    let e : Exchange = system (record { bytes = bytes; head = head; uid = uid }) s in
     let T : ConnEnd → Type 0 = λ x. Talked may moves terms start (spot_at q held2 side2 drew) x in
     subst T (sym how) (talks_cut may moves terms start first (spot_at q held2 side2 drew) h.place sent part (opened opening exchanges) (transcript_by e) h.stands
     (inr (inr (e, (h.code, h.few, may_come may moves terms start first p q held side drawn sent opening exchanges bytes head uid s h own fits within takes legal), refl))) less
@@ -205,8 +205,8 @@ any_within may moves terms head p q a b drawn drew answer within (inr (other, an
 -- No exchange closes the connection for a failure of the outside.
 closes_blameless : (head : CallHead) (s : System) → AreBlameless (system_closes head s)
 closes_blameless head unknown = ((λ same. cc), (λ w. w))
-closes_blameless head (rejected method arguments bar) = tt
-closes_blameless head (turned method arguments ask moment answer written) = tt
+closes_blameless head (rejected rej) = tt
+closes_blameless head (turned took) = tt
 
 -- The connection ended in a Call whose head was read behind these counts.
 pub any_ended_blames : (may : Invocation → Outcome → Type 0) (moves : States → Call → States → Type 0) (terms : Terms) (head : CallHead) (first now : PullState) (a b : Observed) (drawn drew k : ℕ) (end : ConnEnd)

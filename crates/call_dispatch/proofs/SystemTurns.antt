@@ -150,14 +150,14 @@ some_row terms drawn head bytes method arguments known call (Ok ask) e =
     let uid : Uid = drawn_at terms (drawn + client_draws method arguments) in
     record {
       uid = uid;
-      s = turned method arguments ask 0 (Err refusals.HistoryFull) (answer_written terms uid ask (Err refusals.HistoryFull));
+      s = turned (record { method = method; arguments = arguments; ask = ask; moment = 0; answer = Err refusals.HistoryFull; written = answer_written terms uid ask (Err refusals.HistoryFull) });
       is = (known, call, refl, e, ((λ same. cc), ([], tt)), refl);
       failing = inl refl;
       draws = refl;
     }
 some_row terms drawn head bytes method arguments known call (Err bar) e = record {
   uid = drawn_at terms (drawn + client_draws method arguments);
-  s = rejected method arguments bar;
+  s = rejected (record { method = method; arguments = arguments; rejection = bar });
   is = (known, call, refl, e);
   failing = refl;
   draws = refl;
@@ -177,10 +177,10 @@ pub read_barred : (may : Invocation → Outcome → Type 0) (moves : States → 
     → request_of terms method arguments (drawn_at terms drawn) uid ≡ Err bar → drew ≡ drawn + (client_draws method arguments + 1) → IsPrepared (fault_return uid (rejection_message bar)) None result
     → AnswersRead may moves terms head bytes a a drawn drew result
 read_barred may moves terms head bytes method arguments bar uid a drawn drew (Ok answer) known call uid_is demands drew_is prepared =
-    (uid, rejected method arguments bar, (known, call, uid_is, demands), led_nothing may moves a, drew_is, prepared.0, prepared.1)
+    (uid, rejected (record { method = method; arguments = arguments; rejection = bar }), (known, call, uid_is, demands), led_nothing may moves a, drew_is, prepared.0, prepared.1)
 read_barred may moves terms head bytes method arguments bar uid a drawn drew (Err end) known call uid_is demands drew_is prepared =
     let all : client_draws method arguments + 1 ≤ client_draws method arguments + 1 = omega arith in
-    (prepared, (uid, rejected method arguments bar, (known, call, uid_is, demands), ([], led_nothing may moves a, cut_nothing [] refl), (client_draws method arguments + 1, drew_is, all)))
+    (prepared, (uid, rejected (record { method = method; arguments = arguments; rejection = bar }), (known, call, uid_is, demands), ([], led_nothing may moves a, cut_nothing [] refl), (client_draws method arguments + 1, drew_is, all)))
 
 -- It is asked in one turn.
 pub read_asked : (may : Invocation → Outcome → Type 0) (moves : States → Call → States → Type 0) (terms : Terms) (head : CallHead) (bytes : List ℕ) (method : SystemMethod) (arguments : Arguments) (ask : Ask) (uid : Uid) (a b : Observed) (drawn drew : ℕ) (result : Result Answer ConnEnd)
@@ -188,10 +188,10 @@ pub read_asked : (may : Invocation → Outcome → Type 0) (moves : States → C
     → request_of terms method arguments (drawn_at terms drawn) uid ≡ Ok ask → drew ≡ drawn + (client_draws method arguments + 1) → AsksTurn may moves terms uid ask a b result
     → AnswersRead may moves terms head bytes a b drawn drew result
 read_asked may moves terms head bytes method arguments ask uid a b drawn drew (Ok answer) known call uid_is demands drew_is (moment, reply, turned_is, led, bytes_are, unclosed) =
-    (uid, turned method arguments ask moment reply (answer_written terms uid ask reply), (known, call, uid_is, demands, turned_is, refl), led, drew_is, bytes_are, unclosed)
+    (uid, turned (record { method = method; arguments = arguments; ask = ask; moment = moment; answer = reply; written = answer_written terms uid ask reply }), (known, call, uid_is, demands, turned_is, refl), led, drew_is, bytes_are, unclosed)
 read_asked may moves terms head bytes method arguments ask uid a b drawn drew (Err end) known call uid_is demands drew_is (memory, (moment, reply, turned_is, cut)) =
     let all : client_draws method arguments + 1 ≤ client_draws method arguments + 1 = omega arith in
-    (memory, (uid, turned method arguments ask moment reply (answer_written terms uid ask reply), (known, call, uid_is, demands, turned_is, refl), cut, (client_draws method arguments + 1, drew_is, all)))
+    (memory, (uid, turned (record { method = method; arguments = arguments; ask = ask; moment = moment; answer = reply; written = answer_written terms uid ask reply }), (known, call, uid_is, demands, turned_is, refl), cut, (client_draws method arguments + 1, drew_is, all)))
 
 -- ---- calls whose head was read
 

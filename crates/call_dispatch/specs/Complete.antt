@@ -37,20 +37,31 @@ use Rattle.call_dispatch.specs.Served.{FitsHead, IsMethodOf}
 
 -- ---- what a client sends
 
--- a message of a client: a Ping; an acknowledgement of the Return with this identifier; a Call of an exported object of this kind; a Call of the
--- registry or the collector. Of a Call it has the head and the bytes behind the code.
+-- a Call of an exported object: the object's kind, the Call's head, and its bytes behind the code
+pub record SentCall : Type 0 where
+  pub kind : ℕ
+  pub head : CallHead
+  pub bytes : List ℕ
+
+-- a Call of the registry or the collector: its head, and its bytes behind the code
+pub record SentSystemCall : Type 0 where
+  pub head : CallHead
+  pub bytes : List ℕ
+
+-- a message of a client: a Ping; an acknowledgement of the Return with this identifier; a Call of an exported object; a Call of the registry or
+-- the collector
 pub data Sent : Type 0 where
   sent_ping : Sent
-  sent_ack : Uid → Sent
-  sent_call : ℕ → CallHead → List ℕ → Sent
-  sent_system_call : CallHead → List ℕ → Sent
+  sent_ack : (uid : Uid) → Sent
+  sent_call : SentCall → Sent
+  sent_system_call : SentSystemCall → Sent
 
 -- the bytes of a message, from its code on
 abbrev pub bytes_sent : Sent → List ℕ
 bytes_sent sent_ping = code_byte Ping ∷ []
 bytes_sent (sent_ack uid) = dgc_ack uid
-bytes_sent (sent_call kind head bytes) = code_byte Call ∷ bytes
-bytes_sent (sent_system_call head bytes) = code_byte Call ∷ bytes
+bytes_sent (sent_call sent) = code_byte Call ∷ sent.bytes
+bytes_sent (sent_system_call sent) = code_byte Call ∷ sent.bytes
 
 -- These bytes, behind a Call's code, are a whole Call of an object of this kind with this head.
 pub record IsWholeCall (kinds : List Kind) (kind : ℕ) (head : CallHead) (bytes : List ℕ) : Type 0 where
@@ -88,8 +99,8 @@ pub record IsWholeSystemCall (head : CallHead) (bytes : List ℕ) : Type 0 where
 abbrev pub IsSent : List Kind → Sent → Type 0
 IsSent kinds sent_ping = Unit {0}
 IsSent kinds (sent_ack uid) = FitsUid uid
-IsSent kinds (sent_call kind head bytes) = IsWholeCall kinds kind head bytes
-IsSent kinds (sent_system_call head bytes) = IsWholeSystemCall head bytes
+IsSent kinds (sent_call sent) = IsWholeCall kinds sent.kind sent.head sent.bytes
+IsSent kinds (sent_system_call sent) = IsWholeSystemCall sent.head sent.bytes
 
 -- Each of these messages is whole.
 abbrev pub AreSent : List Kind → List Sent → Type 0
@@ -108,7 +119,7 @@ pub record IsWholeInput (kinds : List Kind) (opening : Opening) (sents : List Se
 
 -- the kind of the exported object that a message calls
 abbrev pub kind_called : Sent → List ℕ
-kind_called (sent_call kind head bytes) = kind ∷ []
+kind_called (sent_call sent) = sent.kind ∷ []
 kind_called _ = []
 
 -- the end of an entry that asks this, where it is a Begin

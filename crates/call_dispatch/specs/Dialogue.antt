@@ -39,7 +39,7 @@ use Rattle.call_dispatch.specs.declared.messages.TheConstants.{MAX_MESSAGES}
 
 -- an opening: what stands before the first message. The stream protocol's has the client's endpoint.
 pub data Opening : Type 0 where
-  stream : List ℕ → Opening
+  stream : (endpoint : List ℕ) → Opening
   single_op : Opening
 
 abbrev pub IsOpening : Opening → Type 0
@@ -70,7 +70,7 @@ most_messages single_op = 1
 pub data Completed : Type 0 where
   nothing : Completed
   greeted : Completed
-  opened : Opening → List Exchange → Completed
+  opened : (opening : Opening) (exchanges : List Exchange) → Completed
 
 -- It stands so where so many identifiers were drawn before the connection.
 abbrev pub IsCompleted : Terms → ℕ → Completed → Type 0

@@ -8,8 +8,6 @@ use Rattle.class_desc.specs.declared.slot.Item.TheVariants as items
 use Rattle.ser_values.specs.declared.value.Value.{Value}
 use Rattle.ser_values.specs.declared.value.Value.TheVariants as values
 use Rattle.object_ids.specs.declared.ids.Uid.{Uid}
-use Rattle.history.specs.declared.replies.Refused.{Refused}
-use Rattle.history.specs.declared.replies.Refused.TheVariants as refusals
 use Rattle.system_objects.specs.declared.book.Kind.{Kind}
 use Rattle.call_dispatch.specs.declared.outcome.Outcome.{Outcome}
 use Rattle.call_dispatch.specs.declared.outcome.Outcome.TheVariants.{Void, Prim, Tree, NewRemote, OldRemote, Fault}

@@ -36,13 +36,24 @@ pub record Row : Type 0 where
   pub written : List ℕ
   pub closes : Option ConnEnd
 
--- an exchange: one message of the client, and what is done at it. An acknowledgement has the identifier that it names, and its turn's moment and
--- answer. A Call has the bytes behind its code, its head, and the identifier of its Return; it is served, or it is a call of the registry or the collector.
+-- an acknowledgement: the identifier that it names, and the moment and the answer of its turn
+pub record Acknowledgement : Type 0 where
+  pub uid : Uid
+  pub moment : ℕ
+  pub answer : Result Turn Refused
+
+-- a Call that is answered: the bytes behind its code, its head, and the identifier of its Return
+pub record AnsweredCall : Type 0 where
+  pub bytes : List ℕ
+  pub head : CallHead
+  pub uid : Uid
+
+-- an exchange: one message of the client, and what is done at it. A Call is served, or it is a call of the registry or the collector.
 pub data Exchange : Type 0 where
   ping : Exchange
-  acknowledged : Uid → ℕ → Result Turn Refused → Exchange
-  served : List ℕ → CallHead → Uid → AtHead → Exchange
-  system : List ℕ → CallHead → Uid → System → Exchange
+  acknowledged : Acknowledgement → Exchange
+  served : AnsweredCall → AtHead → Exchange
+  system : AnsweredCall → System → Exchange
 
 -- The row of each exchange.
 --   ping: a Ping is answered by a PingAck, and nothing is done.
@@ -52,11 +63,11 @@ pub data Exchange : Type 0 where
 --   another for a client that has none.
 abbrev pub row_of : Exchange → Row
 row_of ping = record { message = code_byte Ping ∷ []; acts = []; draws = 0; written = ping_ack; closes = None }
-row_of (acknowledged uid moment answer) = record { message = dgc_ack uid; acts = acts_of moment (Ack uid) answer; draws = 0; written = []; closes = None }
-row_of (served bytes head uid s) =
-    record { message = code_byte Call ∷ bytes; acts = served_acts head uid s; draws = 1; written = served_written uid s; closes = served_closes head s }
-row_of (system bytes head uid s) =
-    record { message = code_byte Call ∷ bytes; acts = system_acts s; draws = system_draws s; written = system_written uid s; closes = system_closes head s }
+row_of (acknowledged ack) = record { message = dgc_ack ack.uid; acts = acts_of ack.moment (Ack ack.uid) ack.answer; draws = 0; written = []; closes = None }
+row_of (served call s) =
+    record { message = code_byte Call ∷ call.bytes; acts = served_acts call.head call.uid s; draws = 1; written = served_written call.uid s; closes = served_closes call.head s }
+row_of (system call s) =
+    record { message = code_byte Call ∷ call.bytes; acts = system_acts s; draws = system_draws s; written = system_written call.uid s; closes = system_closes call.head s }
 
 -- An acknowledgement was noted, or passed over where the history was full.
 abbrev pub IsNoted : Result Turn Refused → Type 0
@@ -67,10 +78,10 @@ IsNoted (Err _) = ⊥
 -- Where so many identifiers were drawn, it may come so: what it holds of the outside's answers fits its message, which has not too many bytes.
 abbrev pub IsExchange : Terms → ℕ → Exchange → Type 0
 IsExchange terms drawn ping = Unit {0}
-IsExchange terms drawn (acknowledged uid moment answer) = FitsUid uid × IsNoted answer
-IsExchange terms drawn (served bytes head uid s) =
-    (is_system head.id ≡ false) × (uid ≡ uid_drawn terms.unique terms.time drawn) × FitsHead head × (1 + length bytes ≤ MESSAGE_BYTES) × IsServed terms head bytes uid s
-IsExchange terms drawn (system bytes head uid s) = (is_system head.id ≡ true) × FitsHead head × (1 + length bytes ≤ MESSAGE_BYTES) × IsSystem terms drawn head bytes uid s
+IsExchange terms drawn (acknowledged ack) = FitsUid ack.uid × IsNoted ack.answer
+IsExchange terms drawn (served call s) =
+    (is_system call.head.id ≡ false) × (call.uid ≡ uid_drawn terms.unique terms.time drawn) × FitsHead call.head × (1 + length call.bytes ≤ MESSAGE_BYTES) × IsServed terms call.head call.bytes call.uid s
+IsExchange terms drawn (system call s) = (is_system call.head.id ≡ true) × FitsHead call.head × (1 + length call.bytes ≤ MESSAGE_BYTES) × IsSystem terms drawn call.head call.bytes call.uid s
 
 abbrev pub taken_by : Exchange → List ℕ
 taken_by e = (row_of e).message

@@ -49,23 +49,43 @@ pub record FitsHead (head : CallHead) : Type 0 where
   pub operation : FitsSigned w32 head.operation
   pub hash : FitsSigned w64 head.hash
 
--- How a running call goes on once its worker answered: Finish, which lists these objects, is answered at a moment, and then the normal Return has
--- these bytes; or it is refused, and the call is given up at a moment and a place of the history; or the outcome is a fault or doesn't fit, and the
--- call is given up.
+-- a call that is given up: the moment, and the place of the history
+pub record GivenUp : Type 0 where
+  pub moment : ℕ
+  pub place : ℕ
+
+-- a Finish that was answered: the objects that it lists, its moment, its turn, and the bytes of the normal Return
+pub record FinishedCall : Type 0 where
+  pub listed : List ObjId
+  pub moment : ℕ
+  pub turn : Turn
+  pub bytes : List ℕ
+
+-- a Finish that was refused: the objects that it lists, its moment, and why it was refused; then the moment and the place of the history at which
+-- the call is given up
+pub record DeniedCall : Type 0 where
+  pub listed : List ObjId
+  pub moment : ℕ
+  pub refused : Refused
+  pub end_moment : ℕ
+  pub place : ℕ
+
+-- How a running call goes on once its worker answered: Finish is answered; or it is refused, and the call is given up; or the outcome is a fault or
+-- doesn't fit, and the call is given up.
 pub data Conclusion : Type 0 where
-  finished : List ObjId → ℕ → Turn → List ℕ → Conclusion
-  denied : List ObjId → ℕ → Refused → ℕ → ℕ → Conclusion
-  faulted : ℕ → ℕ → Conclusion
+  finished : FinishedCall → Conclusion
+  denied : DeniedCall → Conclusion
+  faulted : GivenUp → Conclusion
 
 abbrev pub conclusion_acts : ObjId → Uid → Outcome → Conclusion → List Act
-conclusion_acts object uid outcome (finished listed moment turn bytes) = acts_of moment (finish_with object outcome listed uid) (Ok turn)
-conclusion_acts object uid outcome (denied listed moment refused end_moment place) = acts_of moment (finish_with object outcome listed uid) (Err refused) ++ abandon_act end_moment object place ∷ []
-conclusion_acts object uid outcome (faulted moment place) = abandon_act moment object place ∷ []
+conclusion_acts object uid outcome (finished finish) = acts_of finish.moment (finish_with object outcome finish.listed uid) (Ok finish.turn)
+conclusion_acts object uid outcome (denied denial) = acts_of denial.moment (finish_with object outcome denial.listed uid) (Err denial.refused) ++ abandon_act denial.end_moment object denial.place ∷ []
+conclusion_acts object uid outcome (faulted given_up) = abandon_act given_up.moment object given_up.place ∷ []
 
 abbrev pub conclusion_written : Uid → Outcome → Conclusion → List ℕ
-conclusion_written uid outcome (finished listed moment turn bytes) = bytes
-conclusion_written uid outcome (denied listed moment refused end_moment place) = fault_return uid (full refused)
-conclusion_written uid outcome (faulted moment place) = fault_return uid (fault_message uid outcome)
+conclusion_written uid outcome (finished finish) = finish.bytes
+conclusion_written uid outcome (denied denial) = fault_return uid (full denial.refused)
+conclusion_written uid outcome (faulted given_up) = fault_return uid (fault_message uid outcome)
 
 -- The reply is that the call was finished, with an identifier for each object that its Return makes.
 abbrev pub IsFinished : List ℕ → Reply → Type 0
@@ -74,39 +94,44 @@ IsFinished made _ = ⊥
 
 -- Finish, which lists what the outcome's Return refers to, is answered, and the bytes are those of the Return; or it is refused for a limit.
 abbrev pub IsGranted : Terms → Uid → Outcome → Conclusion → Type 0
-IsGranted terms uid outcome (finished listed moment turn bytes) = (listed ≡ listed_by terms outcome) × IsFinished (made_by outcome) turn.reply × (bytes ≡ normal_return terms uid outcome turn.reply)
-IsGranted terms uid outcome (denied listed moment refused end_moment place) = (listed ≡ listed_by terms outcome) × (refused ≢ refusals.OutOfMemory)
-IsGranted terms uid outcome (faulted moment place) = ⊥
+IsGranted terms uid outcome (finished finish) = (finish.listed ≡ listed_by terms outcome) × IsFinished (made_by outcome) finish.turn.reply × (finish.bytes ≡ normal_return terms uid outcome finish.turn.reply)
+IsGranted terms uid outcome (denied denial) = (denial.listed ≡ listed_by terms outcome) × (denial.refused ≢ refusals.OutOfMemory)
+IsGranted terms uid outcome (faulted given_up) = ⊥
 
 -- It may come so of an outcome of a method with this result.
 abbrev pub IsConclusion : Terms → Uid → Option TypeCode → Outcome → Conclusion → Type 0
-IsConclusion terms uid result outcome (finished listed moment turn bytes) = (fits terms uid result outcome ≡ true) × IsGranted terms uid outcome (finished listed moment turn bytes)
-IsConclusion terms uid result outcome (denied listed moment refused end_moment place) = (fits terms uid result outcome ≡ true) × IsGranted terms uid outcome (denied listed moment refused end_moment place)
-IsConclusion terms uid result outcome (faulted moment place) = (fits terms uid result outcome ≡ false) × (outcome ≢ OutOfMemory)
+IsConclusion terms uid result outcome (finished finish) = (fits terms uid result outcome ≡ true) × IsGranted terms uid outcome (finished finish)
+IsConclusion terms uid result outcome (denied denial) = (fits terms uid result outcome ≡ true) × IsGranted terms uid outcome (denied denial)
+IsConclusion terms uid result outcome (faulted given_up) = (fits terms uid result outcome ≡ false) × (outcome ≢ OutOfMemory)
 
 -- ---- a Call
 
--- How a running call goes on: its kind has no such method, and it is given up at a moment and a place of the history; or the worker is
--- invoked, with the method's place and the arguments, and the call is concluded.
+-- a call of the worker: the method's place in its kind, the arguments, and the outcome
+pub record InvokedCall : Type 0 where
+  pub place : ℕ
+  pub arguments : Arguments
+  pub outcome : Outcome
+
+-- How a running call goes on: its kind has no such method, and it is given up; or the worker is invoked, and the call is concluded.
 pub data Running : Type 0 where
-  unknown : ℕ → ℕ → Running
-  ran : ℕ → Arguments → Outcome → Conclusion → Running
+  unknown : GivenUp → Running
+  ran : InvokedCall → Conclusion → Running
 
 abbrev pub invocation_of : ObjId → ℕ → ℕ → Arguments → Invocation
 invocation_of object kind method arguments = record { object = object; kind = kind; method = method; arguments = arguments }
 
 abbrev pub running_acts : CallHead → Uid → ℕ → Running → List Act
-running_acts head uid kind (unknown moment place) = abandon_act moment head.id place ∷ []
-running_acts head uid kind (ran method arguments outcome conclusion) =
-    called (invokes (invocation_of head.id kind method arguments) outcome) ∷ conclusion_acts head.id uid outcome conclusion
+running_acts head uid kind (unknown given_up) = abandon_act given_up.moment head.id given_up.place ∷ []
+running_acts head uid kind (ran invoked conclusion) =
+    called (invokes (invocation_of head.id kind invoked.place invoked.arguments) invoked.outcome) ∷ conclusion_acts head.id uid invoked.outcome conclusion
 
 abbrev pub running_written : Uid → Running → List ℕ
-running_written uid (unknown moment place) = fault_return uid no_method
-running_written uid (ran method arguments outcome conclusion) = conclusion_written uid outcome conclusion
+running_written uid (unknown given_up) = fault_return uid no_method
+running_written uid (ran invoked conclusion) = conclusion_written uid invoked.outcome conclusion
 
 abbrev pub running_closes : CallHead → Running → Option ConnEnd
-running_closes head (unknown moment place) = Some (ends.NoSuchMethod head.operation head.hash)
-running_closes head (ran method arguments outcome conclusion) = None
+running_closes head (unknown given_up) = Some (ends.NoSuchMethod head.operation head.hash)
+running_closes head (ran invoked conclusion) = None
 
 -- The kind's method at this place is the first with the head's hash.
 abbrev pub IsMethodOf : List Kind → ℕ → CallHead → ℕ → Type 0
@@ -118,34 +143,45 @@ HasNoMethod kinds kind head = (head.operation ≢ minus_one) ⊎ (first_with hea
 
 -- It may come so where these bytes were taken of the Call behind its code.
 abbrev pub IsRunning : Terms → CallHead → ℕ → List ℕ → Uid → Running → Type 0
-IsRunning terms head kind bytes uid (unknown moment place) = IsHeadOf head bytes × HasNoMethod terms.kinds kind head
-IsRunning terms head kind bytes uid (ran place arguments outcome conclusion) = IsMethodOf terms.kinds kind head place
-    × ((method : Method) × (slice_get (methods_of terms.kinds kind) place ≡ Some method) × CallBytes head method.params arguments (0x50 ∷ bytes)
-    × IsConclusion terms uid method.result outcome conclusion)
+IsRunning terms head kind bytes uid (unknown given_up) = IsHeadOf head bytes × HasNoMethod terms.kinds kind head
+IsRunning terms head kind bytes uid (ran invoked conclusion) = IsMethodOf terms.kinds kind head invoked.place
+    × ((method : Method) × (slice_get (methods_of terms.kinds kind) invoked.place ≡ Some method) × CallBytes head method.params invoked.arguments (0x50 ∷ bytes)
+    × IsConclusion terms uid method.result invoked.outcome conclusion)
+
+-- a Begin that found no object: its moment and its turn
+pub record MissedCall : Type 0 where
+  pub moment : ℕ
+  pub turn : Turn
+
+-- a Begin that started a call: its moment, its turn, and the kind of the object
+pub record BegunCall : Type 0 where
+  pub moment : ℕ
+  pub turn : Turn
+  pub kind : ℕ
 
 -- What is done at a Call's head: Begin is answered that there is no such object; or it is refused; or the call of an object of this kind runs.
 pub data AtHead : Type 0 where
-  absent : ℕ → Turn → AtHead
-  refused : ℕ → AtHead
-  begun : ℕ → Turn → ℕ → Running → AtHead
+  absent : MissedCall → AtHead
+  refused : (moment : ℕ) → AtHead
+  begun : BegunCall → Running → AtHead
 
 abbrev pub served_acts : CallHead → Uid → AtHead → List Act
-served_acts head uid (absent moment turn) = acts_of moment (Begin head.id) (Ok turn)
+served_acts head uid (absent missed) = acts_of missed.moment (Begin head.id) (Ok missed.turn)
 served_acts head uid (refused moment) = acts_of moment (Begin head.id) (Err refusals.HistoryFull)
-served_acts head uid (begun moment turn kind running) = acts_of moment (Begin head.id) (Ok turn) ++ running_acts head uid kind running
+served_acts head uid (begun begin running) = acts_of begin.moment (Begin head.id) (Ok begin.turn) ++ running_acts head uid begin.kind running
 
 abbrev pub served_written : Uid → AtHead → List ℕ
-served_written uid (absent moment turn) = fault_return uid no_object
+served_written uid (absent missed) = fault_return uid no_object
 served_written uid (refused moment) = fault_return uid (full refusals.HistoryFull)
-served_written uid (begun moment turn kind running) = running_written uid running
+served_written uid (begun begin running) = running_written uid running
 
 abbrev pub served_closes : CallHead → AtHead → Option ConnEnd
-served_closes head (absent moment turn) = Some (ends.NoSuchObject head.id)
+served_closes head (absent missed) = Some (ends.NoSuchObject head.id)
 served_closes head (refused moment) = Some ends.SpaceFull
-served_closes head (begun moment turn kind running) = running_closes head running
+served_closes head (begun begin running) = running_closes head running
 
 -- It may come so at the Call of which these bytes were taken behind its code. What is taken of a Call that closes the connection ends with its head.
 abbrev pub IsServed : Terms → CallHead → List ℕ → Uid → AtHead → Type 0
-IsServed terms head bytes uid (absent moment turn) = IsHeadOf head bytes × (turn.reply ≡ NoObject)
+IsServed terms head bytes uid (absent missed) = IsHeadOf head bytes × (missed.turn.reply ≡ NoObject)
 IsServed terms head bytes uid (refused moment) = IsHeadOf head bytes
-IsServed terms head bytes uid (begun moment turn kind running) = (turn.reply ≡ Started kind) × IsRunning terms head kind bytes uid running
+IsServed terms head bytes uid (begun begin running) = (begin.turn.reply ≡ Started begin.kind) × IsRunning terms head begin.kind bytes uid running

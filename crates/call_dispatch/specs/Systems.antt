@@ -1,9 +1,5 @@
 -- Calls of the two objects that every server has of itself: the registry and the collector (Java RMI Specification, 6.1 and 9.1).
 use Rattle.std.specs.Prelude.{◌≡◌, ◌≢◌, ℕ, ◌+◌, List, [], ◌∷◌, Option, None, Some, Result, Ok, Err}
-use Rattle.class_desc.specs.declared.field.TypeCode.{TypeCode}
-use Rattle.class_desc.specs.declared.field.TypeCode.TheVariants as codes
-use Rattle.method_hash.specs.declared.system.RegistryMethod.TheVariants as registry
-use Rattle.method_hash.specs.declared.system.CollectorMethod.TheVariants as collector
 use Rattle.object_ids.specs.declared.ids.Uid.{Uid}
 use Rattle.object_ids.specs.Draw.{uid_drawn}
 use Rattle.history.specs.declared.asks.Ask.{Ask}
@@ -31,28 +27,42 @@ use Rattle.system_ids.specs.SystemMethods.{params_of}
 
 -- ---- what is done at a call of theirs
 
--- There is no such method; or the call is rejected, and no turn is taken; or it is asked in one turn, which is answered at a moment,
--- and then the Return has these bytes.
+-- a call that is rejected: its method, its arguments, and why
+pub record RejectedCall : Type 0 where
+  pub method : SystemMethod
+  pub arguments : Arguments
+  pub rejection : Rejection
+
+-- a call that takes a turn: its method and arguments; what its turn asks, its moment and its answer; and the bytes of the Return
+pub record TurnedCall : Type 0 where
+  pub method : SystemMethod
+  pub arguments : Arguments
+  pub ask : Ask
+  pub moment : ℕ
+  pub answer : Result Turn Refused
+  pub written : List ℕ
+
+-- There is no such method; or the call is rejected, and no turn is taken; or it takes one turn, whose answer is returned.
 pub data System : Type 0 where
   unknown : System
-  rejected : SystemMethod → Arguments → Rejection → System
-  turned : SystemMethod → Arguments → Ask → ℕ → Result Turn Refused → List ℕ → System
+  rejected : RejectedCall → System
+  turned : TurnedCall → System
 
 abbrev pub system_acts : System → List Act
 system_acts unknown = []
-system_acts (rejected method arguments bar) = []
-system_acts (turned method arguments ask moment answer bytes) = acts_of moment ask answer
+system_acts (rejected bar) = []
+system_acts (turned taken) = acts_of taken.moment taken.ask taken.answer
 
 -- how many identifiers are drawn: one for the Return, and one before it for the client of a dirty whose lease names none
 abbrev pub system_draws : System → ℕ
 system_draws unknown = 1
-system_draws (rejected method arguments bar) = client_draws method arguments + 1
-system_draws (turned method arguments ask moment answer bytes) = client_draws method arguments + 1
+system_draws (rejected bar) = client_draws bar.method bar.arguments + 1
+system_draws (turned taken) = client_draws taken.method taken.arguments + 1
 
 abbrev pub system_written : Uid → System → List ℕ
 system_written uid unknown = fault_return uid no_method
-system_written uid (rejected method arguments bar) = fault_return uid (rejection_message bar)
-system_written uid (turned method arguments ask moment answer bytes) = bytes
+system_written uid (rejected bar) = fault_return uid (rejection_message bar.rejection)
+system_written uid (turned taken) = taken.written
 
 abbrev pub system_closes : CallHead → System → Option ConnEnd
 system_closes head unknown = Some (ends.NoSuchMethod head.operation head.hash)
@@ -70,8 +80,8 @@ IsTurned ask answer = (answer ≢ Err OutOfMemory) × ((shown : List Asked) × I
 -- taken of a Call that closes the connection ends with its head. The identifier of a client that has none of its own is the one that is drawn next.
 abbrev pub IsSystem : Terms → ℕ → CallHead → List ℕ → Uid → System → Type 0
 IsSystem terms drawn head bytes uid unknown = IsHeadOf head bytes × (system_method head ≡ None) × (uid ≡ drawn_at terms drawn)
-IsSystem terms drawn head bytes uid (rejected method arguments bar) = (system_method head ≡ Some method) × CallBytes head (params_of method) arguments (0x50 ∷ bytes)
-    × (uid ≡ drawn_at terms (drawn + client_draws method arguments)) × (request_of terms method arguments (drawn_at terms drawn) uid ≡ Err bar)
-IsSystem terms drawn head bytes uid (turned method arguments ask moment answer written) = (system_method head ≡ Some method) × CallBytes head (params_of method) arguments (0x50 ∷ bytes)
-    × (uid ≡ drawn_at terms (drawn + client_draws method arguments)) × (request_of terms method arguments (drawn_at terms drawn) uid ≡ Ok ask)
-    × IsTurned ask answer × (written ≡ answer_written terms uid ask answer)
+IsSystem terms drawn head bytes uid (rejected bar) = (system_method head ≡ Some bar.method) × CallBytes head (params_of bar.method) bar.arguments (0x50 ∷ bytes)
+    × (uid ≡ drawn_at terms (drawn + client_draws bar.method bar.arguments)) × (request_of terms bar.method bar.arguments (drawn_at terms drawn) uid ≡ Err bar.rejection)
+IsSystem terms drawn head bytes uid (turned taken) = (system_method head ≡ Some taken.method) × CallBytes head (params_of taken.method) taken.arguments (0x50 ∷ bytes)
+    × (uid ≡ drawn_at terms (drawn + client_draws taken.method taken.arguments)) × (request_of terms taken.method taken.arguments (drawn_at terms drawn) uid ≡ Ok taken.ask)
+    × IsTurned taken.ask taken.answer × (taken.written ≡ answer_written terms uid taken.ask taken.answer)

@@ -5,8 +5,9 @@ use Rattle.space.specs.declared.asked.AskedEnd.{AskedEnd}
 use Rattle.call_dispatch.specs.declared.outcome.Outcome.{Outcome}
 use Rattle.call_dispatch.specs.Acts.{Act, asks, lost, called, invokes, unreferenced}
 
+-- the answer of a turn at a moment, or the outcome of an invocation
 pub data OutsideAnswer : Type 0 where
-  turn_answer : ℕ → AskedEnd → OutsideAnswer
+  turn_answer : (moment : ℕ) (end : AskedEnd) → OutsideAnswer
   worker_outcome : Outcome → OutsideAnswer
 
 abbrev pub outside_answers : Act → List OutsideAnswer

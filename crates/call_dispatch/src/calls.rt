@@ -50,7 +50,7 @@ pub fn fault_answer(
 }
 
 /// Returns the answer to a call whose Finish was refused.
-fn denied(alloc: Global, uid: Uid, refused: Refused) -> Result<Answer, ConnEnd>
+fn denial_answer(alloc: Global, uid: Uid, refused: Refused) -> Result<Answer, ConnEnd>
     ensures denied { IsDenied uid refused result }
     ensures short { IfOk result (λ answer. length answer.bytes ≤ RETURN_BYTES) }
 {
@@ -82,7 +82,7 @@ pub fn refuse(
 }
 
 /// The answer to a call that was finished with this reply. There is no memory for the Return of a new object that is too long.
-fn finished(
+fn finish_answer(
     alloc: Global,
     setup: &Setup,
     uid: Uid,
@@ -150,10 +150,10 @@ fn finish<S: Source, K: Sink, C: Clock, P: Port, W: Worker>(
         uid,
     };
     match take_turn(connection, ask) {
-        Ok(turn) => finished(alloc, connection.setup, uid, sent, &turn.reply),
+        Ok(turn) => finish_answer(alloc, connection.setup, uid, sent, &turn.reply),
         Err(refused) => {
             give_up(connection, object);
-            denied(alloc, uid, refused)
+            denial_answer(alloc, uid, refused)
         }
     }
 }

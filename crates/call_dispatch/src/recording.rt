@@ -118,8 +118,8 @@ impl RecordingWorker {
         outcome
     }
 
-    /// The calls that were kept, in their order.
-    pub fn recorded(&self) -> &[Recorded]
+    /// Returns the calls that were kept, in their order.
+    pub fn records(&self) -> &[Recorded]
         ensures { result.now ≡ self.now.recorded.items }
     {
         self.recorded.as_slice()

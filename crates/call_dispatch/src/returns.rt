@@ -5,7 +5,6 @@ ghost use Rattle.class_desc.specs.declared.field.TypeCode.{TypeCode};
 ghost use Rattle.jrmp_frames.specs.Messages.{return_message};
 ghost use Rattle.system_objects.specs.declared.book.Kind.{Kind};
 ghost use Rattle.system_objects.specs.declared.setup.Setup.{Setup};
-ghost use Rattle.call_dispatch.specs.Returns.{is_of, is_one_reference, suits};
 ghost use Rattle.system_objects.specs.ReturnBytes.{fault_return};
 ghost use Rattle.call_dispatch.specs.Serving.{IsPlain, Prepares, PreparesGraph, PreparesPlain, IsReadyReturn};
 ghost use Rattle.system_objects.specs.Terms.{Terms, terms_of};
@@ -15,7 +14,8 @@ ghost use Rattle.system_objects.specs.declared.setup.TheConstants.{DRAWS_BEGIN_B
 use crate::end::ConnEnd;
 use crate::outcome::Outcome;
 use crate::results::{Pending, Sent, interface_for, tree_return};
-use class_desc::{Item, TypeCode, is_primitive};
+use crate::suitable::{returns_graph, returns_nothing, returns_value};
+use class_desc::TypeCode;
 use java_shapes::local_refs;
 use jrmp_frames::{Body, return_bytes};
 use object_ids::{ObjId, ObjIds, Uid};
@@ -71,63 +71,6 @@ fn wrong_outcome(alloc: Global, uid: Uid) -> Result<Prepared, AllocError>
 {
     let bytes = exceptional_ascii(alloc, uid, WRONG_OUTCOME)?;
     Ok(Prepared::Exceptional(bytes))
-}
-
-/// Returns whether the value is of this primitive type.
-fn is_of(code: TypeCode, value: Value) -> bool
-    ensures { result ≡ is_of code value }
-{
-    match (code, value) {
-        (TypeCode::Byte, Value::Byte(_)) => true,
-        (TypeCode::Char, Value::Char(_)) => true,
-        (TypeCode::Double, Value::Double(_)) => true,
-        (TypeCode::Float, Value::Float(_)) => true,
-        (TypeCode::Int, Value::Int(_)) => true,
-        (TypeCode::Long, Value::Long(_)) => true,
-        (TypeCode::Short, Value::Short(_)) => true,
-        (TypeCode::Boolean, Value::Boolean(_)) => true,
-        _ => false,
-    }
-}
-
-/// Returns whether the items are one reference and nothing else.
-fn is_one_reference(items: &[Item]) -> bool
-    ensures { result ≡ is_one_reference items.now }
-{
-    match items {
-        [Item::Ref(_)] => true,
-        _ => false,
-    }
-}
-
-/// Returns whether a method with this result returns nothing.
-fn returns_nothing(result_type: Option<TypeCode>) -> bool
-    ensures { (kinds : List Kind) → result ≡ suits kinds result_type Outcome.Void }
-{
-    match result_type {
-        Some(_code) => false,
-        None => true,
-    }
-}
-
-/// Returns whether a method with this result can return the value.
-fn returns_value(result_type: Option<TypeCode>, value: Value) -> bool
-    ensures { (kinds : List Kind) → result ≡ suits kinds result_type (Outcome.Prim value) }
-{
-    match result_type {
-        Some(code) => is_of(code, value),
-        None => false,
-    }
-}
-
-/// Returns whether a method with this result can return the graph. It must be one reference.
-fn returns_graph(result_type: Option<TypeCode>, graph: &Graph) -> bool
-    ensures { (kinds : List Kind) → result ≡ suits kinds result_type (Outcome.Tree graph.now) }
-{
-    match result_type {
-        Some(code) => !is_primitive(code) && is_one_reference(graph.items().as_slice()),
-        None => false,
-    }
 }
 
 /// A normal Return with these bytes, which makes no object and refers to none.

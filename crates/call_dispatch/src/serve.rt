@@ -27,8 +27,8 @@ use wire_io::{Clock, Pull, Sink, Source};
 /// Serves a connection from the first byte of `source` to the connection's end, and answers it in `sink`. Turns are made at
 /// `port` at the moments of `clock`, and calls are done by `worker`, of the kinds of objects in `book`.
 ///
-/// Its conditions are those under which calls can be served: both hosts take at most 255 bytes as modified UTF, the port is between two
-/// calls, has room for 2^62 of them and shows no call running, the worker was invoked fewer than 2^61 times, and fewer than 2^64 identifiers
+/// Its conditions are those under which calls can be served. Both hosts take at most 255 bytes as modified UTF. The port is between two
+/// calls, has room for 2^62 of them, and shows no call running. The worker was invoked fewer than 2^61 times. Fewer than 2^64 identifiers
 /// were drawn, from a moment below 2^61 on.
 ///
 /// No byte is taken but those of the dialogue. Each answer is written before the next message is taken: where a write fails, no byte behind the message that

@@ -11,7 +11,7 @@ use Rattle.dgc_client.specs.StandsForLog.{StandsFor, is_full_after, is_spent_aft
 use Rattle.client_talk.specs.Contents.{CallAnswer, ids_held, is_flagged}
 use Rattle.client_talk.specs.Scripts.{Script, asks, reads_clock, done, halts}
 use Rattle.client_talk.specs.Talk.{Linked, Seen, Talks}
-use Rattle.client_talk.specs.Steps.{Stands, with_seen}
+use Rattle.client_talk.specs.Steps.{IsAt, Stands, with_seen}
 use Rattle.client_talk.specs.Rmi.{Message, Call, Renew, Reply, Granted, Returned, rmi, out_of_turn}
 use Rattle.client_talk.specs.Commands.{acks_if, finds, opens}
 use Rattle.client_talk.specs.declared.end.CommandEnd.{CommandEnd}
@@ -143,6 +143,14 @@ pub record Keeps (lessee : Lessee) (leases : Leases) (log : List ClientCall) : T
 abbrev pub Notes : {A : Type 0} → Script rmi CallAnswer → ℕ → List Linked → Seen → Option (List ℕ) → Option (List ℕ) → Lessee → Leases → (List ClientCall → Script rmi CallAnswer) → Result A CommandEnd → Type 0
 Notes s k links seen given given2 lessee leases next (Ok _) = (log : List ClientCall) × Keeps lessee leases log × Stands s (with_seen k seen links) given given2 (next log)
 Notes s k links seen given given2 lessee leases next (Err end) = Talks s (with_seen k seen links) given given2 (Err end)
+
+-- A part of the script was done with the leases: from wherever it was to do, with any log that they keep, the rest is to do now, or the command ended.
+abbrev pub NotesPart : {A : Type 0} → (ℕ → Lessee → List ClientCall → (List ClientCall → Script rmi CallAnswer) → Script rmi CallAnswer)
+    → Seen → Seen → Option (List ℕ) → Option (List ℕ) → Leases → Leases → Result A CommandEnd → Type 0
+NotesPart part seen seen_after ticks ticks_after leases leases_after result =
+    (s : Script rmi CallAnswer) (k : ℕ) (links : List Linked) (given : Option (List ℕ)) (lessee : Lessee) (log : List ClientCall) (next : List ClientCall → Script rmi CallAnswer)
+    → Keeps lessee leases log → IsAt k links seen → Stands s links given ticks (part k lessee log next)
+    → Notes s k links seen_after given ticks_after lessee leases_after next result
 
 -- what a lease call answers
 abbrev pub granting : Result ℕ CommandEnd → Result Reply CommandEnd

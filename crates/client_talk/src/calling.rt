@@ -544,8 +544,8 @@ fn call_through<D: Dialer, T: Clock>(
 /// left in `talked`, shut, in order of dialling.
 ///
 /// `DialFault` comes only where the dialer's count of faults rose, `ReadFault` and `WriteFault` only where a link's did. `Table` comes exactly where the table
-/// refuses: with `FullRefs` where 16,384 references are registered and one more is to be, with `NumbersSpent` where no number is left for a lease call.
-/// Nothing is sent after the first end.
+/// refuses. It comes with `FullRefs` where 16,384 references are registered and one more is to be, and with `NumbersSpent` where no number is left for
+/// a lease call. Nothing is sent after the first end.
 pub fn call<D: Dialer, T: Clock>(
     dialer: &mut D,
     ticks: &mut T,

@@ -3,7 +3,7 @@ ghost use Rattle.std.specs.Prelude.{◌≡◌, ◌≢◌, ◌≤◌, ℕ, List, 
 ghost use Rattle.dgc_client.specs.declared.limits.TheConstants.{MAX_GRANTED_MS};
 ghost use Rattle.dgc_client.specs.Log.{ClientCall, number_of};
 ghost use Rattle.rmi_client.specs.Sessions.{link_of};
-ghost use Rattle.client_talk.specs.Calling.{Lessee, Keeps, Notes, renewal, granting, renews, sends_due, holds, holds_each, releases, releases_each, ids_there};
+ghost use Rattle.client_talk.specs.Calling.{Lessee, Keeps, NotesPart, renewal, granting, renews, sends_due, holds, holds_each, releases, releases_each, ids_there};
 ghost use Rattle.client_talk.specs.Contents.{CallAnswer};
 ghost use Rattle.client_talk.specs.Rmi.{rmi};
 ghost use Rattle.client_talk.specs.Scripts.{Script, asks};
@@ -124,14 +124,9 @@ fn renew<I: Source, O: Sink, T: Clock>(
     plan: &Plan,
 ) -> Result<(), CommandEnd>
     requires { session.old.is_over ≡ false }
-    ensures notes { (s : Script rmi CallAnswer) (k : ℕ) (links : List Linked)
-        (given : Option (List ℕ)) (lessee : Lessee) (log : List ClientCall)
-        (next : List ClientCall → Script rmi CallAnswer)
-        → Keeps lessee leases.old log
-        → IsAt k links (seen_of (link_of I.half O.half session.old))
-        → Stands s links given (T.given ticks.old) (renews k lessee plan.now log next)
-        → Notes s k links (seen_of (link_of I.half O.half session.new))
-        given (T.given ticks.new) lessee leases.new next result }
+    ensures notes { NotesPart (λ k lessee. renews k lessee plan.now)
+        (seen_of (link_of I.half O.half session.old)) (seen_of (link_of I.half O.half session.new))
+        (T.given ticks.old) (T.given ticks.new) leases.old leases.new result }
     ensures open { OnOk result (session.new.is_over ≡ false) }
     ensures apart { result ≢ Err CommandEnds.DialFault }
 {
@@ -152,14 +147,9 @@ fn send_due<I: Source, O: Sink, T: Clock>(
     leases: &mut Leases,
 ) -> Result<(), CommandEnd>
     requires { session.old.is_over ≡ false }
-    ensures notes { (s : Script rmi CallAnswer) (k : ℕ) (links : List Linked)
-        (given : Option (List ℕ)) (lessee : Lessee) (log : List ClientCall)
-        (next : List ClientCall → Script rmi CallAnswer)
-        → Keeps lessee leases.old log
-        → IsAt k links (seen_of (link_of I.half O.half session.old))
-        → Stands s links given (T.given ticks.old) (sends_due k lessee log next)
-        → Notes s k links (seen_of (link_of I.half O.half session.new))
-        given (T.given ticks.new) lessee leases.new next result }
+    ensures notes { NotesPart sends_due
+        (seen_of (link_of I.half O.half session.old)) (seen_of (link_of I.half O.half session.new))
+        (T.given ticks.old) (T.given ticks.new) leases.old leases.new result }
     ensures open { OnOk result (session.new.is_over ≡ false) }
     ensures apart { result ≢ Err CommandEnds.DialFault }
 {
@@ -179,14 +169,9 @@ pub(crate) fn hold<I: Source, O: Sink, T: Clock>(
     object: &ObjId,
 ) -> Result<(), CommandEnd>
     requires { session.old.is_over ≡ false }
-    ensures notes { (s : Script rmi CallAnswer) (k : ℕ) (links : List Linked)
-        (given : Option (List ℕ)) (lessee : Lessee) (log : List ClientCall)
-        (next : List ClientCall → Script rmi CallAnswer)
-        → Keeps lessee leases.old log
-        → IsAt k links (seen_of (link_of I.half O.half session.old))
-        → Stands s links given (T.given ticks.old) (holds k lessee object.now log next)
-        → Notes s k links (seen_of (link_of I.half O.half session.new))
-        given (T.given ticks.new) lessee leases.new next result }
+    ensures notes { NotesPart (λ k lessee. holds k lessee object.now)
+        (seen_of (link_of I.half O.half session.old)) (seen_of (link_of I.half O.half session.new))
+        (T.given ticks.old) (T.given ticks.new) leases.old leases.new result }
     ensures open { OnOk result (session.new.is_over ≡ false) }
     ensures apart { result ≢ Err CommandEnds.DialFault }
 {
@@ -205,14 +190,9 @@ pub(crate) fn hold_each<I: Source, O: Sink, T: Clock>(
     objects: &[ObjId],
 ) -> Result<(), CommandEnd>
     requires { session.old.is_over ≡ false }
-    ensures notes { (s : Script rmi CallAnswer) (k : ℕ) (links : List Linked)
-        (given : Option (List ℕ)) (lessee : Lessee) (log : List ClientCall)
-        (next : List ClientCall → Script rmi CallAnswer)
-        → Keeps lessee leases.old log
-        → IsAt k links (seen_of (link_of I.half O.half session.old))
-        → Stands s links given (T.given ticks.old) (holds_each k lessee objects.now log next)
-        → Notes s k links (seen_of (link_of I.half O.half session.new))
-        given (T.given ticks.new) lessee leases.new next result }
+    ensures notes { NotesPart (λ k lessee. holds_each k lessee objects.now)
+        (seen_of (link_of I.half O.half session.old)) (seen_of (link_of I.half O.half session.new))
+        (T.given ticks.old) (T.given ticks.new) leases.old leases.new result }
     ensures open { OnOk result (session.new.is_over ≡ false) }
     ensures apart { result ≢ Err CommandEnds.DialFault }
 {
@@ -257,14 +237,9 @@ fn release<I: Source, O: Sink, T: Clock>(
     object: &ObjId,
 ) -> Result<(), CommandEnd>
     requires { session.old.is_over ≡ false }
-    ensures notes { (s : Script rmi CallAnswer) (k : ℕ) (links : List Linked)
-        (given : Option (List ℕ)) (lessee : Lessee) (log : List ClientCall)
-        (next : List ClientCall → Script rmi CallAnswer)
-        → Keeps lessee leases.old log
-        → IsAt k links (seen_of (link_of I.half O.half session.old))
-        → Stands s links given (T.given ticks.old) (releases k lessee object.now log next)
-        → Notes s k links (seen_of (link_of I.half O.half session.new))
-        given (T.given ticks.new) lessee leases.new next result }
+    ensures notes { NotesPart (λ k lessee. releases k lessee object.now)
+        (seen_of (link_of I.half O.half session.old)) (seen_of (link_of I.half O.half session.new))
+        (T.given ticks.old) (T.given ticks.new) leases.old leases.new result }
     ensures open { OnOk result (session.new.is_over ≡ false) }
     ensures apart { result ≢ Err CommandEnds.DialFault }
 {
@@ -284,14 +259,9 @@ pub(crate) fn release_each<I: Source, O: Sink, T: Clock>(
     objects: &[ObjId],
 ) -> Result<(), CommandEnd>
     requires { session.old.is_over ≡ false }
-    ensures notes { (s : Script rmi CallAnswer) (k : ℕ) (links : List Linked)
-        (given : Option (List ℕ)) (lessee : Lessee) (log : List ClientCall)
-        (next : List ClientCall → Script rmi CallAnswer)
-        → Keeps lessee leases.old log
-        → IsAt k links (seen_of (link_of I.half O.half session.old))
-        → Stands s links given (T.given ticks.old) (releases_each k lessee objects.now log next)
-        → Notes s k links (seen_of (link_of I.half O.half session.new))
-        given (T.given ticks.new) lessee leases.new next result }
+    ensures notes { NotesPart (λ k lessee. releases_each k lessee objects.now)
+        (seen_of (link_of I.half O.half session.old)) (seen_of (link_of I.half O.half session.new))
+        (T.given ticks.old) (T.given ticks.new) leases.old leases.new result }
     ensures open { OnOk result (session.new.is_over ≡ false) }
     ensures apart { result ≢ Err CommandEnds.DialFault }
 {

@@ -11,9 +11,9 @@ use std::alloc::Global;
 pub struct Caller {
     /// The allocator, from which all memory of the call is taken.
     pub alloc: Global,
-    /// The identifier of the client's virtual machine, which each lease call carries. A caller with four random numbers may take the 8
-    /// bytes of the last one as the address, the low 32 bits of the first one, signed, as the unique number, the second one modulo 2^61 as the time, and 0 as
-    /// the count.
+    /// The identifier of the client's virtual machine, which each lease call carries. A caller may take it from four
+    /// random numbers. The low 32 bits of the first one, signed, are the unique number. The second one modulo 2^61 is the time. The count
+    /// is 0, and the 8 bytes of the last one are the address.
     pub vmid: Vmid,
     /// The number of the first lease call; each later one has the next number. Where a client's machine makes no other calls, -2^63 leaves most room.
     pub first: i64,

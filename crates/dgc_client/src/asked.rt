@@ -89,7 +89,7 @@ fn is_wanting(over: bool, asked: &Asked, object: &ObjId, kept: &Kept) -> bool
 }
 
 /// Returns the entries that may want a call: all where the client's time is over, and otherwise those behind the settled ones.
-fn unsettled(over: bool, refs: &RefMap, settled: usize) -> Slice<'_, ObjId, Kept>
+fn open_entries(over: bool, refs: &RefMap, settled: usize) -> Slice<'_, ObjId, Kept>
     requires { AreSettled settled refs.now.entries }
     ensures { (ys : List Dirty) → filter (wants over ys) (refs_in result)
         ≡ filter (wants over ys) (refs_in refs.now.entries) }
@@ -104,7 +104,7 @@ fn unsettled(over: bool, refs: &RefMap, settled: usize) -> Slice<'_, ObjId, Kept
 
 /// The objects that a dirty call has to name, where the client's time is over or not, and these are asked for already. It looks at no settled entry
 /// while the client's time lasts.
-pub fn wanting(
+pub fn objects_to_name(
     alloc: Global,
     over: bool,
     refs: &RefMap,
@@ -118,7 +118,7 @@ pub fn wanting(
         ids ≡ ids_of (filter (wants over ys) (refs_in refs.now.entries))) }
 {
     let mut ids = ObjIds::new(alloc);
-    for (object, kept) in unsettled(over, refs, settled).iter() {
+    for (object, kept) in open_entries(over, refs, settled).iter() {
         let wanted = is_wanting(over, asked, object, kept);
         put_if(&mut ids, object, wanted)?;
     }

@@ -139,7 +139,7 @@ impl ClientRefs {
     }
 
     /// The objects that a dirty call has to name, where the client's time is over or not, and these are asked for already.
-    pub(crate) fn wanting(
+    pub(crate) fn objects_to_name(
         &self,
         alloc: Global,
         over: bool,
@@ -150,6 +150,6 @@ impl ClientRefs {
             ≡ list_any (asks_for o since) ys) →
             ids ≡ ids_of (filter (wants over ys) self.now)) }
     {
-        asked::wanting(alloc, over, &self.kept, self.settled, asked)
+        asked::objects_to_name(alloc, over, &self.kept, self.settled, asked)
     }
 }

@@ -307,12 +307,12 @@ impl ClientTable {
     {
         let over = self.is_over(now);
         let renews = self.renews(now);
-        let ids = self.wanting(over)?;
+        let ids = self.objects_to_name(over)?;
         Ok(due_names(ids, renews))
     }
 
     /// The objects that a dirty call has to name, where the client's time is over or not.
-    fn wanting(&self, over: bool) -> Result<ObjIds, AllocError>
+    fn objects_to_name(&self, over: bool) -> Result<ObjIds, AllocError>
         ensures { IfOk result (λ ids.
             ids ≡ ids_of (filter (wants over self.now.sent) self.now.refs)) }
     {
@@ -320,7 +320,7 @@ impl ClientTable {
             return Ok(ObjIds::new(self.alloc));
         }
         let asked = asked::asked_of(self.alloc, &self.sent)?;
-        self.refs.wanting(self.alloc, over, &asked)
+        self.refs.objects_to_name(self.alloc, over, &asked)
     }
 
     /// Returns whether no reference is known to want a call, where the client's time is over or not.

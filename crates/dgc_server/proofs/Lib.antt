@@ -28,6 +28,7 @@ pub mod MarkLaws
 pub mod MarkLists
 pub mod Room
 pub mod Freeing
+pub mod Ending
 pub mod Dropping
 pub mod Shares
 pub mod Walking

@@ -97,3 +97,8 @@ pub record StandsFor (lease : ℕ) (table : LeaseTable) (moment : ℕ) (calls : 
 -- This holds for each configured lease, greatest moment and calls that the table stands for.
 abbrev pub ForEachLog : LeaseTable → (ℕ → ℕ → List Call → Type 0) → Type 0
 ForEachLog table P = (lease moment : ℕ) (calls : List Call) → StandsFor lease table moment calls → P lease moment calls
+
+-- Some client's lease ends after the first moment, and no later than the second.
+abbrev pub SomeLeaseEnds : ℕ → ℕ → ℕ → List Call → Type 0
+SomeLeaseEnds lease from to calls =
+    (c : Client) × ((from < lease_end lease (calls_of c calls)) × (lease_end lease (calls_of c calls) ≤ to))

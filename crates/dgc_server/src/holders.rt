@@ -125,7 +125,7 @@ fn more(count: u32, share: bool) -> u32
 }
 
 /// A count without a client's share.
-fn lowered(count: Count, share: Share) -> Count
+fn lower_count(count: Count, share: Share) -> Count
     requires { (w : Way) → one_if (share_by w share) ≤ count_by w count }
     ensures { (w : Way) → count_by w result + one_if (share_by w share) ≡ count_by w count }
 {
@@ -139,7 +139,7 @@ fn lowered(count: Count, share: Share) -> Count
 }
 
 /// A count with the share of a client at this place.
-fn raised(count: Count, share: Share, hint: ClientHint) -> Count
+fn raise_count(count: Count, share: Share, hint: ClientHint) -> Count
     requires { (w : Way) → count_by w count ≤ 2 ^ 31 }
     ensures { (w : Way) → count_by w result ≡ count_by w count + one_if (share_by w share) }
 {
@@ -168,7 +168,7 @@ pub fn lower(counts: &mut Counts, object: &ObjId, share: Share)
 {
     if is_any(share) {
         let count = count_of(counts, object);
-        put(counts, object, lowered(count, share));
+        put(counts, object, lower_count(count, share));
     }
 }
 
@@ -182,8 +182,8 @@ pub fn shift(counts: &mut Counts, object: &ObjId, before: Share, after: Share, h
     ensures kept { (o : ObjId) → has_count counts.old o ≡ true → has_count counts.new o ≡ true }
 {
     let count = count_of(counts, object);
-    let rest = lowered(count, before);
-    put(counts, object, raised(rest, after, hint));
+    let rest = lower_count(count, before);
+    put(counts, object, raise_count(rest, after, hint));
 }
 
 /// Returns the part that a client with these numbers loses in an object's counts as its tenure is forgotten.

@@ -1,9 +1,9 @@
-//! The objects that clients hold whose leases end as time passes.
+//! Leases that end as time passes, and the objects that their clients hold.
 ghost use Rattle.std.specs.Prelude.{◌≡◌, ◌++◌, ◌∷◌, [], ◌≤◌, flat_map, OnOk, IfOk, if◌then◌else◌};
 ghost use Rattle.dgc_server.specs.Numbers.{is_dirty_highest};
 ghost use Rattle.dgc_server.specs.Entry.{object_entries, dirty_objects};
-ghost use Rattle.std.specs.List.{AllByRecursion};
-ghost use Rattle.dgc_server.specs.HolderIndex.{freed_of};
+ghost use Rattle.std.specs.List.{list_any, AllByRecursion};
+ghost use Rattle.dgc_server.specs.HolderIndex.{ends_between, freed_of};
 ghost use Rattle.dgc_server.specs.Chunks.{all_of, IsBounded};
 
 use crate::clients::{Chunk, Clients};
@@ -101,4 +101,42 @@ fn freed_in(
         append_all(&mut freed, &chunk.entries, from, to)?;
     }
     Ok(freed)
+}
+
+// ---- whether a lease ends
+
+/// Returns whether a client's lease ends as time passes from the clients' moment to another one. Where nothing is due it looks at no client. Else it
+/// looks at the clients of the chunks in which a lease may end by then, until it finds one.
+pub fn has_ended(clients: &Clients, to: u64) -> bool
+    requires { clients.now.moment ≤ to }
+    ensures { result ≡ list_any (ends_between clients.now.moment to) clients.now.entries }
+{
+    has_ended_in(clients.chunks(), clients.next(), clients.moment(), to)
+}
+
+/// Returns whether the lease of a client of these chunks ends as time passes from one moment to another.
+fn has_ended_in(chunks: &[Chunk], next: u64, from: u64, to: u64) -> bool
+    requires later { from ≤ to }
+    requires bounded { AllByRecursion (IsBounded from next) chunks.now }
+    ensures { result ≡ list_any (ends_between from to) (all_of chunks.now) }
+{
+    if to < next {
+        return false;
+    }
+    for chunk in chunks {
+        if to < chunk.least {
+            continue;
+        }
+        if has_ended_among(&chunk.entries, from, to) {
+            return true;
+        }
+    }
+    false
+}
+
+/// Returns whether the lease of a client of a chunk ends as time passes from one moment to another.
+fn has_ended_among(entries: &[ClientEntry], from: u64, to: u64) -> bool
+    ensures { result ≡ list_any (ends_between from to) entries.now }
+{
+    entries.iter().any(|entry| entry.has_time_left(from) && !entry.has_time_left(to))
 }

@@ -6,7 +6,7 @@ ghost use Rattle.object_ids.specs.Same.{same_id};
 ghost use Rattle.history.specs.declared.limits.TheConstants.{MAX_CLIENTS, MAX_PAIRS, END_OF_TIME, MAX_DURATION_MS};
 ghost use Rattle.history.specs.Leases.{is_dirty_kind, grant, is_held, holders, pairs, lease_rows};
 ghost use Rattle.dgc_server.specs.Counts.{dirty_call, clean_call, clean_kind, without, without_all, clients_with_call, pairs_with_call};
-ghost use Rattle.dgc_server.specs.StandsForCalls.{IsSound, IsTrimmed, StandsFor, ForEachLog, table_after};
+ghost use Rattle.dgc_server.specs.StandsForCalls.{IsSound, IsTrimmed, StandsFor, ForEachLog, SomeLeaseEnds, table_after};
 ghost use Rattle.dgc_server.specs.HolderIndex.{sums_at};
 ghost use Rattle.dgc_server.specs.Table.{clients_after, pairs_after};
 
@@ -226,6 +226,15 @@ impl Leases {
             return false;
         }
         true
+    }
+
+    /// Returns whether a client's lease ends after the greatest moment so far and no later than `now`. Where none may, it looks at no client. Else it
+    /// looks at the clients of the chunks in which one may, until it finds one. It takes no memory.
+    pub fn has_ended(&self, now: u64) -> bool
+        ensures { ForEachLog self.now (λ lease moment calls.
+            IsTrue result ↔ SomeLeaseEnds lease moment now calls) }
+    {
+        lease_ends::has_ended(&self.clients, self.time(now))
     }
 
     /// The number of clients that hold an object at this moment. A moment before the greatest one is read as the

@@ -146,13 +146,13 @@ fn slot_at(hash: u64, step: u64, count: usize) -> usize {
 impl Hashed for Vmid {
     fn hash(&self) -> u64 {
         let uid = self.uid();
-        let mut hash = mixed(
+        let mut hash = mix(
             uid.time.unsigned_abs(),
             u64::from(uid.unique.unsigned_abs()),
         );
-        hash = mixed(hash, u64::from(uid.count.unsigned_abs()));
+        hash = mix(hash, u64::from(uid.count.unsigned_abs()));
         for byte in self.addr() {
-            hash = mixed(hash, u64::from(*byte));
+            hash = mix(hash, u64::from(*byte));
         }
         hash
     }
@@ -162,14 +162,14 @@ impl Hashed for Name {
     fn hash(&self) -> u64 {
         let mut hash = 0;
         for unit in self.units() {
-            hash = mixed(hash, u64::from(*unit));
+            hash = mix(hash, u64::from(*unit));
         }
         hash
     }
 }
 
 /// A hash with a further number.
-fn mixed(hash: u64, number: u64) -> u64 {
+fn mix(hash: u64, number: u64) -> u64 {
     let product = (hash ^ number).wrapping_mul(0x9E37_79B9_7F4A_7C15);
     product ^ (product >> 32)
 }

@@ -1,7 +1,10 @@
 // SPDX-License-Identifier: Apache-2.0 OR MIT
-//! A client of one's own, from a name to the end of its lease. A registry names a greeter, whose interface is, in Java,
-//! `interface Greeter extends Remote { String greet(long guest, String name) throws RemoteException; }`. The client finds it, holds it, calls it, holds it on
-//! while time passes, and gives it up. It works over links of any kind, as those of `wire_io::TcpDial`; here a Java server answers that was recorded.
+//! A client of one's own, from a name to the end of its lease. `docs/CLIENT.md` explains it.
+//!
+//! A registry names a greeter, whose interface is, in Java, `interface Greeter extends Remote {
+//! String greet(long guest, String name) throws RemoteException; }`. The client finds it, leases
+//! it, calls it, renews the lease while time passes, and gives it up. It works over any
+//! `wire_io::Dialer`, such as `TcpDial`. Here it talks to a recorded Java server in memory.
 #![tactic(auto)]
 
 mod held;

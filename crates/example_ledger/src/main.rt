@@ -1,7 +1,10 @@
 // SPDX-License-Identifier: Apache-2.0 OR MIT
 //! A service in a page of code: a ledger of accounts, which Java programs open and add to.
+//! `docs/SERVICE.md` explains it.
 //!
-//! With the words PORT and LINKS it serves so many connections on 127.0.0.1:PORT. Without words it serves recorded clients in memory.
+//! With the words PORT and LINKS it listens on 127.0.0.1:PORT, serves so many connections and
+//! exits. Without words it serves recorded clients in memory, and prints the bytes that each got.
+//! It proves nothing of its own sums.
 #![tactic(auto)]
 
 mod clients;

@@ -23,7 +23,7 @@ fn show_link<R: Wait + Sync>(out: &mut impl Write, link: &LedgerLink<'_, R>) -> 
         "connection {} {:?} calls {}",
         link.by, link.end, link.hand.calls
     )?;
-    for byte in link.sink.held() {
+    for byte in link.sink.bytes() {
         write!(out, "{byte:02x}")?;
     }
     writeln!(out)

@@ -1,8 +1,8 @@
 // SPDX-License-Identifier: Apache-2.0 OR MIT
-//! A second service: a list of texts, to which Java programs add.
+//! A second service: a list of texts that all clients share, and to which Java programs add.
 //!
-//! With the words PORT and LINKS it serves so many connections on 127.0.0.1:PORT. Without words it serves a recorded client
-//! in memory.
+//! With the words PORT and LINKS it listens on 127.0.0.1:PORT, serves so many connections and
+//! exits. Without words it serves a recorded client in memory.
 #![tactic(auto)]
 
 mod recorded;

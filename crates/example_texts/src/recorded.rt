@@ -112,7 +112,7 @@ pub fn serve_recorded<R: Threads + Wait + Sync>(
     let report = serve(rt, alloc, &mut listener(alloc)?, texts, &site)?;
     for link in report.links.as_slice() {
         writeln!(out, "{:?} calls {}", link.end, link.hand.calls)?;
-        for byte in link.sink.held() {
+        for byte in link.sink.bytes() {
             write!(out, "{byte:02x}")?;
         }
         writeln!(out)?;

@@ -57,6 +57,10 @@ ended_waits t waits = filter (λ w. not (goes_on t w)) waits
 abbrev pub of_return : Uid → List Wait → List Wait
 of_return u waits = filter (λ w. same_uid w.uid u) waits
 
+-- It ends after the first moment, and no later than the second.
+abbrev pub ends_between : ℕ → ℕ → Wait → Bool
+ends_between from to w = not (goes_on to w) && goes_on from w
+
 -- The objects of waits.
 abbrev pub objects : List Wait → List ObjId
 objects waits = map (λ w. w.object) waits

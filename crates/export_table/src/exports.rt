@@ -5,7 +5,7 @@ ghost use Rattle.history.specs.Places.{id_at};
 ghost use Rattle.object_ids.specs.declared.ids.FullKind.TheVariants.{Exports as FullExports, Awaiting as FullAwaiting};
 ghost use Rattle.dgc_server.specs.Counts.{without_all};
 ghost use Rattle.dgc_server.specs.StandsForCalls.{StandsFor, ForEachLog};
-ghost use Rattle.export_table.specs.Waits.{still_waiting, goes_on, ended_waits, of_return, objects, is_waiting, with_listed, without_acknowledged};
+ghost use Rattle.export_table.specs.Waits.{still_waiting, ends_between, goes_on, ended_waits, of_return, objects, is_waiting, with_listed, without_acknowledged};
 ghost use Rattle.std.specs.List.{list_any};
 ghost use Rattle.export_table.specs.ExportRows.{is_exported, kind_of, running_of, pins_of, ids, new_row, with_row_changed, with_call_begun, with_call_ended, pinned_once, unpinned_once, is_row_kept, held_by, withdrawn_ids, stays_among, row_at};
 ghost use Rattle.export_table.specs.Table.{IsSound, no_room};
@@ -170,6 +170,13 @@ impl Exports {
         ensures { result ≡ list_any (λ w. not (goes_on now w)) self.now.waits }
     {
         self.waits.has_ended(now)
+    }
+
+    /// Returns whether the wait of some reference ends after the moment `from` and no later than `now`. Where no wait has ended by then, it looks at none.
+    pub fn has_ended_since(&self, from: u64, now: u64) -> bool
+        ensures { result ≡ list_any (ends_between from now) self.now.waits }
+    {
+        self.waits.has_ended_since(from, now)
     }
 
     /// The objects of the references whose waits have ended at this moment.

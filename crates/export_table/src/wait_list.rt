@@ -2,7 +2,7 @@
 ghost use Rattle.std.specs.Prelude.{◌≡◌, ◌++◌, ◌∷◌, [], ◌+◌, ◌<◌, ◌≤◌, ◌^◌, length, filter, take, drop, not, false, IsTrue, IsOk, IfOk, OnOk, OnErr, ◌↔◌};
 ghost use Rattle.std.specs.List.{list_any};
 ghost use Rattle.history.specs.declared.limits.TheConstants.{MAX_AWAITING};
-ghost use Rattle.export_table.specs.Waits.{is_wait_of, goes_on, still_waiting, ended_waits, of_return, objects, is_waiting, is_awaited, awaiting_of, end_of_wait, with_listed, without_acknowledged};
+ghost use Rattle.export_table.specs.Waits.{is_wait_of, ends_between, goes_on, still_waiting, ended_waits, of_return, objects, is_waiting, is_awaited, awaiting_of, end_of_wait, with_listed, without_acknowledged};
 ghost use Rattle.export_table.specs.WaitIndex.{stays};
 
 use crate::counts::{Counts, References, count_of, has};
@@ -181,6 +181,13 @@ impl WaitList {
         ensures { result ≡ list_any (λ w. not (goes_on time w)) self.now.waits }
     {
         waits::has_ended(self.queue.due(time), time)
+    }
+
+    /// Returns whether some wait ends after the moment `from` and no later than the moment `to`. Where none has ended by then, it looks at no wait.
+    pub fn has_ended_since(&self, from: u64, to: u64) -> bool
+        ensures { result ≡ list_any (ends_between from to) self.now.waits }
+    {
+        waits::has_ended_since(self.queue.due(to), from, to)
     }
 
     /// The objects of the waits that have ended at a moment. Where none has, it looks at no wait; where the ends rise, at those and at one more.

@@ -2,7 +2,7 @@
 ghost use Rattle.std.specs.Prelude.{◌≡◌, ◌++◌, ◌∷◌, [], ◌+◌, ◌<◌, ◌≤◌, ◌&&◌, true, length, filter, take, drop, map, not, IfOk, vec_len, vec_capacity};
 ghost use Rattle.std.specs.List.{list_any};
 ghost use Rattle.object_ids.specs.Same.{same_id, same_uid};
-ghost use Rattle.export_table.specs.Waits.{is_wait_of, goes_on, still_waiting, ended_waits, end_of_wait, of_return};
+ghost use Rattle.export_table.specs.Waits.{is_wait_of, ends_between, goes_on, still_waiting, ended_waits, end_of_wait, of_return};
 ghost use Rattle.export_table.specs.WaitIndex.{stays, EndsNoEarlier, EndsRise};
 ghost use Rattle.dgc_server.specs.HolderIndex.{one_if};
 
@@ -144,6 +144,15 @@ pub fn has_ended(waits: &[Wait], time: u64) -> bool
     ensures { result ≡ list_any (λ w. not (goes_on time w)) waits.now }
 {
     waits.iter().any(|wait| !wait.goes_on(time))
+}
+
+/// Returns whether some wait ends after the moment `from` and no later than the moment `to`.
+pub fn has_ended_since(waits: &[Wait], from: u64, to: u64) -> bool
+    ensures { result ≡ list_any (ends_between from to) waits.now }
+{
+    waits
+        .iter()
+        .any(|wait| !wait.goes_on(to) && wait.goes_on(from))
 }
 
 /// A part of the waits, from its first place up to the second, that has all of a return, of which there are so many: it ends with the list or begins with it,

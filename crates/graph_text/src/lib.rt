@@ -1,5 +1,10 @@
 // SPDX-License-Identifier: Apache-2.0 OR MIT
-//! The text of a graph of values: a line for each node in the order of their handles, then a line for each item.
+//! The text of a graph: one line for each node in the order of their handles, then one for each
+//! item. `rmi show` prints it.
+//!
+//! # What is proved
+//!
+//! `graph_text` gives the text that the definition in `specs/` says, or refuses for lack of memory.
 #![tactic(auto)]
 
 mod lines;

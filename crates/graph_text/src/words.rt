@@ -208,8 +208,8 @@ impl Shown for Value {
     }
 }
 
-/// Appends a value: a number in decimals, a char as its number, `true` or `false`, a float or a double as `x:` and its bits in hexadecimal, a reference
-/// as in the lines of a graph.
+/// Appends a value. A number is in decimals, a char is its number, and a truth value is `true` or `false`. A float or a double is `x:` and its bits in
+/// hexadecimal. A reference is as in the lines of a graph.
 pub fn put_value(out: &mut ByteList, value: &Value) -> Result<(), AllocError>
     ensures { OnOk result (out.new ≡ out.old ++ value_text value.now) }
 {

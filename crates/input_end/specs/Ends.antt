@@ -1,5 +1,5 @@
 -- Inputs whose end is looked for without a wait, and listeners that are told to stop there.
-use Rattle.std.specs.Prelude.{◌≡◌, ◌⊎◌, ◌+◌, ◌<◌, ◌≤◌, ◌||◌, ◌↔◌, Bool, true, false, if◌then◌else◌, IsSomeAnd, IsTrue, ℕ, List, [], length, Option}
+use Rattle.std.specs.Prelude.{◌≡◌, ◌⊎◌, ◌+◌, ◌<◌, ◌≤◌, ◌||◌, ◌↔◌, Bool, true, false, if◌then◌else◌, IsSomeAnd, IsTrue, ℕ, List, [], length, Option, None, Some}
 use Rattle.wire_io.specs.Links.{Listening}
 use Rattle.wire_io.specs.Wire.{ReadHalf, with_front, next_count, NothingLeft, Rose}
 use Rattle.mio.specs.Event.{is_readable, is_read_closed}
@@ -33,6 +33,18 @@ pub record LookedInMemory (old new : EndState) (answer : Bool) : Type 0 where
   pub ends : IsTrue answer ↔ IsSomeAnd old.first (λ first. first ≤ old.looks)
   pub count : new.looks ≡ next_count old.looks
   pub first : new.first ≡ old.first
+
+-- whether the end of an input was seen that may be absent: it is never seen where there is none
+abbrev pub seen_in : {E : Type 0} → (E → Bool) → Option E → Bool
+seen_in seen None = false
+seen_in seen (Some end) = seen end
+
+-- One look was made at an input that may be absent, with this answer. Where there is none, the look sees no end.
+abbrev pub LookedIn : {E : Type 0} → (E → E → Bool → Type 0) → Option E → Option E → Bool → Type 0
+LookedIn looked None None answer = answer ≡ false
+LookedIn looked (Some old) (Some new) answer = looked old new answer
+LookedIn looked None (Some new) answer = ⊥
+LookedIn looked (Some old) None answer = ⊥
 
 -- a watch over a descriptor: whether the system watches it, and what it answered last
 pub record WatchState : Type 0 where

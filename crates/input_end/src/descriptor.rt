@@ -54,7 +54,7 @@ impl DescriptorWatch {
         let descriptor = input.as_raw_fd();
         Ok(DescriptorWatch {
             events: Events::with_capacity(alloc, 1)?,
-            poll: registered(net, descriptor).ok(),
+            poll: register(net, descriptor).ok(),
             descriptor,
             answered: Readiness::WouldWait,
         })
@@ -69,7 +69,7 @@ impl DescriptorWatch {
 }
 
 /// Makes an epoll set with this descriptor alone. The system refuses a descriptor that it cannot watch.
-fn registered<N: Net>(net: &N, descriptor: RawFd) -> io::Result<Poll> {
+fn register<N: Net>(net: &N, descriptor: RawFd) -> io::Result<Poll> {
     let poll = Poll::new(net)?;
     poll.registry()
         .register(&mut SourceFd(&descriptor), WATCHED, Interest::READABLE)?;
@@ -78,18 +78,18 @@ fn registered<N: Net>(net: &N, descriptor: RawFd) -> io::Result<Poll> {
 
 /// Asks the system about a read of this descriptor. The descriptor is registered anew each time, since the system reports each change
 /// only once.
-fn asked(poll: &mut Poll, events: &mut Events, descriptor: RawFd) -> io::Result<Readiness> {
+fn ask(poll: &mut Poll, events: &mut Events, descriptor: RawFd) -> io::Result<Readiness> {
     poll.registry()
         .reregister(&mut SourceFd(&descriptor), WATCHED, Interest::READABLE)?;
     poll.poll(events, Some(Duration::ZERO))?;
     match events.iter().next() {
-        Some(event) => Ok(told_by(event)),
+        Some(event) => Ok(readiness_of(event)),
         None => Ok(Readiness::WouldWait),
     }
 }
 
 /// Returns what an event says of a read.
-fn told_by(event: &Event) -> Readiness
+fn readiness_of(event: &Event) -> Readiness
     ensures { result ≡ readiness_of event.now }
 {
     if event.is_readable() {
@@ -113,7 +113,7 @@ impl Watch for DescriptorWatch {
         ensures unwatched { self.old.is_watched ≡ false → result ≡ WouldWait }
     {
         let asked = match &mut self.poll {
-            Some(poll) => asked(poll, &mut self.events, self.descriptor),
+            Some(poll) => ask(poll, &mut self.events, self.descriptor),
             None => Ok(Readiness::WouldWait),
         };
         self.answered = asked.unwrap_or(Readiness::WouldWait);

@@ -107,7 +107,7 @@ impl<L: Listener, E: InputEnd> Listener for StoppedByInput<L, E> {
         self.listener.accept()
     }
 
-    /// Looks for the end of the input, once. At the end it answers Told; else it has the listener inside wait.
+    /// Looks for the end of the input, once. At the end it closes the listener inside and answers Told. Else it has that listener wait.
     fn wait(&mut self) -> Result<Waited<Link<L::In, L::Out, L::Ticks>>, Failed>
         ensures waits { Waits (accepted_as L.In.half L.Out.half L.Ticks.given)
             (listening_until (E.seen self.old.input) self.old.faults (L.listening self.old.listener))
@@ -126,8 +126,16 @@ impl<L: Listener, E: InputEnd> Listener for StoppedByInput<L, E> {
             (L.listening self.old.listener) (L.listening self.new.listener) result }
     {
         if self.input.look() {
+            self.listener.close();
             return Ok(Waited::Told);
         }
         self.listener.wait()
+    }
+
+    /// Closes the listener inside.
+    fn close(&mut self)
+        ensures { self.new ≡ self.old }
+    {
+        self.listener.close();
     }
 }

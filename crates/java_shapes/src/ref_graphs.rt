@@ -78,9 +78,9 @@ fn ref_items(alloc: Global) -> Result<Items, AllocError>
     Ok(items)
 }
 
-/// The graph whose one item is a reference to a remote object, as a dynamic proxy: of the interface and `java.rmi.Remote`, with a
-/// `java.rmi.server.RemoteObjectInvocationHandler` whose note is the reference, of class `UnicastRef`. It is refused only for
-/// want of memory, which an interface of more than 65,535 bytes in modified UTF would want.
+/// Returns the graph whose one item is a reference to a remote object, as a dynamic proxy of the interface and `java.rmi.Remote`.
+/// Its handler is a `java.rmi.server.RemoteObjectInvocationHandler` whose note is the reference, of class `UnicastRef`. It is
+/// refused only for want of memory, which an interface of more than 65,535 bytes in modified UTF would want.
 ///
 /// Whoever writes a reference may put its known bytes together without this graph. That `ref_nodes`, by which those bytes are told, are the nodes of a
 /// graph, and that it is viewed as the reference, is shown here.

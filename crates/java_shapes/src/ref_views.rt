@@ -200,11 +200,16 @@ pub(crate) fn live_ref_in(alloc: Global, nodes: &[Node], slot: Slot) -> Result<L
     stub_ref_at(alloc, nodes, holder_at(nodes, slot))
 }
 
-/// A reference to a remote object: a dynamic proxy with any interfaces, whose handler `h` is an object of class
-/// `java.rmi.server.RemoteObjectInvocationHandler`, or an object with a part of class `java.rmi.server.RemoteObject`, as a static
-/// stub. The part's note is one run of block bytes: the text `UnicastRef`, or `UnicastRef2` and the format byte 0; the host
-/// as a text; the port in 4 bytes; the object's identifier in 22; a truth value in one. WrongShape comes exactly where the
-/// slot is no such reference: also at another format byte, which stands for a socket factory, and where bytes are left.
+/// Returns the reference to a remote object that stands in a slot. It has one of two forms:
+///
+/// - a dynamic proxy with any interfaces, whose handler `h` is an object of class `java.rmi.server.RemoteObjectInvocationHandler`
+/// - an object with a part of class `java.rmi.server.RemoteObject`, as a static stub
+///
+/// The part's note is one run of block bytes. It begins with the text `UnicastRef`, or with `UnicastRef2` and the format byte 0. The
+/// host follows as a text, the port in 4 bytes, the object's identifier in 22, and a truth value in one.
+///
+/// WrongShape comes exactly where the slot is no such reference. It comes also at another format byte, which stands for a socket
+/// factory, and where bytes are left.
 pub fn as_live_ref(alloc: Global, graph: &Graph, slot: Slot) -> Result<LiveRef, ShapeFault>
     ensures { Views result (live_ref_at graph.now.nodes slot) }
 {

@@ -25,7 +25,7 @@ struct FirstUnit {
 }
 
 /// Returns the bytes between quotation marks. It is None exactly where these are not the first and the last byte.
-fn unquoted(word: &[u8]) -> Option<&[u8]>
+fn unquote(word: &[u8]) -> Option<&[u8]>
     ensures { MatchOption result ((inner : List ℕ) → word.now ≢ 34 ∷ (inner ++ 34 ∷ [])) (λ inner. word.now ≡ 34 ∷ (inner.now ++ 34 ∷ [])) }
 {
     let (first, rest) = word.split_first()?;
@@ -97,7 +97,7 @@ impl Field for Name {
     ghost spells = { λ _ name word. SpellsName name word };
 
     fn read(alloc: Global, _space: Uid, word: &[u8]) -> Result<Name, Unread> {
-        let Some(inner) = unquoted(word) else {
+        let Some(inner) = unquote(word) else {
             return Err(Unread::NotSpelled);
         };
         let units = read_units(alloc, inner)?;

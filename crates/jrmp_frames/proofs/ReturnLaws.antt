@@ -1,11 +1,9 @@
 -- Laws of returns.
 use Rattle.std.proofs.Common.{◌≡◌, ℕ, ◌+◌, Bool, true, false, cond, List, [], ◌∷◌, ◌++◌, length, map, drop, Option, Some, None, Result, Ok, Err, IfOk, refl, sym, ap, subst, ◌∙◌, append_assoc, append-nil, arith}
-use Rattle.std.specs.Prelude.{◌↔◌}
 use Rattle.wire_io.specs.Pulled.{PullState}
 use Rattle.object_ids.specs.declared.ids.Uid.{Uid}
 use Rattle.object_ids.specs.Bytes.{bytes_of_uid}
 use Rattle.class_desc.specs.declared.field.TypeCode.{TypeCode}
-use Rattle.class_desc.specs.declared.slot.Slot.{Slot}
 use Rattle.class_desc.specs.declared.slot.Item.{Item}
 use Rattle.class_desc.specs.declared.slot.Item.TheVariants as items
 use Rattle.ser_values.specs.declared.node.Node.{Node}
@@ -16,18 +14,17 @@ use Rattle.ser_read.specs.declared.serving.Want.{Want}
 use Rattle.ser_read.specs.declared.serving.Want.TheVariants as wanted
 use Rattle.ser_read.specs.Here.{AreBytes}
 use Rattle.ser_read.specs.Wants.{WantFault, ◌▸◌, Stand, nothing_read, bytes_at, run_at, serve_to_close, wants_at}
-use Rattle.ser_read.specs.SpelledWants.{Fits, SpellsWants}
+use Rattle.ser_read.specs.SpelledWants.{SpellsWants}
 use Rattle.ser_read.proofs.Served.{want_ok, lifted_ok, given_is, are}
 use Rattle.ser_read.proofs.SpelledWants.{asked_sound}
 use Rattle.ser_read.proofs.Given.{asked_complete}
 use Rattle.ser_read.proofs.InOrder.{magic_is}
 use Rattle.ser_read.proofs.WantLaws.{spelled_is_one}
 use Rattle.ser_read.proofs.Heading.{spelled_is_headed, head_runs}
-use Rattle.ser_write.specs.Canonical.{value_bytes}
 use Rattle.jrmp_frames.specs.declared.message.Body.{Body}
 use Rattle.jrmp_frames.specs.declared.message.Body.TheVariants.{Void, Prim, Tree}
-use Rattle.jrmp_frames.specs.Messages.{return_front, want_of, want_for, items_of, nodes_of, ReturnBytes}
-use Rattle.jrmp_frames.specs.Returns.{carried, wants_carried, Carries, kind_of_byte, ReturnRead, no_kind, of_kind, kind_at, contents_at, by_kind, behind_kind, first_byte, return_at, ReturnOf, TakesReturn, ReadsReturn}
+use Rattle.jrmp_frames.specs.Messages.{return_front, want_for, items_of, nodes_of}
+use Rattle.jrmp_frames.specs.Returns.{carried_type, wants_carried, Carries, kind_of_byte, ReturnRead, no_kind, of_kind, kind_at, contents_at, by_kind, behind_kind, first_byte, return_at, ReturnOf, TakesReturn, ReadsReturn}
 use Rattle.jrmp_frames.specs.MessageLaws.{ReturnInFront, ReturnsAreRead, SameBody, ReturnIsOne, HasType, WrittenIsReturn}
 use Rattle.jrmp_frames.proofs.Heads.{front_is}
 use Rattle.jrmp_frames.proofs.Calls.{Whole, headed, front_then}
@@ -83,20 +80,20 @@ seen_in (of_kind normal answers nodes whole, rest) = true
 seen_in (no_kind byte at, rest) = false
 
 by_kind_is : (result_type : Option TypeCode) (byte : ℕ) (o : Option Bool) (end : ℕ) (s : Stand) (bs : List ℕ) (normal : Bool) (y : Whole) → by_kind result_type byte o end s bs ≡ Ok (of_kind normal y.0 y.1 y.2, y.3)
-    → (o ≡ Some normal) × (contents_at (carried result_type normal) end s bs ≡ Ok y)
+    → (o ≡ Some normal) × (contents_at (carried_type result_type normal) end s bs ≡ Ok y)
 by_kind_is result_type byte None end s bs normal y e = absurd (let seen : false ≡ true = ap seen_in (given_is {A = ReturnRead × List ℕ} _ _ e) in cc)
 by_kind_is result_type byte (Some m) end s bs normal y e =
-    let a = want_ok (contents_at (carried result_type m) end s bs) (λ x. Ok (of_kind m x.0 x.1 x.2, x.3)) (of_kind normal y.0 y.1 y.2, y.3) e in
+    let a = want_ok (contents_at (carried_type result_type m) end s bs) (λ x. Ok (of_kind m x.0 x.1 x.2, x.3)) (of_kind normal y.0 y.1 y.2, y.3) e in
     let same = given_is (of_kind m a.0.0 a.0.1 a.0.2, a.0.3) (of_kind normal y.0 y.1 y.2, y.3) a.2 in
     let kind : m ≡ normal = ap kind_in same in
     let whole : a.0 ≡ y = ap parts_of same in
-    (ap (λ (n : Bool). Some n) kind, subst (λ (n : Bool). contents_at (carried result_type n) end s bs ≡ Ok y) kind (a.1 ∙ ap (λ (x : Whole). Ok x) whole))
+    (ap (λ (n : Bool). Some n) kind, subst (λ (n : Bool). contents_at (carried_type result_type n) end s bs ≡ Ok y) kind (a.1 ∙ ap (λ (x : Whole). Ok x) whole))
 
 pub return_spelled : (result_type : Option TypeCode) (end : ℕ) (normal : Bool) (uid : Uid) (answers : List Item) (nodes : List Node) (whole : List Item) (bs rest : List ℕ) → AreBytes bs
     → return_at result_type end bs ≡ Ok (of_kind normal (items.Bytes (bytes_of_uid uid) ∷ answers) nodes whole, rest) → ReturnInFront result_type normal uid answers nodes bs rest
 unfolding return_at kind_at wants_at return_front
 return_spelled result_type end normal uid answers nodes whole bs rest all e =
-    let ws = wants_carried (carried result_type normal) in
+    let ws = wants_carried (carried_type result_type normal) in
     let magic : List ℕ = 0xAC ∷ 0xED ∷ 0x00 ∷ 0x05 ∷ [] in
     let k = want_ok (kind_at end bs) (λ k. behind_kind result_type (first_byte k.0) end k.1 k.2) (of_kind normal (items.Bytes (bytes_of_uid uid) ∷ answers) nodes whole, rest) e in
     let (known, read) = by_kind_is result_type (first_byte k.0.0) (kind_of_byte (first_byte k.0.0)) end k.0.1 k.0.2 normal (items.Bytes (bytes_of_uid uid) ∷ answers, nodes, whole, rest) k.2 in
@@ -127,11 +124,11 @@ bytes_first : (b c : List ℕ) (is js : List Item) → items.Bytes b ∷ is ≡ 
 bytes_first b c is js e = cc
 
 pub return_read : (result_type : Option TypeCode) (end : ℕ) (normal : Bool) (uid : Uid) (answers : List Item) (nodes : List Node) (contents rest : List ℕ)
-    → SpellsWants (wanted.Bytes 15 ∷ wants_carried (carried result_type normal)) (items.Bytes (return_front normal uid) ∷ answers) nodes contents
+    → SpellsWants (wanted.Bytes 15 ∷ wants_carried (carried_type result_type normal)) (items.Bytes (return_front normal uid) ∷ answers) nodes contents
     → return_at result_type end (0xAC ∷ 0xED ∷ 0x00 ∷ 0x05 ∷ (contents ++ rest)) ≡ Ok (of_kind normal (items.Bytes (bytes_of_uid uid) ∷ answers) nodes (joined (items.Bytes (return_front normal uid) ∷ answers)), rest)
 unfolding return_at kind_at magic_at return_front
 return_read result_type end normal uid answers nodes contents rest h =
-    let ws = wants_carried (carried result_type normal) in
+    let ws = wants_carried (carried_type result_type normal) in
     let kind : List ℕ = cond normal 1 2 ∷ [] in
     let whole : List Item = joined (items.Bytes kind ∷ items.Bytes (bytes_of_uid uid) ∷ answers) in
     let all = asked_complete end (wanted.Bytes 1 ∷ wanted.Bytes 14 ∷ ws) (items.Bytes kind ∷ items.Bytes (bytes_of_uid uid) ∷ answers) nodes contents rest (apart ws (cond normal 1 2) (bytes_of_uid uid) answers nodes contents refl h) in
@@ -142,7 +139,7 @@ return_read result_type end normal uid answers nodes contents rest h =
     let same = given_is (items.Bytes x.0.0 ∷ z.0.0, z.0.1, z.0.2, z.0.3) (items.Bytes kind ∷ y.0, y.1, y.2, y.3) z.2 in
     let first : x.0.0 ≡ kind = bytes_first x.0.0 kind z.0.0 y.0 (ap (λ (t : Whole). t.0) same) in
     let later : z.0 ≡ y = ap (λ (t : Whole). (drop 1 t.0, t.1, t.2, t.3)) same in
-    let read : contents_at (carried result_type normal) end x.0.1 x.0.2 ≡ Ok y = z.1 ∙ ap (λ (t : Whole). Ok t) later in
+    let read : contents_at (carried_type result_type normal) end x.0.1 x.0.2 ≡ Ok y = z.1 ∙ ap (λ (t : Whole). Ok t) later in
     let byte : first_byte x.0.0 ≡ cond normal 1 2 = ap first_byte first in
     let wide : Whole → Result (ReturnRead × List ℕ) WantFault = λ t. Ok (of_kind normal t.0 t.1 t.2, t.3) in
     ap (after_kind result_type end) x.1
@@ -231,16 +228,16 @@ bodies_are_one code answers others nodes more body other e n a b = go code answe
 of_one_kind : (result_type : Option TypeCode) (normal : Bool) (uid other_uid : Uid) (body other_body : Body) (one other after behind : List ℕ) → (a : ReturnOf result_type normal uid body one) → (b : ReturnOf result_type normal other_uid other_body other)
     → a.contents ++ after ≡ b.contents ++ behind → (one ≡ other) × SameBody body other_body
 of_one_kind result_type normal uid other_uid body other_body one other after behind a b inside =
-    let ws = wants_carried (carried result_type normal) in
+    let ws = wants_carried (carried_type result_type normal) in
     let same = spelled_is_one (wanted.Bytes 15 ∷ ws) (items.Bytes (return_front normal uid) ∷ a.answers) (items.Bytes (return_front normal other_uid) ∷ b.answers) a.nodes b.nodes a.contents b.contents after behind a.asked b.asked inside in (
       a.headed ∙ ap (λ (l : List ℕ). 0x51 ∷ 0xAC ∷ 0xED ∷ 0x00 ∷ 0x05 ∷ l) same.2 ∙ sym b.headed,
-      bodies_are_one (carried result_type normal) a.answers b.answers a.nodes b.nodes body other_body (ap (drop 1) same.0) same.1 a.carries b.carries,
+      bodies_are_one (carried_type result_type normal) a.answers b.answers a.nodes b.nodes body other_body (ap (drop 1) same.0) same.1 a.carries b.carries,
     )
 
 pub return_is_one : ReturnIsOne
 return_is_one result_type normal second uid other_uid body other_body one other after behind a b e =
     let inside : a.contents ++ after ≡ b.contents ++ behind = ap (drop 5) (ap (λ l. l ++ after) (sym a.headed) ∙ e ∙ ap (λ l. l ++ behind) b.headed) in
-    let front = fronts_are_one (wants_carried (carried result_type normal)) (wants_carried (carried result_type second)) (return_front normal uid) (return_front second other_uid) a.answers b.answers a.nodes b.nodes a.contents b.contents after behind a.asked b.asked inside in
+    let front = fronts_are_one (wants_carried (carried_type result_type normal)) (wants_carried (carried_type result_type second)) (return_front normal uid) (return_front second other_uid) a.answers b.answers a.nodes b.nodes a.contents b.contents after behind a.asked b.asked inside in
     let (kind, ids) = kinds_are_one normal second uid other_uid front in
     let moved : ReturnOf result_type normal other_uid other_body other = subst (λ (n : Bool). ReturnOf result_type n other_uid other_body other) (sym kind) b in
     let (bytes, bodies) = of_one_kind result_type normal uid other_uid body other_body one other after behind a moved (inside ∙ ap (λ (l : List ℕ). l ++ behind) (contents_are other b.contents moved.contents b.headed moved.headed)) in
@@ -273,6 +270,6 @@ written_is_return result_type normal uid body bytes typed h = record {
   headed = h.headed;
   answers = items_of body;
   nodes = nodes_of body;
-  asked = subst (λ (ws : List Want). SpellsWants (wanted.Bytes 15 ∷ ws) (items.Bytes (return_front normal uid) ∷ items_of body) (nodes_of body) h.contents) (wants_are (carried result_type normal) body typed) h.asked;
-  carries = written_carries (carried result_type normal) body typed;
+  asked = subst (λ (ws : List Want). SpellsWants (wanted.Bytes 15 ∷ ws) (items.Bytes (return_front normal uid) ∷ items_of body) (nodes_of body) h.contents) (wants_are (carried_type result_type normal) body typed) h.asked;
+  carries = written_carries (carried_type result_type normal) body typed;
 }

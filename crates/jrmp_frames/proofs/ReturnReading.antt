@@ -20,9 +20,8 @@ use Rattle.stream_grammar.proofs.Spelling.{joined_joined}
 use Rattle.ser_read.specs.declared.fault.StreamFault.{StreamFault}
 use Rattle.ser_read.specs.declared.serving.Want.{Want}
 use Rattle.ser_read.specs.declared.serving.Want.TheVariants as wanted
-use Rattle.ser_read.specs.Here.{Reads, IsTold}
+use Rattle.ser_read.specs.Here.{Reads}
 use Rattle.ser_read.specs.Wants.{WantFault, inside, ◌▸◌, Stand, bytes_at, serve, serve_to_close, want_at, WantBreaks}
-use Rattle.ser_read.specs.SpelledWants.{Fits}
 use Rattle.ser_read.proofs.Steps.{leads_read, done, said, reads_two, reads_gives}
 use Rattle.ser_read.proofs.Breaking.{want_first, want_later, want_breaks_as, want_breaks_two, want_breaks_fails, want_breaks_caused}
 use Rattle.jrmp_frames.specs.declared.arguments.Arg.{Arg}
@@ -31,11 +30,11 @@ use Rattle.jrmp_frames.specs.declared.message.Body.{Body}
 use Rattle.jrmp_frames.specs.declared.message.Body.TheVariants.{Void, Prim, Tree}
 use Rattle.jrmp_frames.specs.declared.fault.FrameFault.{FrameFault}
 use Rattle.jrmp_frames.specs.declared.fault.FrameFault.TheVariants.{BadHeader, UnknownProtocol, BadMessage, BadKind, Stream}
-use Rattle.jrmp_frames.specs.Messages.{want_of, value_of, arg_of}
+use Rattle.jrmp_frames.specs.Messages.{want_of, arg_of}
 use Rattle.jrmp_frames.specs.Calls.{CausedIn}
-use Rattle.jrmp_frames.specs.Returns.{carried, wants_carried, Carries, kind_of_byte, ReturnRead, no_kind, of_kind, kind_at, contents_at, by_kind, behind_kind, first_byte, return_at, ReadsReturn, BreaksReturn, GivesReturn, IsArgument, IsBodyOf, ReadsCarried, ReadsContents}
+use Rattle.jrmp_frames.specs.Returns.{carried_type, wants_carried, Carries, kind_of_byte, ReturnRead, no_kind, of_kind, kind_at, contents_at, by_kind, behind_kind, first_byte, return_at, ReadsReturn, BreaksReturn, GivesReturn, IsArgument, IsBodyOf, ReadsCarried, ReadsContents}
 use Rattle.jrmp_frames.proofs.Heads.{front_is}
-use Rattle.jrmp_frames.proofs.Calls.{Whole, Serving, headed, closed, served, regroup, served_whole}
+use Rattle.jrmp_frames.proofs.Calls.{Whole, Serving, headed, closed, regroup, served_whole}
 
 -- ---- the kind
 
@@ -190,7 +189,7 @@ behind_other p result_type byte at s other here =
       said {a = λ end bs. Ok (no_kind byte at, bs)} (λ end bs ends. behind_is result_type byte None end s bs other ∙ other_byte byte at (end - length bs - 1) bs (omega (arith, ends, here))) (done (λ end bs. refl)),
     )
 
-pub behind_read : {p q : PullState} (result_type : Option TypeCode) (byte : ℕ) (normal : Bool) (s : Stand) (uid : Uid) (body : Body) → kind_of_byte byte ≡ Some normal → ReadsContents p q s (carried result_type normal) uid body
+pub behind_read : {p q : PullState} (result_type : Option TypeCode) (byte : ℕ) (normal : Bool) (s : Stand) (uid : Uid) (body : Body) → kind_of_byte byte ≡ Some normal → ReadsContents p q s (carried_type result_type normal) uid body
     → ReadsReturn p q (λ end. behind_kind result_type byte end s) result_type normal uid body
 behind_read {p} {q} result_type byte normal s uid body known c = record {
   answers = c.answers;
@@ -200,7 +199,7 @@ behind_read {p} {q} result_type byte normal s uid body known c = record {
   carries = c.carries;
 }
 
-pub behind_breaks : {p q : PullState} {e : StreamFault} (result_type : Option TypeCode) (byte : ℕ) (normal : Bool) (s : Stand) → kind_of_byte byte ≡ Some normal → WantBreaks p q e (λ end. contents_at (carried result_type normal) end s)
+pub behind_breaks : {p q : PullState} {e : StreamFault} (result_type : Option TypeCode) (byte : ℕ) (normal : Bool) (s : Stand) → kind_of_byte byte ≡ Some normal → WantBreaks p q e (λ end. contents_at (carried_type result_type normal) end s)
     → WantBreaks p q e (λ end. behind_kind result_type byte end s)
 behind_breaks result_type byte normal s known h = want_breaks_as (λ end bs f here is. behind_is result_type byte (Some normal) end s bs known ∙ rw is refl) h
 

@@ -1,6 +1,6 @@
 -- What reading a call does.
 use Rattle.wire_io.specs.Wire.{ReadHalf}
-use Rattle.std.specs.Prelude.{◌≡◌, ◌≤◌, ℕ, List, [], ◌∷◌, length, Option, None, Result, Ok, Err}
+use Rattle.std.specs.Prelude.{◌≡◌, ◌≤◌, ℕ, List, [], ◌∷◌, length, None, Result, Ok, Err}
 use Rattle.wire_io.specs.Pulled.{PullState, Takes}
 use Rattle.wire_io.specs.declared.pull.Pull.{Pull}
 use Rattle.class_desc.specs.declared.field.TypeCode.{TypeCode}

@@ -17,7 +17,7 @@ use Rattle.jrmp_frames.specs.declared.arguments.Arguments.{Arguments}
 use Rattle.jrmp_frames.specs.declared.message.Body.{Body}
 use Rattle.jrmp_frames.specs.declared.message.Body.TheVariants.{Void, Prim, Tree}
 use Rattle.jrmp_frames.specs.Messages.{head_bytes, return_front, want_of, value_of, CallBytes, ReturnBytes}
-use Rattle.jrmp_frames.specs.Returns.{carried, wants_carried, ReturnOf, of_kind, return_at}
+use Rattle.jrmp_frames.specs.Returns.{carried_type, wants_carried, ReturnOf, of_kind, return_at}
 
 -- The bytes begin a call and end with its head: 50, the stream's magic number and version, and block data up to the last of the head's 34
 -- bytes, after which so many are left of the present block.
@@ -51,7 +51,7 @@ CallHasHead = (head : CallHead) (params : List TypeCode) (arguments : Arguments)
 pub record ReturnInFront (result_type : Option TypeCode) (normal : Bool) (uid : Uid) (answers : List Item) (nodes : List Node) (bytes rest : List ℕ) : Type 0 where
   pub contents : List ℕ
   pub is : bytes ≡ 0xAC ∷ 0xED ∷ 0x00 ∷ 0x05 ∷ (contents ++ rest)
-  pub asked : SpellsWants (wanted.Bytes 15 ∷ wants_carried (carried result_type normal)) (items.Bytes (return_front normal uid) ∷ answers) nodes contents
+  pub asked : SpellsWants (wanted.Bytes 15 ∷ wants_carried (carried_type result_type normal)) (items.Bytes (return_front normal uid) ∷ answers) nodes contents
 
 -- Reading gives a return where one stands in front, whatever comes after it, and nowhere else.
 abbrev pub ReturnsAreRead : Type 0
@@ -82,5 +82,5 @@ HasType _ _ = ⊥
 
 -- A return that is written of a body of the type that its kind carries, is one for that type.
 abbrev pub WrittenIsReturn : Type 0
-WrittenIsReturn = (result_type : Option TypeCode) (normal : Bool) (uid : Uid) (body : Body) (bytes : List ℕ) → HasType (carried result_type normal) body
+WrittenIsReturn = (result_type : Option TypeCode) (normal : Bool) (uid : Uid) (body : Body) (bytes : List ℕ) → HasType (carried_type result_type normal) body
     → ReturnBytes normal uid body bytes → ReturnOf result_type normal uid body bytes

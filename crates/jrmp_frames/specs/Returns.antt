@@ -29,9 +29,9 @@ use Rattle.jrmp_frames.specs.Calls.{front_at}
 -- ---- returns of a method
 
 -- the type of what a return carries, where the method's result has this type, or it has none: a result, or an exception, which is a reference
-abbrev pub carried : Option TypeCode → Bool → Option TypeCode
-carried result_type true = result_type
-carried result_type false = Some codes.Object
+abbrev pub carried_type : Option TypeCode → Bool → Option TypeCode
+carried_type result_type true = result_type
+carried_type result_type false = Some codes.Object
 
 -- what is wanted of the stream for it
 abbrev pub wants_carried : Option TypeCode → List Want
@@ -52,8 +52,8 @@ pub record ReturnOf (result_type : Option TypeCode) (normal : Bool) (uid : Uid) 
   pub headed : bytes ≡ 0x51 ∷ 0xAC ∷ 0xED ∷ 0x00 ∷ 0x05 ∷ contents
   pub answers : List Item
   pub nodes : List Node
-  pub asked : SpellsWants (wanted.Bytes 15 ∷ wants_carried (carried result_type normal)) (items.Bytes (return_front normal uid) ∷ answers) nodes contents
-  pub carries : Carries (carried result_type normal) answers nodes body
+  pub asked : SpellsWants (wanted.Bytes 15 ∷ wants_carried (carried_type result_type normal)) (items.Bytes (return_front normal uid) ∷ answers) nodes contents
+  pub carries : Carries (carried_type result_type normal) answers nodes body
 
 -- ---- as they are read
 
@@ -78,7 +78,7 @@ contents_at code end stand bs = serve_to_close end (wanted.Bytes 14 ∷ wants_ca
 -- what follows this byte in the place of a kind
 abbrev pub by_kind : Option TypeCode → ℕ → Option Bool → ℕ → Stand → List ℕ → Result (ReturnRead × List ℕ) WantFault
 by_kind result_type byte None end stand bs = Ok (no_kind byte (end - length bs - 1), bs)
-by_kind result_type byte (Some normal) end stand bs = contents_at (carried result_type normal) end stand bs ▸ λ x. Ok (of_kind normal x.0 x.1 x.2, x.3)
+by_kind result_type byte (Some normal) end stand bs = contents_at (carried_type result_type normal) end stand bs ▸ λ x. Ok (of_kind normal x.0 x.1 x.2, x.3)
 
 abbrev pub behind_kind : Option TypeCode → ℕ → ℕ → Stand → List ℕ → Result (ReturnRead × List ℕ) WantFault
 behind_kind result_type byte end stand bs = by_kind result_type byte (kind_of_byte byte) end stand bs
@@ -105,7 +105,7 @@ pub record ReadsReturn (old new : PullState) (read : ℕ → List ℕ → Result
   pub nodes : List Node
   pub whole : List Item
   pub reads : Reads (inside short) old new read (λ rest. (of_kind normal (items.Bytes (bytes_of_uid uid) ∷ answers) nodes whole, rest))
-  pub carries : Carries (carried result_type normal) answers nodes body
+  pub carries : Carries (carried_type result_type normal) answers nodes body
 
 -- Which bytes were taken where this fault is answered, and why reading ends there. At a byte that is no kind they end with it.
 abbrev pub BreaksReturn : PullState → PullState → FrameFault → (ℕ → List ℕ → Result (ReturnRead × List ℕ) WantFault) → Type 0
@@ -117,7 +117,7 @@ BreaksReturn old new _ read = ⊥
 abbrev pub GivesReturn : {S : Type 0} → (S → ReadHalf) → Pull S → Pull S → Option TypeCode → Result (Bool × Uid × Body) FrameFault → Type 0
 GivesReturn half old new result_type (Ok x) = IsTold half old → (answers : List Item) × (nodes : List Node) × (whole : List Item)
     × (return_at result_type (env half old).end (coming half old) ≡ Ok (of_kind x.0 (items.Bytes (bytes_of_uid x.1) ∷ answers) nodes whole, coming half new))
-    × Carries (carried result_type x.0) answers nodes x.2
+    × Carries (carried_type result_type x.0) answers nodes x.2
 GivesReturn half old new result_type (Err (BadKind byte at)) = IsTold half old → return_at result_type (env half old).end (coming half old) ≡ Ok (no_kind byte at, coming half new)
 GivesReturn half old new result_type (Err (Stream fault)) = IsTold half old → WantFails (env half old).after fault (return_at result_type (env half old).end (coming half old))
 GivesReturn half old new result_type (Err _) = ⊥

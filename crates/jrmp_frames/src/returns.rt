@@ -4,7 +4,7 @@ ghost use Rattle.wire_io.specs.Pulled.{pull_state};
 ghost use Rattle.ser_values.specs.Fronts.{without_front};
 ghost use Rattle.ser_read.specs.Wants.{WantStopsTaken, WantReadsTaken, serve, serve_to_close};
 ghost use Rattle.jrmp_frames.specs.Calls.{CausedIn};
-ghost use Rattle.jrmp_frames.specs.Returns.{carried, wants_carried, kind_of_byte, kind_at, contents_at, behind_kind, return_at, TakesReturn, ReadsReturn, BreaksReturn, GivesReturn, HasKind, ReadsCarried, ReadsToClose, ReadsContents, IsBodyOf};
+ghost use Rattle.jrmp_frames.specs.Returns.{carried_type, wants_carried, kind_of_byte, kind_at, contents_at, behind_kind, return_at, TakesReturn, ReadsReturn, BreaksReturn, GivesReturn, HasKind, ReadsCarried, ReadsToClose, ReadsContents, IsBodyOf};
 
 use crate::arguments::{Arg, read_arg};
 use crate::fault::FrameFault;
@@ -33,8 +33,8 @@ fn kind_of(byte: u8) -> Option<bool>
 }
 
 /// The type of what a return carries: a result of the method, or an exception.
-fn carried(result_type: Option<TypeCode>, normal: bool) -> Option<TypeCode>
-    ensures { result ≡ carried result_type normal }
+fn carried_type(result_type: Option<TypeCode>, normal: bool) -> Option<TypeCode>
+    ensures { result ≡ carried_type result_type normal }
 {
     if normal {
         result_type
@@ -165,7 +165,7 @@ fn read_behind<S: Source>(
             at: pull.at - 1,
         });
     };
-    match read_contents(alloc, pull, reader, carried(result_type, normal)) {
+    match read_contents(alloc, pull, reader, carried_type(result_type, normal)) {
         Ok(contents) => {
             let (uid, body) = contents;
             Ok((normal, uid, body))

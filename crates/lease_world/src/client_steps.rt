@@ -91,7 +91,7 @@ impl World {
             return Err(WorldFault::BadStep);
         }
         let letter = &self.letters[call as usize];
-        let Some(granted) = letter.granted() else {
+        let Some(granted) = letter.grant() else {
             return Err(WorldFault::BadStep);
         };
         let at = usize::from(letter.call().client);

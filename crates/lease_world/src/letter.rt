@@ -43,7 +43,7 @@ impl Letter {
     }
 
     /// The duration that the last delivery was granted, at most 2^40 milliseconds; None exactly where the call never arrived.
-    pub fn granted(&self) -> Option<u64>
+    pub fn grant(&self) -> Option<u64>
         ensures value { result ≡ self.now.granted }
         ensures within { IfSome result (λ duration. duration ≤ MAX_DURATION_MS) }
     {

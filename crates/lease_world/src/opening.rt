@@ -34,7 +34,7 @@ fn config_of(lease_ms: u64, ack_ms: u64) -> SpaceConfig
 }
 
 /// The server's space, which has exported the object whose calls make the others. It is refused only for want of memory.
-pub(crate) fn opened(alloc: Global, lease_ms: u64, ack_ms: u64) -> Result<Space, WorldFault>
+pub(crate) fn open_space(alloc: Global, lease_ms: u64, ack_ms: u64) -> Result<Space, WorldFault>
     requires some_lease { 1 ≤ lease_ms }
     requires short_lease { lease_ms ≤ MAX_DURATION_MS }
     requires some_ack { 1 ≤ ack_ms }

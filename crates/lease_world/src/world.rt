@@ -8,7 +8,7 @@ ghost use Rattle.lease_world.specs.declared.fault.WorldFault.TheVariants as faul
 use crate::fault::WorldFault;
 use crate::letter::Letter;
 use crate::member::Member;
-use crate::opening::{members_of, opened};
+use crate::opening::{members_of, open_space};
 use crate::step::Step;
 use space::Space;
 use std::alloc::Global;
@@ -89,7 +89,7 @@ impl World {
         ensures table { IfOk result (λ fresh. ForEachCourse fresh
             (λ course. fresh.space.rows ≡ rows_of (world course))) }
     {
-        let space = opened(alloc, lease_ms, ack_ms)?;
+        let space = open_space(alloc, lease_ms, ack_ms)?;
         let members = members_of(alloc, lease_ms, clients)?;
         Ok(World {
             alloc,

@@ -189,10 +189,10 @@ letter_stands_out codes.Boolean = (refl, refl)
 letter_stands_out codes.Array = (refl, refl)
 letter_stands_out codes.Object = (refl, refl)
 
-head_is : (b c : ℕ) (t u : List ℕ) → b ∷ t ≡ c ∷ u → b ≡ c
+pub head_is : (b c : ℕ) (t u : List ℕ) → b ∷ t ≡ c ∷ u → b ≡ c
 head_is b c t u e = cc
 
-tail_is : (b c : ℕ) (t u : List ℕ) → b ∷ t ≡ c ∷ u → t ≡ u
+pub tail_is : (b c : ℕ) (t u : List ℕ) → b ∷ t ≡ c ∷ u → t ≡ u
 tail_is b c t u e = cc
 
 -- a byte and what follows it, as they are spelled

@@ -127,7 +127,8 @@ type_of codes.Boolean c t e h = inr (inr (codes.Boolean, refl, e, h))
 type_of codes.Array c t e h = inl (e, h)
 type_of codes.Object c t e h = inr (inl (e, h))
 
-primitive_tail : (code : TypeCode) (t : List ℕ) → is_primitive code ≡ true → t ≡ [] → IsTail code t
+-- A primitive type has nothing behind its letter.
+pub primitive_tail : (code : TypeCode) (t : List ℕ) → is_primitive code ≡ true → t ≡ [] → IsTail code t
 primitive_tail codes.Byte t p h = h
 primitive_tail codes.Char t p h = h
 primitive_tail codes.Double t p h = h
@@ -139,7 +140,8 @@ primitive_tail codes.Boolean t p h = h
 primitive_tail codes.Array t p h = absurd cc
 primitive_tail codes.Object t p h = absurd cc
 
-kind_of : (c : ℕ) (t : List ℕ) → IsType (c ∷ t) → (code : TypeCode) × (c ≡ letter code) × IsTail code t
+-- The type that a text begins with.
+pub kind_of : (c : ℕ) (t : List ℕ) → IsType (c ∷ t) → (code : TypeCode) × (c ≡ letter code) × IsTail code t
 kind_of c t h = elim h [
   | inl p ↦ (codes.Array, p.0, p.1)
   | inr q ↦ elim q [

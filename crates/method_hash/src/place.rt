@@ -46,8 +46,8 @@ pub(crate) enum TextPlace {
     End,
 }
 
-/// Returns whether a class's name may contain a byte.
-fn is_class_byte(byte: u8) -> bool
+/// Returns whether a class's name may contain a byte, in the text of a type.
+pub fn is_class_byte(byte: u8) -> bool
     ensures { result ≡ is_class_byte byte }
 {
     0x21 <= byte && byte <= 0x7E && byte != b';' && byte != b'(' && byte != b')' && byte != b'['

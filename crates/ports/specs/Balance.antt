@@ -1,13 +1,15 @@
 -- Which calls a connection's entries begin and end, and what that says of the calls that it runs, where other connections' events
 -- stand between its own.
-use Rattle.std.specs.Prelude.{◌≡◌, ◌≢◌, ◌+◌, ℕ, List, [], ◌∷◌, ◌++◌, length, filter}
+use Rattle.std.specs.Prelude.{◌≡◌, ◌≢◌, ◌+◌, ℕ, Bool, false, List, [], ◌∷◌, ◌++◌, length, filter}
 use Rattle.object_ids.specs.declared.ids.ObjId.{ObjId}
 use Rattle.history.specs.declared.asks.SpaceConfig.{SpaceConfig}
 use Rattle.history.specs.declared.asks.Event.{Event}
 use Rattle.history.specs.Running.{running_calls_by}
 use Rattle.history.specs.Table.{places}
 use Rattle.space.specs.declared.asked.Asked.{Asked}
-use Rattle.ports.specs.Ports.{begins, ends, GoesBy, Went}
+use Rattle.space.specs.declared.asked.AskedEnd.{AskedEnd}
+use Rattle.space.specs.declared.asked.AskedEnd.TheVariants.{Turned}
+use Rattle.ports.specs.Ports.{begins, ends, is_started, GoesBy, Went}
 
 -- How many calls of an object the entries begin, and how many they end.
 abbrev pub calls_begun : List Asked → ObjId → ℕ
@@ -15,6 +17,15 @@ calls_begun entries o = length (filter (begins o) entries)
 
 abbrev pub calls_ended : List Asked → ObjId → ℕ
 calls_ended entries o = length (filter (ends o) entries)
+
+-- An entry that ends so began a call: it was answered Started, as none but a Begin is.
+abbrev pub is_start : AskedEnd → Bool
+is_start (Turned turn) = is_started turn.reply
+is_start _ = false
+
+-- How many calls the entries begin, of whatever objects.
+abbrev pub calls_in : List Asked → ℕ
+calls_in entries = length (filter (λ entry. is_start entry.end) entries)
 
 -- The entries end as many calls of each object as they begin.
 abbrev pub Balanced : List Asked → Type 0

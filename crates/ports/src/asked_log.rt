@@ -1,10 +1,11 @@
 //! The entries of a port in few bytes.
-ghost use Rattle.std.specs.Prelude.{◌≡◌, ◌⊎◌, ◌≤◌, ◌<◌, ◌+◌, ◌^◌, ◌++◌, ◌∷◌, [], ◌↔◌, true, length, map, slice_get, option_map, Some, IsTrue, IfOk, OnOk};
+ghost use Rattle.std.specs.Prelude.{◌≡◌, ◌⊎◌, ◌≤◌, ◌<◌, ◌+◌, ◌^◌, ◌++◌, ◌∷◌, [], ◌↔◌, true, filter, length, map, slice_get, option_map, Some, IsTrue, IfOk, OnOk};
 ghost use Rattle.std.specs.List.{AllByRecursion};
 ghost use Rattle.ports.specs.AskedRows.{IsKnownRow, IsPlainEnd, entry_of_row};
 ghost use Rattle.ports.specs.AskedViews.{entry_of_view};
+ghost use Rattle.ports.specs.Balance.{calls_in, is_start};
 
-use crate::asked_rows::{AskedRow, is_plain, plain_row, view_of, whole_row};
+use crate::asked_rows::{AskedRow, is_plain, is_start, plain_row, view_of, whole_row};
 use crate::asked_view::AskedView;
 use sequence::TryCopy;
 use space::{Asked, AskedList};
@@ -48,7 +49,7 @@ impl fmt::Debug for AskedLog {
 }
 
 impl Model for AskedLog {
-    ghost use Rattle.std.specs.Prelude.{◌≡◌, ◌<◌, true, length, map, vec_capacity};
+    ghost use Rattle.std.specs.Prelude.{◌≡◌, ◌<◌, true, filter, length, map, vec_capacity};
     ghost use Rattle.std.specs.List.{AllByRecursion};
     ghost use Rattle.ports.specs.AskedLog.{AskedRecord};
     ghost use Rattle.ports.specs.AskedRows.{IsKnownRow, entry_of_row};
@@ -85,6 +86,13 @@ fn copies_of(alloc: Global, wholes: &[Asked], rows: &[AskedRow]) -> Result<Asked
     Ok(list)
 }
 
+/// Returns the number of rows whose entries began a call, where these are kept whole.
+fn starts_in(wholes: &[Asked], rows: &[AskedRow]) -> usize
+    ensures { result ≡ length (filter (λ row. is_start (entry_of_row wholes.now row).end) rows.now) }
+{
+    rows.iter().filter(|row| is_start(wholes, row)).count()
+}
+
 impl AskedLog {
     /// A list with copies of the entries. It is refused only for want of memory.
     pub fn copies(&self, alloc: Global) -> Result<AskedList, AllocError>
@@ -111,6 +119,13 @@ impl AskedLog {
         ensures few { result < 2 ^ 63 }
     {
         self.rows.len()
+    }
+
+    /// Returns the number of entries that began a call. It looks at each entry.
+    pub fn calls(&self) -> u64
+        ensures { result ≡ calls_in self.now.items }
+    {
+        starts_in(self.wholes.as_slice(), self.rows.as_slice()) as u64
     }
 
     /// The entry at a place, counted from 0: none where there are no more entries than that. It takes no memory.
@@ -204,6 +219,13 @@ impl PortEntries {
         ensures { IsTrue result ↔ (self.now ≡ []) }
     {
         self.log.len() == 0
+    }
+
+    /// Returns the number of entries that began a call. It looks at each entry.
+    pub fn calls(&self) -> u64
+        ensures { result ≡ calls_in self.now }
+    {
+        self.log.calls()
     }
 
     /// The entry at a place, counted from 0: none where there are no more entries than that. It takes no memory.

@@ -7,6 +7,8 @@ ghost use Rattle.space.specs.declared.asked.Asked.{Asked as Entry};
 ghost use Rattle.space.specs.declared.asked.AskedEnd.TheVariants.{Turned, Abandoned};
 ghost use Rattle.ports.specs.AskedRows.{IsStarted, IsPlainReply, IsPlainEnd, IsAbandon, IsAmongWhole, IsKnownRow, entry_of_row, entry_with, plain_turn, whole_at};
 ghost use Rattle.ports.specs.AskedViews.{entry_of_view};
+ghost use Rattle.ports.specs.Balance.{is_start};
+ghost use Rattle.ports.specs.Ports.{is_started};
 
 use crate::asked_view::AskedView;
 use history::{Ask, Reply, Turn};
@@ -208,6 +210,49 @@ pub(crate) fn whole_row(moment: u64, number: usize) -> AskedRow
 {
     let what = AskedWhat::Whole(number);
     AskedRow { moment, what }
+}
+
+// ---- calls
+
+/// Returns whether an entry that ends so began a call.
+fn ends_as_start(end: &AskedEnd) -> bool
+    ensures { result ≡ is_start end.now }
+{
+    match end {
+        AskedEnd::Turned(turn) => has_started(&turn.reply),
+        AskedEnd::Refused(_) | AskedEnd::Abandoned(_) => false,
+    }
+}
+
+/// Returns whether a reply says that a call was begun.
+pub(crate) fn has_started(reply: &Reply) -> bool
+    ensures { result ≡ is_started reply.now }
+{
+    match reply {
+        Reply::Started(_kind) => true,
+        _ => false,
+    }
+}
+
+/// Returns whether the entry that is kept whole under this number began a call.
+fn is_whole_start(wholes: &[Asked], number: usize) -> bool
+    ensures { result ≡ is_start (whole_at wholes.now number).end }
+{
+    match wholes.get(number) {
+        Some(entry) => ends_as_start(&entry.end),
+        None => false,
+    }
+}
+
+/// Returns whether the entry of a row began a call, where these are kept whole.
+pub(crate) fn is_start(wholes: &[Asked], row: &AskedRow) -> bool
+    ensures { result ≡ is_start (entry_of_row wholes.now row.now).end }
+{
+    match &row.what {
+        AskedWhat::Began { .. } => true,
+        AskedWhat::Returned { .. } | AskedWhat::GivenUp { .. } | AskedWhat::Acked { .. } => false,
+        AskedWhat::Whole(number) => is_whole_start(wholes, *number),
+    }
 }
 
 // ---- reading

@@ -1,8 +1,11 @@
 //! Entries of a port in no bytes.
-ghost use Rattle.std.specs.Prelude.{◌≡◌, ◌++◌, ◌∷◌, []};
+ghost use Rattle.std.specs.Prelude.{◌≡◌, ◌<◌, ◌^◌, ◌++◌, ◌∷◌, [], if◌then◌else◌};
+ghost use Rattle.space.specs.Entries.{end_of};
+ghost use Rattle.ports.specs.Balance.{calls_in, is_start};
 ghost use Rattle.ports.specs.Ports.{abandoned_at, entries_of};
 ghost use Rattle.ports.specs.ToldEntries.{entries_with};
 
+use crate::asked_rows::has_started;
 use history::{Ask, Refused, Turn};
 use object_ids::ObjId;
 use past::Past;
@@ -22,12 +25,14 @@ pub enum ToldEntry {
 /// The entries of a port, oldest first. They exist in proofs alone, and appending takes no memory. Contracts see the list of them.
 pub struct ToldLog {
     entries: Past<ToldEntry>,
+    /// The number of entries that began a call, where it is below 2^64.
+    calls: u64,
 }
 
 // Written out, so that whoever owns one has one call at each exit.
 impl Drop for ToldLog {
     fn drop(self) {
-        let ToldLog { entries } = self;
+        let ToldLog { entries, calls: _ } = self;
         drop(entries);
     }
 }
@@ -39,13 +44,16 @@ impl fmt::Debug for ToldLog {
 }
 
 impl Model for ToldLog {
-    ghost use Rattle.std.specs.Prelude.{List};
+    ghost use Rattle.std.specs.Prelude.{◌≡◌, ◌<◌, ◌^◌, List};
     ghost use Rattle.space.specs.declared.asked.Asked.{Asked};
+    ghost use Rattle.ports.specs.Balance.{calls_in};
     ghost use Rattle.ports.specs.ToldEntries.{entries_told};
 
     ghost Value = { List Asked };
 
     ghost view = { λ l. entries_told l.entries };
+
+    ghost invariant = { λ l. calls_in (entries_told l.entries) < 2 ^ 64 → l.calls ≡ calls_in (entries_told l.entries) };
 }
 
 impl ToldLog {
@@ -55,32 +63,54 @@ impl ToldLog {
     {
         ToldLog {
             entries: Past::new(),
+            calls: 0,
         }
+    }
+
+    /// Returns the number of entries that began a call, where it is below 2^64.
+    pub fn calls(&self) -> u64
+        ensures { calls_in self.now < 2 ^ 64 → result ≡ calls_in self.now }
+    {
+        self.calls
     }
 
     /// Appends the entry of a turn, if it has one: a turn for which there was no memory has none.
     pub fn push_turn(&mut self, moment: u64, ask: Snapshot<Ask>, answer: &Result<Turn, Refused>)
         ensures { self.new ≡ self.old ++ entries_of moment ask.value answer.now }
     {
-        self.push(ToldEntry::Answered(Snapshot::of(&moment), ask, Snapshot::of(answer)));
+        let told = ToldEntry::Answered(Snapshot::of(&moment), ask, Snapshot::of(answer));
+        self.push(told, is_start(answer));
     }
 
     /// Appends the entry of a call that was ended without an answer, at this place of the history.
     pub fn push_abandoned(&mut self, moment: u64, object: ObjId, place: u64)
         ensures { self.new ≡ self.old ++ abandoned_at moment object place ∷ [] }
     {
-        self.push(ToldEntry::GivenUp(
+        let told = ToldEntry::GivenUp(
             Snapshot::of(&moment),
             Snapshot::of(&object),
             Snapshot::of(&place),
-        ));
+        );
+        self.push(told, false);
     }
 
-    /// Appends the entries of one call.
+    /// Appends the entries of one call or turn, which begins a call or doesn't.
     #[tactic(auto, using(crate::proofs::ToldLaws::told_more))]
-    fn push(&mut self, told: ToldEntry)
+    fn push(&mut self, told: ToldEntry, begins: bool)
+        requires { calls_in (entries_with told) ≡ (if begins then 1 else 0) }
         ensures { self.new ≡ self.old ++ entries_with told }
     {
         self.entries.push(&told);
+        self.calls = self.calls.saturating_add(u64::from(begins));
+    }
+}
+
+/// Returns whether a turn that was answered so began a call.
+fn is_start(answer: &Result<Turn, Refused>) -> bool
+    ensures { result ≡ is_start (end_of answer.now) }
+{
+    match answer {
+        Ok(turn) => has_started(&turn.reply),
+        Err(_refused) => false,
     }
 }

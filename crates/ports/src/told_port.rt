@@ -17,7 +17,7 @@ pub type ToldPort<'a> = SpacePort<'a, ToldLog>;
 
 impl<'a> SpacePort<'a, ToldLog> {
     /// The port of a connection. Its entries begin with the next turn.
-    pub fn told(space: &'a mut Space, by: u32) -> ToldPort<'a>
+    pub fn new_told(space: &'a mut Space, by: u32) -> ToldPort<'a>
         ensures same_reference { result.space.ghost_name ≡ space.entry.ghost_name }
         ensures values { (result.space.now ≡ space.old) × (result.by ≡ by) × (result.asked ≡ []) }
         ensures ready { IsTiedTold result.by result.space.now result.asked }

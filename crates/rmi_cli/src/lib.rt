@@ -1,5 +1,63 @@
 // SPDX-License-Identifier: Apache-2.0 OR MIT
-//! All that the program `rmi` does, over any input and output.
+//! All that the program `rmi` does, over any input and output. `run` takes the words and a `Host`:
+//! the input, output and errors' sink, a clock, a listener, a dialer, and random words.
+//! `docs/GUIDE.md` explains the commands.
+//!
+//! # What is proved of `run`
+//!
+//! The status and the line on the errors' sink are those of one end. The sink took the line, or a
+//! prefix of it and failed. If there is no memory for the line, the status is 5. Words that are no
+//! command line read and write nothing else (`usage`, `no_command`, `untouched`).
+//!
+//! Who does what: only `answer`, `call` and `host` ask the clock (`clock`), only `serve` and `host`
+//! the listener (`network`), only a client's commands the dialer (`dialing`); these read nothing
+//! (`unread`). Nothing is shut (`open`, `errors_open`).
+//!
+//! Causes: status 3 comes only if the input (`read_fault`), the listener (`network_fault`,
+//! `host_fault`), the dialer or a link's source (`link_fault`) failed. Status 4 comes only if the
+//! output (`write_fault`) or a link's sink (`sink_fault`) failed. If neither did, `serve` and
+//! `host` end with 0 or 5 (`settled`, `host_settled`).
+//!
+//! Below, a written text may also be cut, if the output failed, or absent, for lack of memory.
+//!
+//! - `answer`: the bytes taken and written are a dialogue with this end, over the sample's space,
+//!   and the only one of this input and of what clock, space and worker answered. A told input that
+//!   begins with a dialogue without turns has that one (`exact`). Each Call is invoked at most
+//!   once. Whole messages are answered to their end.
+//! - `serve`: its port of 127.0.0.1 was listened on, and no other. What it served is `ServesLinks`
+//!   of `conn_server`. The reports are left in `served`, and the outline of the one history was
+//!   written (`serves`).
+//! - `host`: the same of its port of its address, over a space that keeps no events (`hosts`,
+//!   `HostsLinks`). With `silent`, what is exported at the end was written; with `journal`, the
+//!   first line and a line for each event. The errors' sink took a line when it listened and one
+//!   for each ended link. The host's own input is not read (`host_unread`).
+//! - `list`, `lookup`, `bind`, `unbind`: one talk by the command's script, the only one if the link
+//!   tells its bytes. The answer was printed if the talk ended well, and nothing otherwise. The
+//!   halves are left in `talked`, shut (`asks`).
+//! - `call`: the same on two links. The seed decides who calls, the words what is called (`calls`).
+//! - `replay`: the whole input was a journal and its outline was written; or `bad line N` spells no
+//!   event; or the next event passes a limit (`refused`); or the input is too large (`replay`,
+//!   `replay_exact`). Of a bad line and a refused event the earlier counts.
+//! - `show`: the whole input was a stream and its graph's text was written; or the first fault is
+//!   named, and nothing behind it was read (`show`, `show_exact`).
+//! - `drill`, `journal`: the summary or journal of the drill's history was written (`drill`,
+//!   `drill_exact`).
+//! - `world`: the whole input was a script, and its world's end was written (`world`,
+//!   `world_exact`). With status 0 each object that is promised to a client is exported in the
+//!   printed world (`promise`: `world` with a law of all worlds).
+//! - `suid`, `suidtext`, `describe`: the whole input was an outline, and its number, text or
+//!   description was written; or the first bad line is named (`class`, `class_exact`).
+//! - `help`: the table's text was written (`help`).
+//!
+//! # What is not
+//!
+//! - That the bytes are those of real files and sockets. The adapters of `wire_io` are tested.
+//! - At `answer`, that the worker was given nothing besides. At `serve`, where a real listener
+//!   listens, and how often a failing one was asked. At `host`, that links give no more bytes after
+//!   the stop.
+//!
+//! Limits are constants that clauses cite. That they are what the documents say is proved (`prove!`
+//! in `src/limits.rt`).
 #![tactic(auto)]
 
 mod answer_input;
@@ -12,9 +70,12 @@ mod class_output;
 mod client_output;
 mod drill_output;
 mod end;
+mod event_lines;
 mod help_output;
 mod host;
+mod host_desk;
 mod host_input;
+mod host_parts;
 mod journal_input;
 mod limits;
 mod link_line;
@@ -23,6 +84,7 @@ mod opening;
 mod outlines;
 mod program;
 mod serve_input;
+mod sink_state;
 mod stream_input;
 mod talk_end;
 mod talk_text;
@@ -38,6 +100,6 @@ pub use outlines::{ReplayFault, replay};
 pub use program::run;
 pub use rmi_words::{
     Address, Argument, ArgumentList, CallWords, ClassOutput, ClientCommand, Command, DrillText,
-    HelpTopic, HostWords, LeaseOptions, ServeWords, ServerAddress, Words, WordsFault,
+    HelpTopic, HostWords, LeaseOptions, Record, ServeWords, ServerAddress, Words, WordsFault,
 };
 pub use stream_input::STREAM_BYTES;

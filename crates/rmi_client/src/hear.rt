@@ -13,8 +13,8 @@ use wire_io::{LAST_POSITION, Pull, Source};
 
 const _: () = prove!(MESSAGE_BYTES == 16_777_216);
 
-/// Reads the server's answer to a connection's header (Java RMI Specification, 10.3, ProtocolAck and ProtocolNotSupported) from this
-/// position on, and sets the position behind what was taken: `4E`, and the client's host and port as the server sees them.
+/// Reads the server's answer to a connection's header, and sets the position behind what was taken (Java RMI Specification, 10.3,
+/// ProtocolAck and ProtocolNotSupported). It takes `4E`, and the client's host and port as the server sees them.
 ///
 /// `Nack` comes exactly at the answer `4F`, `BadReply` with `NotReturn` at any other first byte, and `Truncated` where the input ends before
 /// or inside the acknowledgement.
@@ -48,8 +48,8 @@ pub fn hear_ping<S: Source>(source: &mut S, at: &mut u64) -> Result<(), ClientEn
     result
 }
 
-/// Reads the Return of a call (Java RMI Specification, 10.3, ReturnData) from this position on, for a method whose result has this type, or
-/// that has none, and sets the position behind what was taken.
+/// Reads the Return of a call, and sets the position behind what was taken (Java RMI Specification, 10.3, ReturnData). The method's
+/// result has this type, or the method has none.
 ///
 /// `RemoteFault` comes exactly where the Return is an exception with a part of class `java.lang.Throwable`; any other exception is
 /// `BadReply` with `WrongShape`.

@@ -41,7 +41,7 @@ fn collector_head(method: CollectorMethod) -> CallHead
 }
 
 /// A reference, a number and another reference as the arguments of a call.
-fn numbered(alloc: Global, first: Slot, number: &i64, second: Slot) -> Result<Items, AllocError>
+fn items_with(alloc: Global, first: Slot, number: &i64, second: Slot) -> Result<Items, AllocError>
     ensures { IfOk result (λ arguments. arguments ≡ listed.Ref first
         ∷ listed.Bytes (signed_bytes w64 number.now) ∷ listed.Ref second ∷ []) }
 {
@@ -66,7 +66,7 @@ fn dirty_call(
     let mut b = Builder::new(alloc);
     let objects = put_objids(alloc, &mut b, ids)?;
     let lease = put_lease(alloc, &mut b, *asked, vmid)?;
-    let arguments = numbered(alloc, objects, number, lease)?;
+    let arguments = items_with(alloc, objects, number, lease)?;
     built_call(alloc, collector_head(CollectorMethod::Dirty), b, arguments)
 }
 
@@ -91,7 +91,7 @@ fn clean_call(
     let mut b = Builder::new(alloc);
     let objects = put_objids(alloc, &mut b, ids)?;
     let client = put_vmid(alloc, &mut b, vmid)?;
-    let mut arguments = numbered(alloc, objects, number, client)?;
+    let mut arguments = items_with(alloc, objects, number, client)?;
     put_truth(alloc, &mut arguments, strong)?;
     built_call(alloc, collector_head(CollectorMethod::Clean), b, arguments)
 }

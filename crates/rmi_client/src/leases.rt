@@ -82,8 +82,8 @@ fn grant_in(alloc: Global, plan: &Plan, answer: &Answer, at: u64) -> Result<u64,
 impl<S: Source, K: Sink> Session<S, K> {
     ghost use Rattle.rmi_client.specs.Sessions.{link_of, Asks};
 
-    /// Sends a lease call of a client's table to the collector. A dirty call asks for a lease of so many milliseconds, and the answer is the duration
-    /// that is granted, in milliseconds: 0 for each grant below 0, and 2^40 for each above that. For a clean call the answer is 0.
+    /// Sends a lease call of a client's table to the collector. A dirty call asks for a lease of so many milliseconds. The answer is the duration that
+    /// is granted, in milliseconds. It is 0 for each grant below 0, and 2^40 for each above that. For a clean call the answer is 0.
     ///
     /// Each end comes as at [`Session::call`], and `BadReply` with `WrongShape` exactly where a dirty call's result is no lease. A plan of more than
     /// 16,384 objects may want more memory than there is.

@@ -77,8 +77,8 @@ impl<S, K> Refusal<S, K> {
 impl<S: Source, K: Sink> Session<S, K> {
     ghost use Rattle.rmi_client.specs.Sessions.{LinkState, link_at, link_of, Asks, Tells, HearsReturnOf, IsPing, IsDgcAck, IsHeader, IsCall, Begins, BeginsWith, Sends, SendsFront};
 
-    /// Begins a connection over two halves, of which nothing was read yet: it writes the header of the stream protocol, reads the server's
-    /// acknowledgement, and writes the client's endpoint, which is this host and port 0.
+    /// Begins a connection over two halves, of which nothing was read yet. It writes the header of the stream protocol, and reads the
+    /// server's acknowledgement. Then it writes the client's endpoint, which is this host and port 0.
     ///
     /// `Nack` comes exactly at the answer `4F`, `BadReply` with `NotReturn` at any other first byte than `4E`, and `Truncated` where the input ends
     /// before or inside the acknowledgement.
@@ -165,8 +165,8 @@ impl<S: Source, K: Sink> Session<S, K> {
     /// of the method's result; None where it has none.
     ///
     /// `RemoteFault` comes exactly where the Return is an exception with a part of class `java.lang.Throwable`; any other exception is `BadReply` with
-    /// `WrongShape`. `BadReply` with `NotReturn` comes exactly at another first byte than `51`, with `BadReturnKind` at a kind that is neither `01` nor
-    /// `02`, with `Stream` where what follows is no stream of the Return. `TooLarge` comes past a limit, and `Truncated` where the input ends.
+    /// `WrongShape`. `BadReply` with `NotReturn` comes exactly at another first byte than `51`. It comes with `BadReturnKind` at a kind that is neither
+    /// `01` nor `02`, and with `Stream` where what follows is no stream of the Return. `TooLarge` comes past a limit, and `Truncated` where the input ends.
     pub fn call(
         &mut self,
         head: &CallHead,

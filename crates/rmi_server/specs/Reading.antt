@@ -105,6 +105,6 @@ ReadsGraph nodes place (Some slot) result = ReadsPart nodes place slot result
 ReadsGraph nodes place None result = result ≡ Err (WrongArgument place wanted_kinds.Object)
 
 -- The fault of an argument that was not read as a type.
-abbrev pub unshaped : ShapeFault → ℕ → Wanted → CallFault
-unshaped shapes.WrongShape place wanted = WrongArgument place wanted
-unshaped shapes.OutOfMemory place wanted = OutOfMemory
+abbrev pub shape_fault : ShapeFault → ℕ → Wanted → CallFault
+shape_fault shapes.WrongShape place wanted = WrongArgument place wanted
+shape_fault shapes.OutOfMemory place wanted = OutOfMemory

@@ -2,7 +2,7 @@
 ghost use Rattle.std.specs.Prelude.{◌≡◌};
 ghost use Rattle.java_shapes.specs.LiveRefs.{live_ref_at};
 ghost use Rattle.java_shapes.specs.Objects.{text_at};
-ghost use Rattle.rmi_server.specs.Reading.{Reads, ReadsAt, ReadsGraph, boolean_at, byte_at, char_at, int_at, long_at, short_at, slot_at, unshaped, value_at};
+ghost use Rattle.rmi_server.specs.Reading.{Reads, ReadsAt, ReadsGraph, boolean_at, byte_at, char_at, int_at, long_at, short_at, slot_at, shape_fault, value_at};
 ghost use Rattle.rmi_server.specs.declared.fault.Wanted.TheVariants as wanted_kinds;
 
 use crate::fault::{CallFault, Wanted};
@@ -152,7 +152,7 @@ impl Call<'_> {
         };
         match as_text(self.alloc, &self.invocation.arguments.graph, slot) {
             Ok(text) => Ok(text),
-            Err(fault) => Err(unshaped(fault, place, Wanted::Text)),
+            Err(fault) => Err(shape_fault(fault, place, Wanted::Text)),
         }
     }
 
@@ -166,7 +166,7 @@ impl Call<'_> {
         };
         match as_live_ref(self.alloc, &self.invocation.arguments.graph, slot) {
             Ok(reference) => Ok(reference),
-            Err(fault) => Err(unshaped(fault, place, Wanted::Reference)),
+            Err(fault) => Err(shape_fault(fault, place, Wanted::Reference)),
         }
     }
 
@@ -195,8 +195,8 @@ fn wrong(place: usize, wanted: Wanted) -> CallFault
 }
 
 /// The fault of an argument that was not read as this type.
-fn unshaped(fault: ShapeFault, place: usize, wanted: Wanted) -> CallFault
-    ensures { result ≡ unshaped fault place wanted }
+fn shape_fault(fault: ShapeFault, place: usize, wanted: Wanted) -> CallFault
+    ensures { result ≡ shape_fault fault place wanted }
 {
     match fault {
         ShapeFault::WrongShape => wrong(place, wanted),

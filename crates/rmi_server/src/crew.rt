@@ -1,10 +1,10 @@
 //! The hands that do a service's calls, one for each connection.
 ghost use Rattle.std.specs.Prelude.{◌≡◌, ◌+◌, ◌<◌, ◌^◌, None, IfOk};
-ghost use Rattle.rmi_server.specs.Fits.{FitsCall, May};
+ghost use Rattle.rmi_server.specs.Fits.{FitsCall, IsAnswer, May};
 
 use crate::call::Call;
 use crate::fault::{CallFault, outcome_of_fault};
-use crate::fitting::fitted;
+use crate::fitting::fit_outcome;
 use crate::reply::outcome_of;
 use crate::service::Service;
 use call_dispatch::{Book, Crew, Invocation, Outcome, Worker};
@@ -40,9 +40,10 @@ pub struct ServiceHand<'t, R: Wait + Sync, S: Service> {
 }
 
 impl<S: Service> Shared<S> {
-    /// Does a call once no other hand is at the service. The outcome fits the method, or is an exception, or there was no memory.
+    /// Asks the service to do a call, once no other hand is at it. The outcome is that of its answer, if that fits the method.
     fn answer<R: Wait>(&self, rt: &R, alloc: Global, call: &Invocation) -> Outcome
-        ensures { FitsCall self.now.book call.now result }
+        ensures fits { FitsCall self.now.book call.now result }
+        ensures answers { IsAnswer S.may_answer self.now.book call.now result }
     {
         let Some(method) = self.book.method(call.kind, call.method) else {
             return outcome_of_fault(alloc, CallFault::UnknownMethod);
@@ -53,7 +54,7 @@ impl<S: Service> Shared<S> {
             method,
         };
         let answer = self.service.lock(rt).call(&asked);
-        fitted(alloc, &self.book, method.result, outcome_of(alloc, answer))
+        fit_outcome(alloc, &self.book, method.result, outcome_of(alloc, answer))
     }
 
     /// Tells the service that an object is no longer exported, once no other hand is at it.
@@ -105,22 +106,24 @@ impl<'t, R: Wait + Sync, S: Service + Send> Crew for ServiceCrew<'t, R, S> {
     }
 }
 
-/// A hand tells its connection's number, how many calls it was given, and which outcomes each may have. Other hands use the service between two of
-/// its calls, so it tells neither what the service keeps nor its calls one by one.
+/// A hand tells its connection's number, how many calls it was given, and which outcomes each may have. Each outcome is that of an answer that the
+/// service gave to the call. Other hands use the service between two of its calls, so it tells neither what the service keeps nor its calls one by one.
 impl<'t, R: Wait + Sync, S: Service> Worker for ServiceHand<'t, R, S> {
     ghost shown = { λ hand. record { calls = hand.calls; seen = None; state = None; number = hand.by } };
 
-    ghost may = { May };
+    ghost may = { May S.may_answer };
 
     ghost moves = { λ before call after. before ≡ after };
 
-    /// Does what a call asks for. The outcome fits the called method of the server's own kinds, or ends the call.
+    /// Asks the service to do a call. The outcome is that of the service's answer to it. It fits the called method of the server's own kinds, or ends
+    /// the call.
     fn invoke(&mut self, call: Invocation) -> Outcome
         requires { self.old.calls < 2 ^ 62 }
         ensures calls { self.new.calls ≡ self.old.calls + 1 }
         ensures number { self.new.by ≡ self.old.by }
-        ensures may { May call result }
+        ensures may { May S.may_answer call result }
         ensures fits { FitsCall self.old.shared.value.book call result }
+        ensures answers { IsAnswer S.may_answer self.old.shared.value.book call result }
     {
         self.calls += 1;
         self.shared.answer(self.rt, self.alloc, &call)

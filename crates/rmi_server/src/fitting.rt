@@ -1,82 +1,15 @@
 //! Results that fit their methods.
-ghost use Rattle.std.specs.Prelude.{◌≡◌, ◌⊎◌, ◌&&◌, not, Some};
-ghost use Rattle.class_desc.specs.TypeCode.{is_primitive};
-ghost use Rattle.call_dispatch.specs.Returns.{is_of, is_one_reference, returns_place, suits};
+ghost use Rattle.std.specs.Prelude.{◌≡◌, ◌⊎◌};
 ghost use Rattle.call_dispatch.specs.declared.outcome.Outcome.TheVariants as outcomes;
 ghost use Rattle.rmi_server.specs.Fits.{IsFitted, ends_call, fits};
 
-use call_dispatch::{Book, Outcome};
-use class_desc::{Item, TypeCode, is_primitive};
+use call_dispatch::{Book, Outcome, suits};
+use class_desc::TypeCode;
 use mod_utf::utf::units_of_ascii;
-use ser_values::{Graph, Value};
 use std::alloc::Global;
 
 /// The text of a call whose result is none of its method.
 const WRONG_RESULT: &[u8] = b"java.rmi.MarshalException: the result does not fit its method";
-
-/// Returns true if the value is of this primitive type.
-fn is_of(code: TypeCode, value: Value) -> bool
-    ensures { result ≡ is_of code value }
-{
-    match (code, value) {
-        (TypeCode::Byte, Value::Byte(_)) => true,
-        (TypeCode::Char, Value::Char(_)) => true,
-        (TypeCode::Double, Value::Double(_)) => true,
-        (TypeCode::Float, Value::Float(_)) => true,
-        (TypeCode::Int, Value::Int(_)) => true,
-        (TypeCode::Long, Value::Long(_)) => true,
-        (TypeCode::Short, Value::Short(_)) => true,
-        (TypeCode::Boolean, Value::Boolean(_)) => true,
-        _ => false,
-    }
-}
-
-/// Returns true if the items are one reference and nothing else.
-fn is_one_reference(items: &[Item]) -> bool
-    ensures { result ≡ is_one_reference items.now }
-{
-    match items {
-        [Item::Ref(_)] => true,
-        _ => false,
-    }
-}
-
-/// Returns true if a method with this result can return an object of a kind.
-fn returns_place(book: &Book, code: TypeCode, kind: u32) -> bool
-    ensures { result ≡ returns_place book.now (Some code) kind }
-{
-    !is_primitive(code) && book.kind(kind).is_some()
-}
-
-/// Returns true if a method with a result of this type can return the outcome.
-fn returns(book: &Book, code: TypeCode, outcome: &Outcome) -> bool
-    ensures { result ≡ suits book.now (Some code) outcome.now }
-{
-    match outcome {
-        Outcome::Prim(value) => is_of(code, *value),
-        Outcome::Tree(graph) => returns_graph(code, graph),
-        Outcome::NewRemote(kind) => returns_place(book, code, *kind),
-        Outcome::OldRemote(_object, kind) => returns_place(book, code, *kind),
-        _ => false,
-    }
-}
-
-/// Returns true if a method with a result of this type can return the graph.
-fn returns_graph(code: TypeCode, graph: &Graph) -> bool
-    ensures { result ≡ (not (is_primitive code) && is_one_reference graph.now.items) }
-{
-    !is_primitive(code) && is_one_reference(graph.items().as_slice())
-}
-
-/// Returns true if a method with this result can return the outcome.
-fn suits(book: &Book, result_type: Option<TypeCode>, outcome: &Outcome) -> bool
-    ensures { result ≡ suits book.now result_type outcome.now }
-{
-    match result_type {
-        Some(code) => returns(book, code, outcome),
-        None => matches!(outcome, Outcome::Void),
-    }
-}
 
 /// The outcome that the client gets of a text.
 fn fault_of(alloc: Global, text: &[u8]) -> Outcome
@@ -107,7 +40,7 @@ fn fits(book: &Book, result_type: Option<TypeCode>, outcome: &Outcome) -> bool
 }
 
 /// The outcome itself, where it fits a method with this result; in place of any other an exception, `java.rmi.MarshalException`.
-pub(crate) fn fitted(
+pub(crate) fn fit_outcome(
     alloc: Global,
     book: &Book,
     result_type: Option<TypeCode>,

@@ -165,14 +165,20 @@ fn parts_of<'t, R: Wait + Sync, S: Service>(
     })
 }
 
-/// Serves a service to the connections of a listener, each in a thread of its own, until it has served as many as the site says, the listener fails,
-/// or there is no memory for a connection. It returns what became of each connection, and the server's objects. Clients find the site's names in the
-/// registry at the same host and port.
+/// Serves a service to the connections of a listener, each in a thread of its own. It ends once it has served as many as the site says, the listener
+/// fails, or there is no memory for a connection. It returns what became of each connection, and the server's objects. Clients find the site's names
+/// in the registry at the same host and port. Each call is answered as [`Service::call`] answers it (`served`).
 ///
-/// Each fault comes before a connection is accepted, and only where the site has it: its kinds are refused, as [`book_of`] does (Kinds), an object is
-/// of no kind (NoKind), a name has more than 255 characters (NameTooLong), two objects have one name (NameTaken), there are more than 4,096 names
-/// (TooManyNames), or the host has more than 255 bytes (HostTooLong). NoSeed and ListenFault never come. For what holds of the report see
-/// [`Server::serve`].
+/// Each fault comes before a connection is accepted, and only where the site has it:
+///
+/// - Kinds: its kinds are refused, as [`book_of`] does.
+/// - NoKind: an object is of no kind.
+/// - NameTooLong: a name has more than 255 characters.
+/// - NameTaken: two objects have one name.
+/// - TooManyNames: there are more than 4,096 names.
+/// - HostTooLong: the host has more than 255 bytes.
+///
+/// NoSeed and ListenFault never come. For what holds of the report see [`Server::serve`].
 pub fn serve<'t, R: Threads + Wait + Sync, L: Listener, S: Service + Send>(
     rt: &'t R,
     alloc: Global,
@@ -180,7 +186,7 @@ pub fn serve<'t, R: Threads + Wait + Sync, L: Listener, S: Service + Send>(
     service: S,
     site: &Site<'_>,
 ) -> Result<Report<L::In, L::Out, L::Ticks, ServiceHand<'t, R, S>>, ServeFault>
-    ensures served { IfOk result (IsServedBy L.In.half L.Out.half L.Ticks.given site.now
+    ensures served { IfOk result (IsServedBy S.may_answer L.In.half L.Out.half L.Ticks.given site.now
         (L.listening listener.old).accepted (L.listening listener.new).accepted) }
     ensures sound { OnOk result (IsSound site.now) }
     ensures causes { IfErr result (RefusesSite site.now) }

@@ -11,7 +11,7 @@ pub enum Command {
     Answer(LeaseOptions),
     /// `serve PORT COUNT [BINDING] [LEASE] [ACK]`: serve this many links at this port, on these options.
     Serve(ServeWords),
-    /// `host ADDRESS HOST PORT [BINDING] [LEASE] [ACK]`: serve links at this address and port until the input ends, on these options.
+    /// `host ADDRESS HOST PORT [BINDING] [LEASE] [ACK] [RECORD]`: serve links at this address and port until the input ends, on these options.
     Host(HostWords),
     /// `list`, `lookup`, `bind` or `unbind`: ask this of a server.
     Client(ClientCommand),
@@ -21,8 +21,8 @@ pub enum Command {
     Replay,
     /// `show`: print the text of the graph that the input spells as a stream.
     Show,
-    /// `drill SEED N` or `journal SEED N`: print this text of the space that takes the events of a drill, which has a seed below 2^63 and
-    /// 1 to 1,000,000 rounds.
+    /// `drill SEED N` or `journal SEED N`: print this text of the space that takes the events of a drill. The seed is below 2^63, and there
+    /// are 1 to 1,000,000 rounds.
     Drill {
         text: DrillText,
         seed: u64,

@@ -8,8 +8,8 @@ use object_ids::ObjId;
 use std::alloc::{AllocError, Global};
 use std::marker::Model;
 
-/// The numbers of objects. Contracts see them as a list of pairs of an object and its number, in the order in which they were first put; an
-/// object without a pair has the number 0.
+/// The numbers of objects. Contracts see them as a list of pairs of an object and its number, in the order in which they were first put.
+/// An object without a pair has the number 0.
 #[derive(Drop)]
 pub struct Counters {
     pairs: IndexMap<ObjId, i64>,

@@ -80,7 +80,12 @@ fn name_of(alloc: Global, name: &[u8]) -> Result<Name, AllocError>
 }
 
 /// Returns the request that binds a name to the object of the space with this number.
-fn binding(alloc: Global, config: &SpaceConfig, name: &[u8], number: i64) -> Result<Ask, AllocError>
+fn bind_request(
+    alloc: Global,
+    config: &SpaceConfig,
+    name: &[u8],
+    number: i64,
+) -> Result<Ask, AllocError>
     requires { length name.now ≤ MAX_NAME_UNITS }
     ensures { IfOk result (λ ask. ask ≡ (bind_event config.now name.now number).ask) }
 {
@@ -106,7 +111,7 @@ fn bind(
     ensures ok { OnOk result (space.new ≡ space_of space.old.configuration (space.old.events ++ bind_event config.now name.now number ∷ [])) }
     ensures err { IfErr result (λ refused. refused ≡ OutOfMemory) }
 {
-    let ask = binding(alloc, config, name, number)?;
+    let ask = bind_request(alloc, config, name, number)?;
     let answer = space.turn(0, 0, ask);
     match answer {
         Ok(_turn) => {

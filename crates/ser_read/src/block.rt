@@ -93,7 +93,7 @@ fn no_block(code: u8) -> StreamKind
 
 /// Returns the number of bytes of a block that come next, at least one, where so many of the present block are left.
 #[tactic(auto, unfolding(crate::specs::Wants::opened_at))]
-fn opened<S: Source>(pull: &mut Pull<'_, S>, block: u32) -> Result<u32, StreamFault>
+fn present_block<S: Source>(pull: &mut Pull<'_, S>, block: u32) -> Result<u32, StreamFault>
     ensures lent { pull.new.source.ghost_name ≡ pull.old.source.ghost_name }
     ensures reads { WantReadsTaken S.half pull.old pull.new result (λ end. opened_at end block) (λ x rest. (x, rest)) }
     ensures stops { WantStopsTaken S.half pull.old pull.new result (λ end. opened_at end block) }
@@ -122,7 +122,7 @@ fn run_onto<S: Source>(
 {
     let mut left = n;
     while left > 0 {
-        let present = opened(pull, *block)?;
+        let present = present_block(pull, *block)?;
         let more = left.min(present);
         let piece = take(alloc, pull, u64::from(more))?;
         add_piece(bytes, piece)?;
@@ -160,7 +160,7 @@ pub(crate) fn run_into<S: Source>(
 {
     let mut done = 0;
     while done < buf.len() {
-        let present = opened(pull, *block)?;
+        let present = present_block(pull, *block)?;
         let more = (buf.len() - done).min(present as usize);
         fill(pull, &mut buf[done..done + more])?;
         *block = present - more as u32;

@@ -8,7 +8,7 @@ ghost use Rattle.ser_read.specs.Here.{AreBytes, ReadsTaken, StopsTaken};
 ghost use Rattle.ser_read.specs.declared.pulled.TheConstants.{FEW};
 
 use crate::fault::{StreamFault, StreamKind};
-use crate::spelled::spelled;
+use crate::spelled::text_of;
 use mod_utf::decode::UtfFault;
 use sequence::{ByteList, Units};
 use std::alloc::{AllocError, Global};
@@ -188,7 +188,7 @@ fn units<S: Source>(alloc: Global, pull: &mut Pull<'_, S>, n: u64) -> Result<Uni
 {
     let start = pull.at;
     let bytes = take(alloc, pull, n)?;
-    match spelled(alloc, bytes.as_slice()) {
+    match text_of(alloc, bytes.as_slice()) {
         Ok(units) => Ok(units),
         Err(UtfFault::OutOfMemory) => Err(StreamFault::OutOfMemory),
         Err(UtfFault::BadUtf { at }) => Err(StreamFault::Bad {
@@ -217,7 +217,7 @@ fn few_units<S: Source>(alloc: Global, pull: &mut Pull<'_, S>, n: u16) -> Result
     let mut buf = [0; FEW as usize];
     let bytes = &mut buf[..usize::from(n)];
     fill(pull, bytes)?;
-    match spelled(alloc, bytes) {
+    match text_of(alloc, bytes) {
         Ok(units) => Ok(units),
         Err(fault) => match fault {
             UtfFault::OutOfMemory => Err(StreamFault::OutOfMemory),

@@ -12,8 +12,8 @@ ghost use Rattle.ser_read.specs.ReaderStand.{stand_of};
 use crate::block::{Head, next_head, run, run_into};
 use crate::fault::{StreamFault, StreamKind};
 use crate::header::magic;
-use crate::pieces::{add, bad};
-use crate::reading::coded;
+use crate::pieces::{add, bad, count_parts};
+use crate::reading::construct;
 use crate::serving::{Want, serve_all};
 use crate::table::Table;
 use class_desc::{Item, Items, Slot};
@@ -89,7 +89,11 @@ fn reference<S: Source>(
 {
     match next_head(pull)? {
         Head::Block(_) => Err(bad(StreamKind::BlockLeft, pull.at)),
-        Head::Code(code, at) => coded(alloc, pull, table, SlotPlace::Reference, LEVELS, at, code),
+        Head::Code(code, at) => {
+            let slot = construct(alloc, pull, table, SlotPlace::Reference, LEVELS, at, code)?;
+            count_parts(table, 1, at)?;
+            Ok(slot)
+        }
     }
 }
 
@@ -110,7 +114,6 @@ fn slot_in<S: Source>(
         return Err(bad(StreamKind::BlockLeft, pull.at));
     }
     let slot = reference(alloc, pull, &mut stand.table)?;
-    stand.table.add_entries(1)?;
     stand.items.push(Item::Ref(slot))?;
     Ok(slot)
 }

@@ -39,14 +39,14 @@ fn slot<S: Source>(
 {
     let at = pull.at;
     let code = byte(pull)?;
-    coded(alloc, pull, table, place, left, at, code)
+    construct(alloc, pull, table, place, left, at, code)
 }
 
 /// Reads the construct that a code begins in a place, which may have so many levels.
 #[cycle(reading)]
 #[inline(always)]
 #[tactic(auto, unfolding(stream_grammar::specs::Reading::coded))]
-pub(crate) fn coded<S: Source>(
+pub(crate) fn construct<S: Source>(
     alloc: Global,
     pull: &mut Pull<'_, S>,
     table: &mut Table,
@@ -123,7 +123,7 @@ fn fresh<S: Source>(
         0x75 => array(alloc, pull, table, at, left),
         0x76 => class_value(alloc, pull, table, at, left),
         0x7C => very_long_text(alloc, pull, table),
-        0x7D => proxy(alloc, pull, table, left),
+        0x7D => proxy(alloc, pull, table, at, left),
         0x7E => constant(alloc, pull, table, at, left),
         _ => Err(bad(StreamKind::BadCode, at)),
     }

@@ -146,7 +146,7 @@ impl Rows {
     }
 
     /// The same rows, the last first.
-    pub(crate) fn reversed(self) -> Rows
+    pub(crate) fn into_reverse(self) -> Rows
         ensures { result ≡ reverse self }
     {
         match self.held {

@@ -157,7 +157,7 @@ fn chain_of(alloc: Global, nodes: &[Node], class: u32) -> Result<Chain, AllocErr
 {
     let Chain { rows, is_serial } = chain_up(alloc, nodes, class)?;
     Ok(Chain {
-        rows: rows.reversed(),
+        rows: rows.into_reverse(),
         is_serial,
     })
 }

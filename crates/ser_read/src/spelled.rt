@@ -12,14 +12,14 @@ use std::alloc::Global;
 
 /// The text that these bytes spell, as `decode` of `mod_utf` reads it.
 #[inline(always)]
-pub(crate) fn spelled(alloc: Global, bytes: &[u8]) -> Result<Units, UtfFault>
+pub(crate) fn text_of(alloc: Global, bytes: &[u8]) -> Result<Units, UtfFault>
     ensures err { IfErr result (λ fault. IsUnread bytes.now fault) }
     ensures value { GivesUnits result (decoded_units bytes.now) }
 {
     if plain_run(bytes) == bytes.len() {
         plain(alloc, bytes)
     } else {
-        mixed(alloc, bytes)
+        decode_mixed(alloc, bytes)
     }
 }
 
@@ -51,7 +51,7 @@ fn push_each(units: &mut Vec<u16>, bytes: &[u8])
 
 /// The text of characters that take one to three bytes each. There is room at once for as many as are there at least.
 #[inline(never)]
-fn mixed(alloc: Global, bytes: &[u8]) -> Result<Units, UtfFault>
+fn decode_mixed(alloc: Global, bytes: &[u8]) -> Result<Units, UtfFault>
     ensures err { IfErr result (λ fault. IsUnread bytes.now fault) }
     ensures value { GivesUnits result (decoded_units bytes.now) }
 {

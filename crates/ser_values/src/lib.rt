@@ -1,11 +1,34 @@
 // SPDX-License-Identifier: Apache-2.0 OR MIT
-//! Graphs of the values in a serialization stream: nodes in the order of their handles, and items
-//! (Java Object Serialization Specification, chapter 6).
+//! Graphs of the values in a serialization stream (Java Object Serialization Specification, chapter
+//! 6).
+//!
+//! A `Graph` has nodes in the order of their handles, and items: block data and references.
+//! `Builder` makes one. Its `text`, `object`, `array` and the like add loose nodes, in any order.
+//! `finish` numbers what the items reach. Floats and doubles are kept as their bits. Annotations
+//! and what write methods wrote are kept unread.
+//!
+//! # Limits
+//!
+//! At most 65,536 nodes, 2^20 parts of objects in all, and 200 levels. An object has one part for
+//! each description in its class's chain. The limit on parts is there because a few bytes can make
+//! a chain long.
+//!
+//! # What is proved
+//!
+//! - `finish` gives a graph of exactly what the items reach (`ok`). `WrongShape` says that the
+//!   whole breaks a rule of graphs, however deep. `TooDeep` says that it breaks none, and is more
+//!   than 200 levels deep (`err`).
+//! - `TooManyNodes` comes exactly where a builder has 65,536 nodes.
+//! - `part` gives the graph of one reference. `copy` and `same_graph` are exact.
+//!
+//! Contracts of other crates name a graph's nodes and items directly. The rules of graphs are
+//! definitions in `specs/`.
 #![tactic(auto)]
 
 mod builder;
 mod chain;
 mod copying;
+mod counting;
 mod equality;
 mod fault;
 mod finishing;

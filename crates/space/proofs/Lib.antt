@@ -13,6 +13,7 @@ pub mod FewGone
 pub mod Found
 pub mod Fresh
 pub mod Holding
+pub mod IdleLaws
 pub mod Keeping
 pub mod LimitLaws
 pub mod ListLaws

@@ -4,6 +4,7 @@ pub mod Built
 pub mod Doubts
 pub mod Entries
 pub mod Faults
+pub mod Idle
 pub mod Kept
 pub mod EventLists
 pub mod Noted

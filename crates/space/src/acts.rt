@@ -199,18 +199,18 @@ pub(crate) fn gone_ids(alloc: Global, gone: Vec<ObjId>) -> ObjIds
 
 /// A list of objects, in memory of its own length, which is none where there are none. Where there is no such memory, it is in that which has
 /// room for it.
-pub(crate) fn fitting(alloc: Global, room: Vec<ObjId>, objects: &ObjIds) -> ObjIds
+pub(crate) fn fit_list(alloc: Global, room: Vec<ObjId>, objects: &ObjIds) -> ObjIds
     requires { length objects.now ≤ vec_capacity room }
     ensures { result ≡ objects.now }
 {
     match objects.copy(alloc) {
         Ok(list) => list,
-        Err(_refused) => filled(room, objects),
+        Err(_refused) => fill_list(room, objects),
     }
 }
 
 /// A list of objects, in memory that has room for it. What was there is dropped.
-pub(crate) fn filled(mut room: Vec<ObjId>, objects: &ObjIds) -> ObjIds
+pub(crate) fn fill_list(mut room: Vec<ObjId>, objects: &ObjIds) -> ObjIds
     requires { length objects.now ≤ vec_capacity room }
     ensures { result ≡ objects.now }
 {

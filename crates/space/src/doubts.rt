@@ -8,7 +8,7 @@ ghost use Rattle.export_table.specs.ExportRows.{is_row_kept, is_settled_but, hel
 ghost use Rattle.export_table.specs.Waits.{still_waiting};
 ghost use Rattle.space.specs.Doubts.{AreInDoubt, HasLog, taken_by};
 
-use crate::returns::listed;
+use crate::returns::list_of;
 use dgc_server::Leases;
 use export_table::Exports;
 use history::Ask;
@@ -32,13 +32,13 @@ pub(crate) fn in_doubt(
     let freed = leases.freed_objects(alloc, now)?;
     let ended = exports.ended_objects(alloc, now)?;
     let taken = taken_by(alloc, exports, fresh, stood, returned, ask)?;
-    let passed = joined(freed, &ended)?;
-    let objects = joined(passed, &taken)?;
+    let passed = join_lists(freed, &ended)?;
+    let objects = join_lists(passed, &taken)?;
     Ok(objects)
 }
 
 /// A list with others after it; where there are none, the list itself.
-pub(crate) fn joined(mut objects: Vec<ObjId>, more: &[ObjId]) -> Result<Vec<ObjId>, AllocError>
+pub(crate) fn join_lists(mut objects: Vec<ObjId>, more: &[ObjId]) -> Result<Vec<ObjId>, AllocError>
     ensures { IfOk result (λ os. os.items ≡ objects.items ++ more.now) }
 {
     if !more.is_empty() {
@@ -58,14 +58,14 @@ fn taken_by(
     ensures { IfOk result (λ os. os.items ≡ taken_by exports.now.waits fresh stood returned.now ask.now) }
 {
     match ask {
-        Ask::Open { kind: _, pinned: _ } => listed(alloc, Some(fresh)),
+        Ask::Open { kind: _, pinned: _ } => list_of(alloc, Some(fresh)),
         Ask::Finish {
             object,
             made: _,
             listed: _,
             uid: _,
         } => one_and(alloc, object, returned),
-        Ask::Abandon { object } => listed(alloc, Some(*object)),
+        Ask::Abandon { object } => list_of(alloc, Some(*object)),
         Ask::Clean {
             client: _,
             number: _,
@@ -73,9 +73,9 @@ fn taken_by(
             strong: _,
         } => copy_of_objects(alloc, named.as_slice()),
         Ask::Ack { uid } => exports.of_return(alloc, *uid),
-        Ask::Bind { name: _, object: _ } => listed(alloc, stood),
-        Ask::Rebind { name: _, object: _ } => listed(alloc, stood),
-        Ask::Unbind { name: _ } => listed(alloc, stood),
+        Ask::Bind { name: _, object: _ } => list_of(alloc, stood),
+        Ask::Rebind { name: _, object: _ } => list_of(alloc, stood),
+        Ask::Unbind { name: _ } => list_of(alloc, stood),
         _ => Ok(Vec::new(alloc)),
     }
 }
@@ -84,7 +84,7 @@ fn taken_by(
 fn one_and(alloc: Global, object: &ObjId, others: &[ObjId]) -> Result<Vec<ObjId>, AllocError>
     ensures { IfOk result (λ os. os.items ≡ object.now ∷ others.now) }
 {
-    let mut objects = listed(alloc, Some(*object))?;
+    let mut objects = list_of(alloc, Some(*object))?;
     objects.extend_from_slice(others)?;
     Ok(objects)
 }

@@ -14,7 +14,7 @@ ghost use Rattle.space.specs.Noted.{NoteFits, made_by, turn_answer};
 ghost use Rattle.space.specs.TurnAnswers.{IsAnswerTo};
 ghost use Rattle.rmi_registry.specs.Bindings.{names_in, IsRegistry};
 
-use crate::acts::filled;
+use crate::acts::fill_list;
 use crate::asked::{Asked, AskedEnd};
 use crate::turns::Space;
 use history::{Ask, Refused, Reply, Turn};
@@ -161,7 +161,7 @@ fn copy_of_reply(reply: &Reply, ids: Vec<ObjId>, names: NameList) -> Reply
         Reply::Opened(object) => Reply::Opened(*object),
         Reply::Started(kind) => Reply::Started(*kind),
         Reply::NoObject => Reply::NoObject,
-        Reply::Finished(objects) => Reply::Finished(filled(ids, objects)),
+        Reply::Finished(objects) => Reply::Finished(fill_list(ids, objects)),
         Reply::NotRunning => Reply::NotRunning,
         Reply::Granted(duration) => Reply::Granted(*duration),
         Reply::Done => Reply::Done,

@@ -7,10 +7,10 @@ ghost use Rattle.history.specs.declared.limits.TheConstants.{END_OF_OBJECT_COUNT
 ghost use Rattle.space.specs.Doubts.{AreInDoubt, taken_by};
 ghost use Rattle.space.specs.Acts.{Agrees, await_refusal, effective_by, opens, reply_at, returned_by, room_refusal};
 
-use crate::acts::{fitting, gone_ids};
+use crate::acts::{fit_list, gone_ids};
 use crate::asks::{is_effective, opens, reply_at, room_refusal, stood_for};
 use crate::doubts::in_doubt;
-use crate::returns::returned;
+use crate::returns::returned_objects;
 use crate::tables::Tables;
 use history::places::id_at;
 use history::{Ask, Refused, Reply, Turn};
@@ -101,7 +101,7 @@ impl Untold {
         let Untold { gone, spare } = self;
         let gone = gone_ids(alloc, gone);
         let copy = if noted {
-            fitting(alloc, spare, &gone)
+            fit_list(alloc, spare, &gone)
         } else {
             ObjIds::new(alloc)
         };
@@ -249,7 +249,7 @@ fn listed_by(
     let alloc = tables.alloc;
     let exports = &tables.exports;
     let uid = tables.config.uid;
-    let references = returned(
+    let references = returned_objects(
         alloc,
         uid,
         tables.added,

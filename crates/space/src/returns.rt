@@ -25,7 +25,7 @@ const FEW: usize = 16;
 
 /// The objects to which an ask returns references, where the next object is the space's k-th, and the ask's name
 /// stands for `stood`. It is refused where these references would pass the limit of those that await at a moment.
-pub(crate) fn returned(
+pub(crate) fn returned_objects(
     alloc: Global,
     space: Uid,
     k: u64,
@@ -68,14 +68,14 @@ fn of_lookup(
     ensures objects { IfOk result (λ objects. objects.items ≡ option_to_list stood) }
     ensures refusal { Agrees (return_refusal now uid.now 0 (option_to_list stood) exports.now.waits) result }
 {
-    let found = listed(alloc, stood)?;
+    let found = list_of(alloc, stood)?;
     if is_past(alloc, exports, now, uid, 0, &found) {
         return Err(Refused::Full(FullKind::Awaiting));
     }
     Ok(found)
 }
 
-pub(crate) fn listed(alloc: Global, object: Option<ObjId>) -> Result<Vec<ObjId>, AllocError>
+pub(crate) fn list_of(alloc: Global, object: Option<ObjId>) -> Result<Vec<ObjId>, AllocError>
     ensures { IfOk result (λ objects. objects.items ≡ option_to_list object) }
 {
     let mut objects = Vec::new(alloc);

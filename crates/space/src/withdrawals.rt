@@ -9,7 +9,7 @@ ghost use Rattle.history.specs.Replies.{is_abandon};
 ghost use Rattle.space.specs.Acts.{withdrawal_at};
 ghost use Rattle.space.specs.Doubts.{HasLog};
 
-use crate::doubts::{joined, withdraw_few, withdraw_known};
+use crate::doubts::{join_lists, withdraw_few, withdraw_known};
 use crate::told::{MOST_TOLD, ToldWithdrawals};
 use dgc_server::Leases;
 use export_table::Exports;
@@ -240,7 +240,7 @@ fn rest_of(alloc: Global, objects: &[ObjId], from: usize) -> Result<Vec<ObjId>, 
     requires { from ≤ length objects.now }
     ensures { IfOk result (λ rest. rest.items ≡ drop from objects.now) }
 {
-    joined(Vec::new(alloc), &objects[from..])
+    join_lists(Vec::new(alloc), &objects[from..])
 }
 
 /// Appends objects to a list that has room for them.

@@ -2,17 +2,10 @@
 ghost use Rattle.std.specs.Prelude.{◌≡◌};
 ghost use Rattle.std.specs.Option.{option_copied};
 ghost use Rattle.class_desc.specs.TypeText.{is_letter};
-ghost use Rattle.method_hash.specs.MethodText.{is_class_byte};
 ghost use Rattle.suid_calc.specs.Reading.{after_name, after_class, after_type, after_parameters, is_end, is_returned, is_type, is_signature, is_descriptor};
 
 use crate::outline::{MAX_PARAMETERS, TYPE_BYTES};
-
-/// Returns whether a byte may stand in the name of a class in a type's text.
-fn is_class_byte(byte: u8) -> bool
-    ensures { result ≡ is_class_byte byte }
-{
-    0x21 <= byte && byte <= 0x7E && byte != b';' && byte != b'(' && byte != b')' && byte != b'['
-}
+use method_hash::is_class_byte;
 
 /// Returns whether a byte is the letter of a primitive type.
 fn is_letter(byte: u8) -> bool

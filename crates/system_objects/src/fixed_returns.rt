@@ -224,7 +224,7 @@ fn plain_byte(unit: u16) -> Option<u8>
 
 /// The bytes that spell a text. There is room for one for each unit before, as many as most texts have.
 #[tactic(auto, using(crate::proofs::FixedReturns::one_spelled))]
-fn spelled(alloc: Global, text: &Units) -> Result<ByteList, AllocError>
+fn spell_text(alloc: Global, text: &Units) -> Result<ByteList, AllocError>
     ensures { IfOk result (λ bytes. bytes ≡ utf text.now) }
 {
     let units = text.as_slice();
@@ -243,7 +243,7 @@ fn spelled(alloc: Global, text: &Units) -> Result<ByteList, AllocError>
 fn put_interfaces(alloc: Global, out: &mut ByteList, interface: &Units) -> Result<(), AllocError>
     ensures { OnOk result (out.new ≡ out.old ++ interface_bytes (interfaces interface.now)) }
 {
-    let text = spelled(alloc, interface)?;
+    let text = spell_text(alloc, interface)?;
     if text.len() > 65535 {
         return Err(AllocError);
     }
@@ -281,7 +281,7 @@ fn note_with(alloc: Global, host: &[u8], tail: &[u8]) -> Result<ByteList, AllocE
 fn own_note(alloc: Global, setup: &Setup, object: ObjId) -> Result<ByteList, AllocError>
     ensures { IfOk result (λ bytes. bytes ≡ ref_note (reference_to (terms_of [] setup.now) object)) }
 {
-    let host = spelled(alloc, &setup.host)?;
+    let host = spell_text(alloc, &setup.host)?;
     if host.len() > 65535 {
         return Err(AllocError);
     }

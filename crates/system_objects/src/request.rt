@@ -394,9 +394,10 @@ fn collector_request(
 
 // ---- any call
 
-/// The request of a call of a method with these arguments, or why it is rejected: a wrong argument comes first, then that binding is
-/// closed, a name that is too long, and a reference of another host or port. The identifiers are those of a client that its
-/// lease doesn't name, and of the Return. No request has both, so the one that is drawn first can stand at both places. It is
+/// Returns the request of a call of a method with these arguments, or why it is rejected.
+///
+/// A wrong argument comes first, then that binding is closed, a name that is too long, and a reference of another host or port. The
+/// identifiers are those of a client that its lease doesn't name, and of the Return. No request has both, so the one that is drawn first can stand at both places. It is
 /// refused only for want of memory.
 #[tactic(auto, unfolding(crate::specs::SystemRequests::request_of, crate::specs::SystemRequests::client_draws))]
 pub fn request_for(

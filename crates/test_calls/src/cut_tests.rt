@@ -1,6 +1,6 @@
 //! Calls that are cut short, and calls that are too large.
 use crate::served_tests::{book, bytes_of, check_line, end_of, is_told};
-use crate::texts::{cut, listed, must, number_of};
+use crate::texts::{bytes_from, cut, must, number_of};
 use call_dispatch::{Book, ConnEnd};
 use sequence::ByteList;
 use std::alloc::Global;

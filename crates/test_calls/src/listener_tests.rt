@@ -4,7 +4,7 @@ ghost use Rattle.std.specs.Prelude.{◌≤◌, length};
 ghost use Rattle.mod_utf.specs.Utf.{utf};
 ghost use Rattle.wire_io.specs.Links.{IsNew};
 
-use crate::texts::{listed, must, units_of};
+use crate::texts::{bytes_from, must, units_of};
 use mod_utf::utf::encoded_len;
 use sequence::{Kinds, MomentList, Units};
 use std::alloc::Global;
@@ -27,7 +27,7 @@ fn peer_host(rt: &impl Abort, alloc: Global) -> Units
 fn link_of(rt: &impl Abort, alloc: Global, bytes: &[u8], port: i32) -> MemLink
     ensures { IsNew result }
 {
-    let bytes = listed(rt, alloc, bytes);
+    let bytes = bytes_from(rt, alloc, bytes);
     Link {
         source: MemSource::new(bytes, Kinds::new(alloc), Kinds::new(alloc)),
         sink: MemSink::new(alloc, Kinds::new(alloc)),
@@ -54,7 +54,7 @@ fn check_accept(rt: &impl Abort, listener: &mut MemListener, port: i32, left: us
     let mut link = listener.accept().expect(rt, "a link");
     link.source.shut();
     must(rt, link.port == port, "port");
-    must(rt, link.source.left().len() == left, "left");
+    must(rt, link.source.rest().len() == left, "left");
 }
 
 /// Looks at what a listener listened on, and how many links and faults it gave.
@@ -64,7 +64,7 @@ fn check_counts(rt: &impl Abort, listener: &MemListener) {
     };
     must(rt, address.as_slice() == b"127.0.0.1".as_slice(), "address");
     must(rt, *port == 1099, "port");
-    must(rt, listener.accepted() == 2, "accepted");
+    must(rt, listener.accepted_count() == 2, "accepted");
     must(rt, listener.faults() == 2, "faults");
 }
 

@@ -129,7 +129,7 @@ fn put_rewritten(
 }
 
 /// Returns the bytes that are written of the call that digits spell, of a method of this text.
-fn rewritten(rt: &impl Abort, alloc: Global, digits: &str, text: &str) -> ByteList {
+fn rewrite(rt: &impl Abort, alloc: Global, digits: &str, text: &str) -> ByteList {
     let method = Method::parse(alloc, text.as_bytes()).expect(rt, text);
     let mut out = ByteList::new(alloc);
     put_rewritten(rt, alloc, &mut out, digits, &method);
@@ -140,7 +140,7 @@ fn rewritten(rt: &impl Abort, alloc: Global, digits: &str, text: &str) -> ByteLi
 fn check_call(rt: &impl Abort, alloc: Global, line: &str) {
     let (text, rest) = cut(line, ':');
     let (digits, wanted) = cut(rest, ':');
-    let found = rewritten(rt, alloc, digits, text);
+    let found = rewrite(rt, alloc, digits, text);
     let wanted = wanted_of(rt, alloc, wanted);
     must(rt, found.as_slice() == wanted.as_slice(), line);
 }
@@ -178,7 +178,7 @@ truth | normal | 77 10 01 | 01
 null | exceptional | 77 0F 02 | 70";
 
 /// Returns the bytes that are written of a return of this name.
-fn written(rt: &impl Abort, alloc: Global, normal: bool, name: &str) -> ByteList {
+fn write_named(rt: &impl Abort, alloc: Global, normal: bool, name: &str) -> ByteList {
     let body = body_of(rt, alloc, name);
     return_bytes(alloc, normal, UID, &body).expect(rt, "memory")
 }
@@ -197,7 +197,7 @@ fn check_return(rt: &impl Abort, alloc: Global, line: &str) {
     let (kind, rest) = cut(rest, '|');
     let (front, back) = cut(rest, '|');
     let wanted = wanted_return(rt, alloc, front, back);
-    let found = written(rt, alloc, kind == "normal", name);
+    let found = write_named(rt, alloc, kind == "normal", name);
     must(rt, found.as_slice() == wanted.as_slice(), line);
 }
 

@@ -1,5 +1,5 @@
 //! Method texts and their hashes.
-use crate::texts::{cut, listed, must, number_of, put};
+use crate::texts::{bytes_from, cut, must, number_of, put};
 use class_desc::TypeCode;
 use method_hash::{Method, MethodFault, fold_hash, hash};
 use sequence::ByteList;
@@ -153,7 +153,7 @@ fn text_of(
     piece: &str,
     end: &str,
 ) -> ByteList {
-    let mut text = listed(rt, alloc, start.as_bytes());
+    let mut text = bytes_from(rt, alloc, start.as_bytes());
     for _ in 0..number_of(rt, count) {
         put(rt, &mut text, piece.as_bytes());
     }

@@ -117,7 +117,7 @@ fn put_written(
 
 /// Returns the bytes that are written of the return that digits spell, for a result of this type, or the text of the
 /// fault.
-fn rewritten(rt: &impl Abort, alloc: Global, letter: &str, digits: &str) -> ByteList {
+fn rewrite(rt: &impl Abort, alloc: Global, letter: &str, digits: &str) -> ByteList {
     let mut out = ByteList::new(alloc);
     let mut source = source_of(alloc, bytes_of(rt, alloc, digits));
     let mut pull = Pull::new(&mut source);
@@ -146,7 +146,7 @@ fn wanted_of(rt: &impl Abort, alloc: Global, wanted: &str) -> ByteList {
 fn check_return(rt: &impl Abort, alloc: Global, line: &str) {
     let (letter, rest) = cut(line, ':');
     let (digits, wanted) = cut(rest, ':');
-    let found = rewritten(rt, alloc, letter, digits);
+    let found = rewrite(rt, alloc, letter, digits);
     let wanted = wanted_of(rt, alloc, wanted);
     must(rt, found.as_slice() == wanted.as_slice(), line);
 }

@@ -1,5 +1,5 @@
 //! The requests to a space and the calls of a worker, as words.
-use crate::texts::{cut, listed, put};
+use crate::texts::{bytes_from, cut, put};
 use call_dispatch::Recorded;
 use history::Refused;
 use object_ids::{FullKind, ObjId, ObjIds};
@@ -118,7 +118,7 @@ pub(crate) fn are_events(rt: &impl Abort, alloc: Global, space: &Space, lines: &
     if lines.is_empty() {
         return true;
     }
-    let mut wanted = listed(rt, alloc, OPENED.as_bytes());
+    let mut wanted = bytes_from(rt, alloc, OPENED.as_bytes());
     for line in lines.split(';') {
         put(rt, &mut wanted, line.trim().as_bytes());
         put(rt, &mut wanted, b"\n");

@@ -5,7 +5,7 @@ ghost use Rattle.mod_utf.specs.Utf.{utf};
 use crate::seen::{are_entries, are_events, are_invoked};
 use crate::spaces::{FIRST, space_of};
 use crate::texts::{
-    cut, listed, moments_of, must, null_graph, number_of, put, put_digits, units_of,
+    bytes_from, cut, moments_of, must, null_graph, number_of, put, put_digits, units_of,
 };
 use call_dispatch::{
     Book, ConnEnd, Kind, KindList, Outcome, OutcomeList, RecordingWorker, Setup, serve_connection,
@@ -271,7 +271,7 @@ struct Wires {
 
 /// The streams of a client that sends these bytes, and a clock of these moments.
 fn wires_of(rt: &impl Abort, alloc: Global, input: &[u8], moments: &str) -> Wires {
-    let bytes = listed(rt, alloc, input);
+    let bytes = bytes_from(rt, alloc, input);
     Wires {
         source: MemSource::new(bytes, Kinds::new(alloc), Kinds::new(alloc)),
         sink: MemSink::new(alloc, Kinds::new(alloc)),
@@ -334,7 +334,7 @@ fn serve_over(
     let end = serve_at(
         rt, alloc, book, &mut setup, &mut wires, space, worker, entries,
     );
-    must(rt, wires.sink.held() == wanted.output, "written");
+    must(rt, wires.sink.bytes() == wanted.output, "written");
     end
 }
 
@@ -350,7 +350,7 @@ fn serve(
     let mut worker = RecordingWorker::new(alloc, outcomes);
     let mut space = space_of(rt, alloc, wanted.ground);
     let end = serve_over(rt, alloc, book, input, wanted, &mut space, &mut worker);
-    must(rt, are_invoked(worker.recorded(), wanted.places), "invoked");
+    must(rt, are_invoked(worker.records(), wanted.places), "invoked");
     must(rt, are_events(rt, alloc, &space, wanted.events), "events");
     end
 }

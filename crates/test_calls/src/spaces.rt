@@ -71,7 +71,7 @@ fn ids_of(rt: &impl Abort, alloc: Global, count: u32) -> ObjIds {
 
 /// A dirty of these objects by the client of this number.
 fn dirty_of(rt: &impl Abort, alloc: Global, client: i32, objects: &ObjIds) -> Ask {
-    let uid = numbered(client);
+    let uid = uid_with(client);
     Ask::Dirty {
         client: Vmid::new(ByteList::new(alloc), uid).expect(rt, "a client"),
         number: 1,
@@ -97,7 +97,7 @@ fn fill(rt: &impl Abort, alloc: Global, space: &mut Space, left: u32) {
 }
 
 /// An identifier of this number, of a client or of a return.
-fn numbered(unique: i32) -> Uid {
+fn uid_with(unique: i32) -> Uid {
     Uid {
         unique,
         time: 9,
@@ -120,7 +120,7 @@ fn finish_of(rt: &impl Abort, alloc: Global, made: u32, listed: u32, unique: i32
         object: FIRST,
         made: Kinds::from_vec(made),
         listed: ObjIds::from_vec(listed),
-        uid: numbered(unique),
+        uid: uid_with(unique),
     }
 }
 

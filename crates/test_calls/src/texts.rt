@@ -19,7 +19,7 @@ pub(crate) fn put(rt: &impl Abort, bytes: &mut ByteList, piece: &[u8]) {
 }
 
 /// A list of these bytes.
-pub(crate) fn listed(rt: &impl Abort, alloc: Global, piece: &[u8]) -> ByteList {
+pub(crate) fn bytes_from(rt: &impl Abort, alloc: Global, piece: &[u8]) -> ByteList {
     let mut bytes = ByteList::new(alloc);
     put(rt, &mut bytes, piece);
     bytes

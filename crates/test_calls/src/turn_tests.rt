@@ -155,7 +155,7 @@ fn serve(
     };
     let mut clock = CellClock { moment: &moment };
     let mut port = CountingPort {
-        port: SpacePort::told(space, 1),
+        port: SpacePort::new_told(space, 1),
         turns: &turns,
     };
     let mut worker = SlowWorker {

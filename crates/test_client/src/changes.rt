@@ -523,7 +523,7 @@ struct Change {
 }
 
 /// These bytes, with this change.
-fn changed(rt: &impl Abort, alloc: Global, server: &[u8], change: Change) -> ByteList {
+fn with_change(rt: &impl Abort, alloc: Global, server: &[u8], change: Change) -> ByteList {
     let mut bytes = ByteList::new(alloc);
     for (index, byte) in server.iter().enumerate() {
         let flips = if index == change.at { change.bits } else { 0 };
@@ -553,7 +553,7 @@ fn text_of_change(
     server: &[u8],
     change: Change,
 ) -> ByteList {
-    let sent = changed(rt, alloc, server, change);
+    let sent = with_change(rt, alloc, server, change);
     let answered = text_of_talk(rt, alloc, call, sent.as_slice());
     let mut out = ByteList::new(alloc);
     put_answered(rt, alloc, &mut out, answered.as_slice(), change.at);

@@ -81,7 +81,7 @@ fn text_of(rt: &impl Abort, alloc: Global, wires: &mut Wires, command: &str) -> 
 }
 
 /// Returns whether a half failed. It stops the test where the half failed twice, or was asked again afterwards.
-fn failed(rt: &impl Abort, asked: u64, faults: u64, index: u32) -> bool {
+fn has_failed(rt: &impl Abort, asked: u64, faults: u64, index: u32) -> bool {
     must(
         rt,
         faults == 0 || faults == 1 && asked == u64::from(index) + 1,
@@ -93,9 +93,9 @@ fn failed(rt: &impl Abort, asked: u64, faults: u64, index: u32) -> bool {
 /// Returns whether the fault came on its link, whose halves were left so.
 fn came(rt: &impl Abort, left: &Halves<MemSource, MemSink>, fault: &Fault) -> bool {
     if fault.is_read {
-        failed(rt, left.source.reads(), left.source.faults(), fault.index)
+        has_failed(rt, left.source.reads(), left.source.faults(), fault.index)
     } else {
-        failed(rt, left.sink.writes(), left.sink.faults(), fault.index)
+        has_failed(rt, left.sink.writes(), left.sink.faults(), fault.index)
     }
 }
 
@@ -118,7 +118,7 @@ fn is_noticed(rt: &impl Abort, alloc: Global, command: &str, servers: &str, faul
     let answered = text_of(rt, alloc, &mut wires, command);
     must(
         rt,
-        wires.talked.len() == wires.dialer.dialed(),
+        wires.talked.len() == wires.dialer.dialed_count(),
         "halves of each link",
     );
     let came = match wires.talked.get(fault.link) {

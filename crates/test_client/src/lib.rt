@@ -1,8 +1,9 @@
 // SPDX-License-Identifier: Apache-2.0 OR MIT
-//! Tests of a client's sessions and commands, and of the server's replies that they read, over links in memory.
+//! Tests of a client's sessions and commands, over links in memory.
 //!
-//! A case is a line of text: what is read or called, what the server sends, what the client sends, and the answer or the end. One loop runs all
-//! lines.
+//! A case is a line of text: what is read or called, what the server sends, what the client sends,
+//! and the answer or the end. One loop runs all lines. `src/faults.rt` looks that nothing is asked
+//! of a half that failed.
 #![tactic(auto)]
 
 #[cfg(test)]

@@ -97,7 +97,7 @@ fn put_reply(rt: &impl Abort, alloc: Global, out: &mut ByteList, input: &mut Inp
 }
 
 /// The text of what reading a reply of this name answers, and of the position that is reached.
-fn heard(rt: &impl Abort, alloc: Global, sent: ByteList, name: &str) -> ByteList {
+fn hear_named(rt: &impl Abort, alloc: Global, sent: ByteList, name: &str) -> ByteList {
     let mut input = Input {
         source: MemSource::new(sent, Kinds::new(alloc), Kinds::new(alloc)),
         at: 0,
@@ -113,7 +113,7 @@ fn replies_are_read(rt: HostRuntime) {
     for line in REPLIES.split('\n') {
         let (name, rest) = cut(line, ':');
         let (digits, wanted) = cut(rest, ':');
-        let found = heard(&rt, rt.alloc(), bytes_of(&rt, rt.alloc(), digits), name);
+        let found = hear_named(&rt, rt.alloc(), bytes_of(&rt, rt.alloc(), digits), name);
         let text = found.as_slice();
         assert!(rt; text == wanted.as_bytes(), "{line}");
     }

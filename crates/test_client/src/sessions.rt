@@ -325,7 +325,7 @@ fn sessions_talk(rt: HostRuntime) {
         let found = out.as_slice();
         assert!(rt; found == wanted.as_bytes(), "{line}");
         let digits = wire_of(&rt, rt.alloc(), sent);
-        assert!(rt; sink.held() == digits.as_slice(), "{line}");
+        assert!(rt; sink.bytes() == digits.as_slice(), "{line}");
     }
 }
 

@@ -297,7 +297,7 @@ fn check_sent(rt: &impl Abort, alloc: Global, talked: &[Halves<MemSource, MemSin
     for halves in talked {
         let (digits, others) = cut(rest, '/');
         let wanted = wire_of(rt, alloc, digits);
-        must(rt, halves.sink.held() == wanted.as_slice(), digits);
+        must(rt, halves.sink.bytes() == wanted.as_slice(), digits);
         rest = others;
     }
     must(rt, rest.is_empty(), rest);
@@ -307,7 +307,7 @@ fn check_sent(rt: &impl Abort, alloc: Global, talked: &[Halves<MemSource, MemSin
 pub(crate) fn check_left(rt: &impl Abort, alloc: Global, wires: &Wires, sent: &str) {
     must(
         rt,
-        wires.talked.len() == wires.dialer.dialed(),
+        wires.talked.len() == wires.dialer.dialed_count(),
         "halves of each link",
     );
     must(rt, wires.dialer.faults() <= 1, "dialled again");

@@ -1,12 +1,14 @@
 // SPDX-License-Identifier: Apache-2.0 OR MIT
-//! Tests of the collector's crates, over what they offer to callers: identifiers, the definitions of histories, lease tables, export
-//! tables, and spaces. Most are transcripts: a journal's lines, each with what it is answered.
+//! Tests of the collector's crates over their public calls: identifiers, definitions, lease tables,
+//! export tables, spaces and ports. Most are transcripts: a journal's lines, each with its answer.
 #![tactic(auto)]
 
 #[cfg(test)]
 mod answers;
 #[cfg(test)]
 mod definitions;
+#[cfg(test)]
+mod ends;
 #[cfg(test)]
 mod export_rows;
 #[cfg(test)]

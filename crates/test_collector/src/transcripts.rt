@@ -146,7 +146,7 @@ fn put_word(text: &mut ByteList, word: &str) -> Result<(), AllocError> {
 }
 
 /// Ends the call of which a line, after a `!`, spells the abandon.
-fn abandon(rt: &impl Abort, alloc: Global, space: &mut Space, uid: Uid, line: &str) {
+pub(crate) fn abandon(rt: &impl Abort, alloc: Global, space: &mut Space, uid: Uid, line: &str) {
     let line = line.strip_prefix("! ").expect(rt, "an abandon");
     let event = spelled_event(rt, alloc, uid, line);
     let object = abandoned(&event.ask).expect(rt, "an abandon");

@@ -1,5 +1,6 @@
 // SPDX-License-Identifier: Apache-2.0 OR MIT
-//! Tests of a client's table of references, over what it offers to callers: transcripts of its calls with what each answers, and the limit.
+//! Tests of a client's table of references: transcripts of its calls with each answer, and the
+//! limit of references.
 #![tactic(auto)]
 
 #[cfg(test)]

@@ -97,7 +97,7 @@ fn a_fault_is_no_end(rt: HostRuntime) {
     let source = source_of(&rt, rt.alloc(), 3, 2);
     let mut end = DrainedSource::new(watch_of(0, Readiness::WouldAnswer), source);
     must(&rt, !end.look(), "a fault");
-    must(&rt, end.source().left().len() == 1, "two are dropped");
+    must(&rt, end.source().rest().len() == 1, "two are dropped");
     must(&rt, end.look(), "the end");
 }
 

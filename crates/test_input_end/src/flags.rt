@@ -1,4 +1,4 @@
-//! Ends of inputs that set a flag.
+//! Ends of inputs that set a flag, and inputs that are absent.
 use crate::must;
 use input_end::{FlaggedEnd, InputEnd, MemInputEnd};
 use std::alloc::Global;
@@ -21,4 +21,14 @@ fn check_flag(rt: &impl Abort, alloc: Global) -> Option<()> {
 #[test]
 fn the_end_sets_the_flag(rt: HostRuntime) {
     must(&rt, check_flag(&rt, rt.alloc()).is_some(), "memory");
+}
+
+/// An input that is absent never ends. One that is present ends as it does alone.
+#[test]
+fn an_absent_input_never_ends(rt: HostRuntime) {
+    let mut absent: Option<MemInputEnd> = None;
+    must(&rt, !absent.look() && !absent.was_seen(), "no end");
+    let mut present = Some(MemInputEnd::new(Some(1)));
+    must(&rt, !present.look() && !present.was_seen(), "not yet");
+    must(&rt, present.look() && present.was_seen(), "the end");
 }

@@ -1,10 +1,13 @@
 // SPDX-License-Identifier: Apache-2.0 OR MIT
-//! Tests of ends of inputs: in memory, and over sockets on this machine alone.
+//! Tests of inputs whose end is seen without a wait, and of listeners that stop there: in memory,
+//! and over sockets on this machine alone.
 #![tactic(auto)]
 
 #[cfg(test)]
 use std::process::Abort;
 
+#[cfg(test)]
+mod closes;
 #[cfg(test)]
 mod descriptors;
 #[cfg(test)]

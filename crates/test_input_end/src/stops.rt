@@ -53,14 +53,18 @@ fn a_listener_stops_at_the_end_of_its_input(rt: HostRuntime) {
     for index in [0, 2, 3] {
         must(&rt, quiet.push(index).is_ok(), "memory");
     }
-    let inside = MemListener::waiting(rt.alloc(), two_links(&rt, rt.alloc()), quiet, None);
+    let inside = MemListener::with_script(rt.alloc(), two_links(&rt, rt.alloc()), quiet, None);
     let mut listener = StoppedByInput::new(inside, MemInputEnd::new(Some(4)));
     must(&rt, listener.listen("here", 1099).is_ok(), "a port");
     for word in [-1, 7, -1, -1, -2, -2] {
         must(&rt, word_of(listener.wait()) == word, "a wait");
     }
     must(&rt, listener.accept().is_err(), "no link");
-    must(&rt, listener.listener().accepted() == 1, "one was given");
+    must(
+        &rt,
+        listener.listener().accepted_count() == 1,
+        "one was given",
+    );
     must(&rt, listener.listener().ports().len() == 1, "one port");
     must(&rt, listener.listener().faults() == 0, "none inside");
     must(&rt, listener.input().was_seen(), "the end");
@@ -71,7 +75,7 @@ fn a_listener_stops_at_the_end_of_its_input(rt: HostRuntime) {
 #[test]
 fn a_listener_goes_on_while_its_input_does(rt: HostRuntime) {
     let links = two_links(&rt, rt.alloc());
-    let inside = MemListener::waiting(rt.alloc(), links, Kinds::new(rt.alloc()), Some(2));
+    let inside = MemListener::with_script(rt.alloc(), links, Kinds::new(rt.alloc()), Some(2));
     let mut listener = StoppedByInput::new(inside, MemInputEnd::new(None));
     must(&rt, listener.accept().is_ok(), "a link");
     must(&rt, listener.input().looks() == 0, "no look");

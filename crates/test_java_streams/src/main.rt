@@ -1,6 +1,6 @@
 // SPDX-License-Identifier: Apache-2.0 OR MIT
-//! Reads streams as Java's own writer wrote them, from whole inputs and byte by byte; prints the text or the fault of each, and
-//! whether its graph is written back as the same bytes.
+//! Reads 25 streams as Java's own writer wrote them, whole and byte by byte. It prints the text or
+//! the fault of each, and says if the graph is written back as the same bytes.
 #![tactic(auto)]
 
 use graph_text::graph_text;

@@ -1,7 +1,9 @@
 // SPDX-License-Identifier: Apache-2.0 OR MIT
-//! Judges spaces by the definitions of histories: makes random histories, the same in each run, and compares what a space answers to each
-//! event, and the outline that it has at the end, with what the functions of `history_model` compute from the list of events; of long histories
-//! with a course, which keeps the places and the table from event to event and has those functions compute the rest.
+//! Judges spaces by the definitions of histories.
+//!
+//! It makes random histories, the same in each run. It compares each answer of a space, and the
+//! outline at the end, with what the functions of `history_model` compute from the list of events.
+//! For long histories a course keeps the places and the table from event to event.
 #![tactic(auto)]
 
 mod course;

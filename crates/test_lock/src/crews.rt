@@ -55,7 +55,7 @@ fn ticks<P: Port>(port: &mut P, turns: u64) -> u64
 }
 
 /// A pass after so many ticks, and how many of them were refused.
-pub(crate) fn ticked<R: Wait>(
+pub(crate) fn tick_pass<R: Wait>(
     rt: &R,
     alloc: Global,
     lock: &TurnLock,
@@ -73,12 +73,12 @@ pub(crate) fn ticked<R: Wait>(
 }
 
 /// A pass after so many ticks, made by a port whose entries exist in proofs alone.
-pub(crate) fn ticked_and_told<R: Wait>(rt: &R, lock: &TurnLock, mut pass: Pass, turns: u64) -> Pass
+pub(crate) fn tick_pass_told<R: Wait>(rt: &R, lock: &TurnLock, mut pass: Pass, turns: u64) -> Pass
     requires own { IsBranchOf lock.now pass }
     requires few { turns < 2 ^ 62 }
     ensures { IsBranchOf lock.now result }
 {
-    let mut port = PassPort::told(rt, lock, &mut pass);
+    let mut port = PassPort::new_told(rt, lock, &mut pass);
     let _refused = ticks(&mut port, turns);
     let _told = port.into_told();
     pass
@@ -135,7 +135,7 @@ fn calls<P: Port>(port: &mut P, count: u64, object: ObjId)
 }
 
 /// A pass after so many calls of an object.
-pub(crate) fn called<R: Wait>(
+pub(crate) fn call_as_pass<R: Wait>(
     rt: &R,
     alloc: Global,
     lock: &TurnLock,
@@ -188,7 +188,7 @@ pub(crate) fn crew<R: Threads + Wait + Sync>(
         move || -> Pass
             requires { IsSync R.row × IsBranchOf lock.now pass × (count ≤ 1000000) }
             ensures { IsBranchOf lock.entry.now result }
-        { called(rt, alloc, lock, pass, count, object) },
+        { call_as_pass(rt, alloc, lock, pass, count, object) },
     );
     root.join(lock, pass);
     root

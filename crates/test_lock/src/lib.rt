@@ -1,10 +1,14 @@
 // SPDX-License-Identifier: Apache-2.0 OR MIT
-//! Tests of the turn lock: threads that take turns at one space, and what its history is afterwards.
+//! Tests of the turn lock: threads that take turns at one space, and its history afterwards.
 #![tactic(auto)]
 
 #[cfg(test)]
 mod crews;
 #[cfg(test)]
 mod journals;
+#[cfg(test)]
+mod quiet;
+#[cfg(test)]
+mod records;
 #[cfg(test)]
 mod turns;

@@ -2,7 +2,7 @@
 ghost use Rattle.std.specs.Prelude.{◌≡◌, ◌+◌, ◌≤◌, IfSome};
 ghost use Rattle.turn_lock.specs.Handles.{IsBranchOf, IsRootOf};
 
-use crate::crews::{FIRST, crew, fresh, ticked, ticked_and_told};
+use crate::crews::{FIRST, crew, fresh, tick_pass, tick_pass_told};
 use crate::journals::are_counted;
 use object_ids::ObjIds;
 use sequence::Kinds;
@@ -14,12 +14,12 @@ use std::thread::{Threads, join};
 use turn_lock::{Pass, Root, TurnLock};
 
 /// Stops where this does not hold.
-fn must(rt: &impl Abort, holds: bool, what: &str) {
+pub(crate) fn must(rt: &impl Abort, holds: bool, what: &str) {
     assert!(rt; holds, "{what}");
 }
 
 /// A pass that is split off the root, if there is one more.
-fn branch(root: &mut Root, lock: &TurnLock) -> Option<Pass>
+pub(crate) fn branch(root: &mut Root, lock: &TurnLock) -> Option<Pass>
     requires { IsRootOf lock.now root.old }
     ensures root { IsRootOf lock.now root.new }
     ensures pass { IfSome result (λ p. IsBranchOf lock.now p) }
@@ -52,11 +52,11 @@ fn tick_by_two<R: Threads + Wait + Sync>(
         move || -> (Pass, u64)
             requires { IsBranchOf lock.now one × (turns ≤ 1000) }
             ensures { IsBranchOf lock.entry.now result.0 }
-        { ticked(rt, alloc, lock, one, turns) },
+        { tick_pass(rt, alloc, lock, one, turns) },
         move || -> (Pass, u64)
             requires { IsBranchOf lock.now two × (turns ≤ 1000) }
             ensures { IsBranchOf lock.entry.now result.0 }
-        { ticked(rt, alloc, lock, two, turns) },
+        { tick_pass(rt, alloc, lock, two, turns) },
     );
     root.join(lock, two);
     root.join(lock, one);
@@ -133,7 +133,7 @@ fn a_full_history_refuses_while_others_wait(rt: HostRuntime) {
 }
 
 /// The space of one object, which is pinned.
-fn space_of_one(rt: &impl Abort, alloc: Global) -> Space {
+pub(crate) fn space_of_one(rt: &impl Abort, alloc: Global) -> Space {
     let mut space = fresh(alloc);
     let pinned = true;
     let opened = space.turn(0, 0, Ask::Open { kind: 3, pinned });
@@ -181,7 +181,7 @@ fn split_and_tick<R: Wait>(rt: &R, lock: &TurnLock, root: &mut Root, turns: u64)
     ensures pass { IfSome result (λ p. IsBranchOf lock.now p × (root.new.out ≡ root.old.out + 1)) }
 {
     match branch(root, lock) {
-        Some(pass) => Some(ticked_and_told(rt, lock, pass, turns)),
+        Some(pass) => Some(tick_pass_told(rt, lock, pass, turns)),
         None => None,
     }
 }

@@ -96,7 +96,7 @@ fn check_usage(rt: &impl Runs, alloc: Global, line: &str) {
     let mut host = opening_host(rt, alloc);
     let status = run_line(rt, alloc, line, &mut host);
     must(rt, status == 1, line);
-    must(rt, is_line(host.errors.held(), "usage"), line);
+    must(rt, is_line(host.errors.bytes(), "usage"), line);
     must(rt, host.input.reads() == 0, line);
     must(rt, host.output.writes() == 0, line);
 }

@@ -120,10 +120,10 @@ fn serve(rt: &impl Abort, alloc: Global, book: &Book, wires: &mut Wires) -> Seen
     let mut space = space_of_one(rt, alloc);
     let mut worker = RecordingWorker::new(alloc, OutcomeList::new(alloc));
     let (end, port) = serve_at(rt, alloc, book, wires, &mut space, &mut worker);
-    let (values, nodes) = first_of(worker.recorded());
+    let (values, nodes) = first_of(worker.records());
     Seen {
         end,
-        calls: worker.recorded().len(),
+        calls: worker.records().len(),
         values,
         nodes,
         port,
@@ -187,7 +187,7 @@ fn wires_of_words(rt: &impl Abort, alloc: Global, input: &str, outside: Outside)
 /// Returns whether a sink holds the bytes that words spell.
 fn is_written(rt: &impl Abort, alloc: Global, sink: &MemSink, output: &str) -> bool {
     let output = bytes_of(rt, alloc, output);
-    sink.held() == output.as_slice()
+    sink.bytes() == output.as_slice()
 }
 
 /// Serves what a line says, byte by byte.

@@ -41,7 +41,7 @@ pub(crate) fn printed(rt: &impl Runs, alloc: Global, words: &str, input: &[u8]) 
     let mut host = host_of(rt, alloc, input, cut_by("-"));
     let status = run_line(rt, alloc, words, &mut host);
     must(rt, status == 0, words);
-    copied(rt, alloc, host.output.held())
+    copied(rt, alloc, host.output.bytes())
 }
 
 /// The first line.

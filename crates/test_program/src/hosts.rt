@@ -175,8 +175,8 @@ pub(crate) fn is_line(bytes: &[u8], line: &str) -> bool {
 
 /// Looks whether a host got this output and this line of errors.
 fn check_host<H>(rt: &impl Abort, host: &MemHost<H>, output: &[u8], line: &str) {
-    must(rt, host.output.held() == output, "output");
-    must(rt, is_line(host.errors.held(), line), line);
+    must(rt, host.output.bytes() == output, "output");
+    must(rt, is_line(host.errors.bytes(), line), line);
 }
 
 /// Runs the program with one word over this input, and looks whether it wrote this output and ended as told, by a status and a line.
@@ -195,7 +195,7 @@ pub(crate) fn check(
     let ended = run_line(rt, alloc, command, &mut host);
     must(rt, u32::from(ended) == number_of(rt, status), line);
     check_host(rt, &host, output, line);
-    host.input.left().len()
+    host.input.rest().len()
 }
 
 /// Looks whether so many bytes are left, where a text says how many.

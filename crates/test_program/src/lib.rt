@@ -1,7 +1,8 @@
 // SPDX-License-Identifier: Apache-2.0 OR MIT
-//! Tests of the program, and of what it reads, writes and serves.
+//! Tests of the program: its words, commands, lines and statuses, over sources, sinks and links in
+//! memory.
 //!
-//! A case is a row of a table with what it must give, and one loop runs all rows of its kind.
+//! A case is a row of a table with what it must give. One loop runs all rows of its kind.
 #![tactic(auto)]
 
 #[cfg(test)]
@@ -38,6 +39,8 @@ mod longest;
 mod object_calls;
 #[cfg(test)]
 mod promptness;
+#[cfg(test)]
+mod recording;
 #[cfg(test)]
 mod replays;
 #[cfg(test)]

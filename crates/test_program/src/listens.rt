@@ -57,7 +57,7 @@ fn check_deaf(rt: &impl Runs, alloc: Global, line: &str) {
     };
     let status = run(rt, alloc, &words, &mut host);
     must(rt, status == 3, line);
-    must(rt, is_line(host.errors.held(), "listen fault"), line);
+    must(rt, is_line(host.errors.bytes(), "listen fault"), line);
     must(rt, host.output.writes() == 0, line);
     must(rt, host.listener.faults == 1, line);
     must(rt, host.served.is_none(), line);

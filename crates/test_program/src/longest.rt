@@ -44,7 +44,7 @@ fn check_length(rt: &impl Runs, alloc: Global, line: &str) {
     let mut host = host_over(rt, alloc, input, sink_of(rt, alloc, ""), "");
     let ended = run(rt, alloc, &words, &mut host);
     must(rt, u32::from(ended) == number_of(rt, status), line);
-    must(rt, is_line(host.errors.held(), told), line);
+    must(rt, is_line(host.errors.bytes(), told), line);
     must(rt, host.output.writes() == 0, line);
 }
 

@@ -88,7 +88,7 @@ fn check_link<H>(
 ) {
     let bytes = bytes_of(rt, alloc, sent);
     match host.talked.get(index) {
-        Some(halves) => must(rt, halves.sink.held() == bytes.as_slice(), sent),
+        Some(halves) => must(rt, halves.sink.bytes() == bytes.as_slice(), sent),
         None => must(rt, server == "none", "a link"),
     }
 }
@@ -97,11 +97,15 @@ fn check_link<H>(
 fn check_called<H>(rt: &impl Abort, alloc: Global, host: &MemHost<H>, row: Row) {
     let printed = bytes_of(rt, alloc, row.printed);
     let (_status, line) = cut(row.told, ' ');
-    must(rt, host.output.held() == printed.as_slice(), row.printed);
-    must(rt, is_line(host.errors.held(), line), line);
+    must(rt, host.output.bytes() == printed.as_slice(), row.printed);
+    must(rt, is_line(host.errors.bytes(), line), line);
     check_link(rt, alloc, host, 0, row.first_server, row.first_sent);
     check_link(rt, alloc, host, 1, row.second_server, row.second_sent);
-    must(rt, host.talked.len() == host.dialer.dialed(), "halves");
+    must(
+        rt,
+        host.talked.len() == host.dialer.dialed_count(),
+        "halves",
+    );
 }
 
 /// Runs a row.

@@ -3,9 +3,9 @@ ghost use Rattle.std.specs.Prelude.{◌≤◌, length, IsTrue};
 ghost use Rattle.mod_utf.specs.Utf.{utf};
 
 use crate::hosts::{MemHost, Runs, cut_by, host_of, is_line, must, put, run_line, sink_of};
-use crate::texts::{bytes_of, cut, number_of, numbers_of};
+use crate::texts::{bytes_of, cut, moments_of, number_of, numbers_of};
 use mod_utf::utf::{encoded_len, units_of_ascii};
-use sequence::{ByteList, Kinds, MomentList, Units};
+use sequence::{ByteList, Kinds, Units};
 use std::alloc::Global;
 use std::marker::Model;
 use std::process::Abort;
@@ -65,6 +65,15 @@ fn is_short(host: &Units) -> bool
     encoded_len(host) <= 255
 }
 
+/// What a connection sends, which of its reads and writes fail, and the moments of its clock.
+#[derive(Clone, Copy)]
+struct Sent<'a> {
+    words: &'a str,
+    failing_reads: &'a str,
+    failing_writes: &'a str,
+    moments: &'a str,
+}
+
 /// Connections of which no half failed yet.
 #[derive(Drop)]
 pub(crate) struct Network {
@@ -95,6 +104,17 @@ impl Network {
         self.add_failing(rt, alloc, words, "", "");
     }
 
+    /// Adds a connection that sends these bytes, and whose clock gives these moments.
+    pub(crate) fn add_at(&mut self, rt: &impl Abort, alloc: Global, words: &str, moments: &str) {
+        let sent = Sent {
+            words,
+            failing_reads: "",
+            failing_writes: "",
+            moments,
+        };
+        self.add_sent(rt, alloc, sent);
+    }
+
     /// Adds a connection that sends these bytes, of which the reads and the writes of these indices fail.
     pub(crate) fn add_failing(
         &mut self,
@@ -104,21 +124,31 @@ impl Network {
         failing_reads: &str,
         failing_writes: &str,
     ) {
+        let sent = Sent {
+            words,
+            failing_reads,
+            failing_writes,
+            moments: "",
+        };
+        self.add_sent(rt, alloc, sent);
+    }
+
+    /// Adds a connection.
+    fn add_sent(&mut self, rt: &impl Abort, alloc: Global, sent: Sent) {
         let Ok(host) = units_of_ascii(alloc, b"127.0.0.1") else {
             return must(rt, false, "memory");
         };
         if !is_short(&host) {
             return;
         }
-        let bytes = bytes_of(rt, alloc, words);
         let added = self.links.push(Link {
             source: MemSource::new(
-                bytes,
+                bytes_of(rt, alloc, sent.words),
                 Kinds::new(alloc),
-                numbers_of(rt, alloc, failing_reads),
+                numbers_of(rt, alloc, sent.failing_reads),
             ),
-            sink: MemSink::new(alloc, numbers_of(rt, alloc, failing_writes)),
-            clock: MemClock::new(MomentList::new(alloc)),
+            sink: MemSink::new(alloc, numbers_of(rt, alloc, sent.failing_writes)),
+            clock: MemClock::new(moments_of(rt, alloc, sent.moments)),
             host,
             port: 1234,
         });
@@ -132,9 +162,14 @@ impl Network {
     }
 
     /// The listener that gives these connections, none of them at the waits of these indices, and that is told to stop at the wait of the index `stop`.
-    pub(crate) fn waiting(self, alloc: Global, quiet: Kinds, stop: Option<u64>) -> MemListener {
+    pub(crate) fn scripted_listener(
+        self,
+        alloc: Global,
+        quiet: Kinds,
+        stop: Option<u64>,
+    ) -> MemListener {
         let Network { links } = self;
-        MemListener::waiting(alloc, links, quiet, stop)
+        MemListener::with_script(alloc, links, quiet, stop)
     }
 
     /// The dialer that gives these connections.
@@ -155,9 +190,13 @@ fn listener_of(rt: &impl Abort, alloc: Global, inputs: &str) -> MemListener {
 
 /// Looks at what a host holds after a run.
 fn check_after<H>(rt: &impl Abort, host: &MemHost<H>, taken: u32, told: &str, output: &[u8]) {
-    must(rt, is_line(host.errors.held(), told), told);
-    must(rt, host.output.held() == output, "output");
-    must(rt, host.listener.accepted() == taken as usize, "accepted");
+    must(rt, is_line(host.errors.bytes(), told), told);
+    must(rt, host.output.bytes() == output, "output");
+    must(
+        rt,
+        host.listener.accepted_count() == taken as usize,
+        "accepted",
+    );
     let [(address, port)] = host.listener.ports() else {
         return must(rt, false, "one port");
     };
@@ -178,7 +217,7 @@ pub(crate) fn check_one<H>(
     };
     let bytes = bytes_of(rt, alloc, got);
     match report.links.get(index) {
-        Some(link) => must(rt, link.sink.held() == bytes.as_slice(), got),
+        Some(link) => must(rt, link.sink.bytes() == bytes.as_slice(), got),
         None => must(rt, false, got),
     }
 }
@@ -192,7 +231,7 @@ fn check_served<H>(rt: &impl Abort, alloc: Global, host: &MemHost<H>, got: &str)
     for wanted in got.split(',') {
         let bytes = bytes_of(rt, alloc, wanted);
         match report.links.get(count) {
-            Some(link) => must(rt, link.sink.held() == bytes.as_slice(), wanted),
+            Some(link) => must(rt, link.sink.bytes() == bytes.as_slice(), wanted),
             None => must(rt, false, wanted),
         }
         count = count.saturating_add(1);
@@ -238,8 +277,8 @@ fn last_bytes<H>(host: &MemHost<H>) -> (u8, u8) {
     };
     match report.links.as_slice() {
         [one, two] => (
-            one.sink.held().last().copied().unwrap_or(0),
-            two.sink.held().last().copied().unwrap_or(0),
+            one.sink.bytes().last().copied().unwrap_or(0),
+            two.sink.bytes().last().copied().unwrap_or(0),
         ),
         _ => (0, 0),
     }

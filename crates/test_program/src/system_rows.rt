@@ -78,7 +78,7 @@ fn check_any(rt: &impl Runs, alloc: Global, input: &[u8]) {
     let mut host = host_of(rt, alloc, input, cut_by("-"));
     let status = run_line(rt, alloc, "answer", &mut host);
     must(rt, matches!(status, 0 | 2 | 7), "the status");
-    must(rt, !host.errors.held().is_empty(), "a line");
+    must(rt, !host.errors.bytes().is_empty(), "a line");
 }
 
 #[test]

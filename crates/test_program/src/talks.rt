@@ -51,11 +51,15 @@ fn dialer_to(
 fn check_left<H>(rt: &impl Abort, alloc: Global, host: &MemHost<H>, server: &str, sent: &str) {
     let sent = bytes_of(rt, alloc, sent);
     match host.talked.as_slice() {
-        [halves] => must(rt, halves.sink.held() == sent.as_slice(), "sent"),
+        [halves] => must(rt, halves.sink.bytes() == sent.as_slice(), "sent"),
         [] => must(rt, server == "none", "a link"),
         _ => must(rt, false, "one link"),
     }
-    must(rt, host.talked.len() == host.dialer.dialed(), "halves");
+    must(
+        rt,
+        host.talked.len() == host.dialer.dialed_count(),
+        "halves",
+    );
 }
 
 /// Looks whether our own server answers what was sent with these bytes, where the client took all of them.
@@ -64,14 +68,14 @@ fn check_answered(rt: &impl Runs, alloc: Global, server: &str, sent: &str) {
     let server = bytes_of(rt, alloc, server);
     let mut host = host_of(rt, alloc, sent.as_slice(), cut_by("-"));
     let _status = run_line(rt, alloc, "answer open", &mut host);
-    must(rt, host.output.held() == server.as_slice(), "answered");
+    must(rt, host.output.bytes() == server.as_slice(), "answered");
 }
 
 /// Looks at what a run printed and told.
 fn check_told<H>(rt: &impl Abort, alloc: Global, host: &MemHost<H>, printed: &str, line: &str) {
     let printed = bytes_of(rt, alloc, printed);
-    must(rt, host.output.held() == printed.as_slice(), "printed");
-    must(rt, is_line(host.errors.held(), line), line);
+    must(rt, host.output.bytes() == printed.as_slice(), "printed");
+    must(rt, is_line(host.errors.bytes(), line), line);
 }
 
 /// Runs a line.

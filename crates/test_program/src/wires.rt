@@ -58,7 +58,7 @@ fn check_read(rt: &impl Abort, source: &mut MemSource, row: &str) {
     let (count, left) = cut(row, ' ');
     let found = read_four(source);
     must(rt, found == number_of(rt, count) as usize, row);
-    must(rt, source.left().len() == number_of(rt, left) as usize, row);
+    must(rt, source.rest().len() == number_of(rt, left) as usize, row);
 }
 
 /// Looks at all reads.
@@ -100,7 +100,7 @@ fn write_three(rt: &impl Abort, sink: &mut MemSink) {
 fn writes_are_kept_and_fail_as_told(rt: HostRuntime) {
     let mut sink = sink_of(&rt, rt.alloc(), "1");
     write_three(&rt, &mut sink);
-    must(&rt, sink.held() == b"abcghi".as_slice(), "held");
+    must(&rt, sink.bytes() == b"abcghi".as_slice(), "held");
     must(&rt, sink.writes() == 3, "writes");
     must(&rt, sink.faults() == 1, "faults");
 }
@@ -200,7 +200,7 @@ fn check_end(rt: &impl Abort, alloc: Global, line: &str) {
     must(rt, pull.at() == u64::from(number_of(rt, at)), line);
     must(
         rt,
-        source.left().len() == number_of(rt, left) as usize,
+        source.rest().len() == number_of(rt, left) as usize,
         line,
     );
 }

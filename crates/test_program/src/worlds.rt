@@ -5,7 +5,7 @@ use sequence::ByteList;
 use std::alloc::Global;
 use std::process::Abort;
 
-/// Scripts, each with its end: the lines after `=`. The first five are the files `examples/*.script`, in the order of `docs/WORLD.md`. `test_worlds` has
+/// Scripts, each with its end: the lines after `=`. The first five are the files `examples/*.script`, in the order of `docs/JOURNAL.md`. `test_worlds` has
 /// more, each also one step shorter and one step longer.
 const SCRIPTS: &str = "world 100 50 1
 make

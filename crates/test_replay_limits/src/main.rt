@@ -1,5 +1,6 @@
 // SPDX-License-Identifier: Apache-2.0 OR MIT
-//! Replays journals that reach a limit of their space, and prints for each the status, the outline and the line on the errors' sink.
+//! Replays journals that reach a limit of their space, and prints the status, the outline and the
+//! line of each.
 #![tactic(auto)]
 
 use journal::Word;
@@ -154,8 +155,8 @@ fn show<R: Threads + Wait + Sync, W: Write>(
     };
     let status = run(rt, alloc, &Words::from_vec(words), &mut host);
     writeln!(out, "{what}: {status}")?;
-    out.write_all(host.output.held())?;
-    out.write_all(host.errors.held())
+    out.write_all(host.output.bytes())?;
+    out.write_all(host.errors.bytes())
 }
 
 /// The last units of a history: they are enough for a tick, and not for one more dirty.

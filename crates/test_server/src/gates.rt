@@ -34,6 +34,11 @@ pub(crate) fn are_ended(ended: &Ended, wanted: u64) -> bool {
     false
 }
 
+/// Returns whether the listener was told to stop.
+pub(crate) fn is_told_to_stop(ended: &Ended) -> bool {
+    ended.load(Ordering::SeqCst) >= TOLD
+}
+
 /// A source that gives its bytes once so many halves of other links were shut, and notes when it is shut. It waits for at most `LOOKS` looks, and then
 /// gives none.
 #[derive(Drop)]
@@ -75,8 +80,8 @@ pub(crate) struct GatedSink {
 
 impl GatedSink {
     /// The bytes that it took.
-    pub(crate) fn held(&self) -> &[u8] {
-        self.sink.held()
+    pub(crate) fn bytes(&self) -> &[u8] {
+        self.sink.bytes()
     }
 }
 
@@ -143,7 +148,7 @@ impl Gated {
 
     /// For how many halves of others the next link waits: two of each.
     fn next_wanted(&self) -> u64 {
-        match self.wanted.as_slice().get(self.links.accepted()) {
+        match self.wanted.as_slice().get(self.links.accepted_count()) {
             Some(wanted) => 2 * u64::from(*wanted),
             None => 0,
         }

@@ -1,5 +1,7 @@
 // SPDX-License-Identifier: Apache-2.0 OR MIT
-//! Tests of the server with the sample's crew: links that are served at once, one after another, and many together, all in memory.
+//! Tests of the server with the sample's crew, all in memory: links that are served at once, one
+//! after another, and many together; links and listeners that fail; 200 links whose history is
+//! replayed; four recorded connections of Java 17.
 #![tactic(auto)]
 
 #[cfg(test)]
@@ -24,6 +26,8 @@ mod outlines;
 mod promptly;
 #[cfg(test)]
 mod recorded;
+#[cfg(test)]
+mod recording;
 #[cfg(test)]
 mod replies;
 #[cfg(test)]

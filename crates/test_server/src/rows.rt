@@ -21,8 +21,8 @@ const ADDING: &str =
 fn last_bytes<'t, R: Wait + Sync>(report: &ReportOf<'t, R>) -> (u8, u8) {
     match report.links.as_slice() {
         [one, two] => (
-            one.sink.held().last().copied().unwrap_or(0),
-            two.sink.held().last().copied().unwrap_or(0),
+            one.sink.bytes().last().copied().unwrap_or(0),
+            two.sink.bytes().last().copied().unwrap_or(0),
         ),
         _ => (0, 0),
     }

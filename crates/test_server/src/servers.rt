@@ -114,7 +114,7 @@ impl Cases {
             wanted,
             failing,
         } = self;
-        let listener = MemListener::waiting(alloc, links, quiet, Some(stop));
+        let listener = MemListener::with_script(alloc, links, quiet, Some(stop));
         Gated::new(alloc, listener, wanted, failing)
     }
 
@@ -247,7 +247,7 @@ fn check_link<H>(
     let is_open = words.len() < output.len();
     must(
         rt,
-        is_written(link.sink.held(), wanted.as_slice(), is_open),
+        is_written(link.sink.bytes(), wanted.as_slice(), is_open),
         line,
     );
     must(rt, is_told(alloc, link.end, end), line);

@@ -109,7 +109,7 @@ fn are_told(first: &[Recorded], second: &[Recorded]) -> bool {
 fn check_told(rt: &impl Abort, report: &Told) {
     match report.links.as_slice() {
         [one, two] => {
-            let told = are_told(one.hand.recorded(), two.hand.recorded());
+            let told = are_told(one.hand.records(), two.hand.records());
             must(rt, told, "told");
         }
         _ => must(rt, false, "two links"),

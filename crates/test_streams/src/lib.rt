@@ -1,7 +1,8 @@
 // SPDX-License-Identifier: Apache-2.0 OR MIT
-//! Tests of the crates that speak of streams, from units and lists up to the text of a graph.
+//! Tests of the crates of streams, from units and lists to the text of a graph: readers, writers,
+//! Java's own objects.
 //!
-//! A case is a line of text with what it must give, and one loop runs all lines of its kind.
+//! A case is a line of text with what it must give. One loop runs all lines of its kind.
 #![tactic(auto)]
 
 #[cfg(test)]

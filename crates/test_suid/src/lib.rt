@@ -1,5 +1,6 @@
 // SPDX-License-Identifier: Apache-2.0 OR MIT
-//! Tests of class outlines, and of the numbers and descriptions that are made of them.
+//! Tests of class outlines byte for byte, of bad lines and limits, and of the numbers of Java's own
+//! classes.
 #![tactic(auto)]
 
 #[cfg(test)]

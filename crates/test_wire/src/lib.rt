@@ -1,5 +1,5 @@
 // SPDX-License-Identifier: Apache-2.0 OR MIT
-//! Tests of connections: in memory, and over TCP on this machine alone.
+//! Tests of links in memory, and over TCP on this machine alone.
 #![tactic(auto)]
 
 #[cfg(test)]

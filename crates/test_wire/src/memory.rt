@@ -53,7 +53,7 @@ fn dialed_links_come_in_order_and_then_none(rt: HostRuntime) {
     check_dial(&rt, &mut dialer, &host, 7);
     check_dial(&rt, &mut dialer, &host, 9);
     must(&rt, dialer.dial(&host, 1099).is_err(), "no third link");
-    must(&rt, dialer.dialed() == 2, "dialed");
+    must(&rt, dialer.dialed_count() == 2, "dialed");
     must(&rt, dialer.faults() == 1, "a fault");
 }
 
@@ -74,7 +74,7 @@ fn a_listener_is_quiet_and_is_told_to_stop(rt: HostRuntime) {
     must(&rt, quiet.push(0).is_ok(), "memory");
     must(&rt, quiet.push(2).is_ok(), "memory");
     let links = two_links(&rt, rt.alloc());
-    let mut listener = MemListener::waiting(rt.alloc(), links, quiet, Some(5));
+    let mut listener = MemListener::with_script(rt.alloc(), links, quiet, Some(5));
     for word in [-1, 7, -1, 9, -3, -2, -2] {
         must(&rt, word_of(listener.wait()) == word, "a wait");
     }
@@ -85,12 +85,12 @@ fn a_listener_is_quiet_and_is_told_to_stop(rt: HostRuntime) {
 #[test]
 fn a_listener_that_was_told_gives_no_link(rt: HostRuntime) {
     let links = two_links(&rt, rt.alloc());
-    let mut listener = MemListener::waiting(rt.alloc(), links, Kinds::new(rt.alloc()), Some(1));
+    let mut listener = MemListener::with_script(rt.alloc(), links, Kinds::new(rt.alloc()), Some(1));
     for word in [7, -2, -2] {
         must(&rt, word_of(listener.wait()) == word, "a wait");
     }
     must(&rt, listener.accept().is_err(), "no link");
-    must(&rt, listener.accepted() == 1, "one was given");
+    must(&rt, listener.accepted_count() == 1, "one was given");
 }
 
 /// A half in memory goes on after it was shut, as contracts say.
@@ -102,9 +102,9 @@ fn halves_that_were_shut_go_on(rt: HostRuntime) {
     let mut buf = [0; 2];
     must(&rt, link.source.read(&mut buf) == Ok(2), "two bytes");
     link.source.shut();
-    must(&rt, link.source.left() == b"c".as_slice(), "one is left");
+    must(&rt, link.source.rest() == b"c".as_slice(), "one is left");
     must(&rt, link.sink.write(b"de") == Ok(2), "a write");
     link.sink.shut();
-    must(&rt, link.sink.held() == b"de".as_slice(), "it is held");
+    must(&rt, link.sink.bytes() == b"de".as_slice(), "it is held");
     must(&rt, link.source.faults() == 0, "no fault");
 }

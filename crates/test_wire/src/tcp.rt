@@ -171,7 +171,7 @@ fn word_of<L: Drop>(waited: Result<Waited<L>, Failed>) -> &'static str {
     }
 }
 
-/// Looks at waits of a listener: one without a link, one with a link that is dialled, and one after its flag is set.
+/// Looks at waits of a listener: one without a link, one with a link that is dialled, and two after its flag is set. Then no client connects.
 fn check_waits<R>(rt: &R, alloc: Global) -> Option<()>
 where
     R: Net<Listener = TcpListener, Stream = TcpStream> + Clock + Abort + Sync,
@@ -186,6 +186,8 @@ where
     must(rt, word_of(listener.wait()) == "told", "and again");
     must(rt, listener.faults() == 0, "no fault");
     must(rt, listener.accept().is_err(), "no link from then on");
+    let refused = TcpStream::connect(rt, here(port)).is_err();
+    must(rt, refused, "no client from then on");
     Some(())
 }
 
@@ -195,7 +197,7 @@ where
     R: Net<Listener = TcpListener, Stream = TcpStream> + Clock + Abort + Sync,
     L: Listener,
 {
-    let mut dialer = TcpDial::waiting(alloc, rt, 1);
+    let mut dialer = TcpDial::with_reply_limit(alloc, rt, 1);
     let mut dialed = dialer.dial(&host_here(rt, alloc), i32::from(port)).ok()?;
     must(rt, is_here(&dialed.host), "the host of this end");
     match listener.wait() {

@@ -1,6 +1,9 @@
 // SPDX-License-Identifier: Apache-2.0 OR MIT
-//! Judges worlds by their definitions: makes random worlds, the same in each run, and compares the answer to each step, and after each step that is
-//! taken what is printed of the server and of the clients, with what plain functions over the lists of what was done say. Before that, the worked rows and the refusals.
+//! Judges worlds by their definitions.
+//!
+//! It makes random worlds of up to 200 clients, the same in each run. It compares the answer to
+//! each step, and what is printed after it, with plain functions over the lists of what was done.
+//! Before that come worked rows and refusals.
 #![tactic(auto)]
 
 mod client;

@@ -3,5 +3,7 @@ pub mod Keeps
 pub mod OrderLaws
 pub mod Passes
 pub mod PortSteps
+pub mod Rests
+pub mod Seeing
 pub mod Turning
 pub mod Views

@@ -1,7 +1,10 @@
 pub mod Answers
 pub mod Handles
+pub mod Kept
 pub mod Lending
+pub mod NoTick
 pub mod Orders
 pub mod PortLaws
 pub mod PassPorts
+pub mod Recent
 pub mod Rule

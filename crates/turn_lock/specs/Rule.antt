@@ -83,6 +83,10 @@ pub record ComesTo (config : SpaceConfig) (number : ℕ) (opening seen own h : E
 abbrev pub MayComeTo : View → Events → Type 0
 MayComeTo v h = ComesTo v.config v.number v.opening v.seen v.own h
 
+-- A pass has seen more of the history, and made no turn.
+abbrev pub SeesMore : View → View → Type 0
+SeesMore v w = (h : Events) × MayComeTo v h × (w ≡ record v { seen = h })
+
 -- ---- the rule
 
 -- The slot's value, where it is at home.

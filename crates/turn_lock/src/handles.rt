@@ -1,5 +1,5 @@
 //! The handles of a lock's callers.
-ghost use Rattle.std.specs.Prelude.{◌≡◌};
+ghost use Rattle.std.specs.Prelude.{◌≡◌, length};
 
 use crate::table::{LockSeat, LockTable};
 
@@ -7,6 +7,9 @@ use crate::table::{LockSeat, LockTable};
 #[derive(Drop)]
 pub struct TurnLock {
     pub(crate) board: LockTable,
+    /// The number of events that the space had.
+    pub(crate) opened: u64,
+    ghost counted: { opened ≡ length board.shared.key.value.events },
     ghost sized: { (board.shared.table_id.words ≡ 3) × (board.shared.table_id.slots ≡ 1) },
 }
 

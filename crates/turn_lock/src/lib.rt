@@ -1,15 +1,53 @@
 // SPDX-License-Identifier: Apache-2.0 OR MIT
-//! A lock round a space of exported objects, at which threads take turns in the order of their tickets (a ticket lock). Each
-//! thread has a pass, which knows a beginning of the one history that the space has taken, and the events of its own there.
+//! A lock around a space, so that threads take turns at one history (a ticket lock).
+//!
+//! `TurnLock::around` makes the lock and its `Root`. `split` gives a `Pass` for each thread, `join`
+//! takes it back, `close` gives the space. A pass knows a prefix of the one history and its own
+//! events there. `SeatPort` is the port of a pass; `ToldSeatPort` keeps no entries at run time. A
+//! lock made by `recording` keeps each further event until `take_recent` of the root hands it out.
+//! `tick_if_ended` makes a Tick only if a lease or a wait has ended.
+//!
+//! # What is proved
+//!
+//! - Each turn of a pass is answered as its event is at its place in the one history (`turned`).
+//!   That history begins with what the pass had seen.
+//! - Of the events after the opening, those of a pass's number are exactly its own, in order
+//!   (`ordered`; `InOrder` in `specs/Rule`).
+//! - `close` gives the space whose history has the opening's events, the root's, those of the
+//!   joined passes, and no others (`settled`).
+//! - All passes are ordered between any two steps of any threads (`passes_are_ordered`). The
+//!   toolchain's table of atomic words keeps this rule.
+//! - The entries of a port are what `Collects` says (`entries_collect`).
+//! - `take_recent` and `close_recording` hand out exactly the next events of the one history, in
+//!   order (`recent`).
+//!
+//! # What is not
+//!
+//! Fairness and waiting times. `SeatPort::turn`, `SeatPort::abandon` and `Root::turn` wait for
+//! their turn.
+//!
+//! # Choices
+//!
+//! A thread draws a ticket once no other has one, or after 4,000 looks; after 500 looks it sleeps
+//! between them. A lock makes 2^32 - 1 passes, as many as there are connection numbers. A pass
+//! makes any number of turns.
+//!
+//! # Cost
+//!
+//! A turn takes 0.39 microseconds by one thread (`bench/lock`). By 2, 4 and 16 threads the rate is
+//! 0.59, 0.47 and 0.47 of that.
 #![tactic(auto)]
 
+mod desk;
 mod handles;
 pub mod laws;
 mod lock;
 mod port;
+mod recent;
 mod root_port;
 mod steps;
 mod table;
+mod ticks;
 mod view;
 mod waiting;
 

@@ -1,21 +1,23 @@
 //! The operations of a lock.
-ghost use Rattle.std.specs.Prelude.{◌≡◌, ◌≢◌, ◌+◌, ◌<◌, MatchResult, Err, IfOk};
+ghost use Rattle.std.specs.Prelude.{◌≡◌, ◌≢◌, ◌+◌, ◌<◌, [], length, MatchResult, Err, IfOk, IfSome};
 ghost use Rattle.history.specs.Running.{running_calls_by};
 ghost use Rattle.history.specs.Table.{places};
 ghost use Rattle.history.specs.declared.limits.TheConstants.{END_OF_TIME};
 ghost use Rattle.space.specs.Entries.{entry_of};
+ghost use Rattle.turn_lock.specs.PassPorts.{PassWent};
+ghost use Rattle.turn_lock.specs.Recent.{IsRest};
 ghost use Rattle.turn_lock.specs.Rule.{EndedBy, InOrder, TurnedBy, Settled, StartsWith, left_of, most_passes, right_of, joined_of};
 ghost use Rattle.turn_lock.specs.Handles.{IsPassOf, IsBranchOf, IsFresh, IsRootOf, opening_of, view_of};
 
+use crate::desk::DeskBox;
 use crate::handles::{Pass, Root, SplitFault, TurnLock};
 use crate::steps;
 use crate::table::{Absorb, Parts, TICKET};
 use atomic_table::{Refused as NoRoom, Table};
-use history::{Ask, Event, Refused, Turn};
+use history::{Ask, Event, EventList, Refused, Turn};
 use object_ids::ObjId;
 use space::{Asked, Space};
 use std::alloc::{AllocError, AllocFailed, Global};
-use std::snapshot::Snapshot;
 use std::sync::Wait;
 
 /// The most passes that a lock makes, as many as there are numbers of connections. At 1,000 connections a second they
@@ -28,25 +30,29 @@ impl TurnLock {
         ensures fresh { MatchResult result (λ t. IsFresh t.0 t.1 × (opening_of t.0 ≡ space)) (λ s. s ≡ space) }
         ensures ordered { IfOk result (λ t. InOrder space (view_of t.1.pass)) }
     {
-        let about = Snapshot::of(&space);
-        let length = space.len();
-        let mut slots = Vec::new(alloc);
-        if let Err(failed) = slots.push(Some(space)) {
-            let AllocFailed { value } = failed;
-            return Err(value.unwrap());
+        match DeskBox::new(alloc, space, false) {
+            Ok(desk) => around_desk(alloc, desk),
+            Err(space) => Err(space),
         }
-        match Table::new(alloc, &[0, 0, length], slots, &about) {
-            Ok((board, seat)) => {
-                let pass = Pass { seat, number: 0 };
-                let root = Root {
-                    pass,
-                    made: 0,
-                    out: 0,
-                };
-                Ok((TurnLock { board }, root))
-            }
-            Err(NoRoom { mut slots }) => Err(slots.pop().unwrap().unwrap()),
+    }
+
+    /// A lock as `around` makes it, which keeps each further event until the root hands it out. A turn for whose event there is no room is refused
+    /// for want of memory. Where the end of a call that ran already finds no room, no event is kept any more, and none is handed out.
+    pub fn recording(alloc: Global, space: Space) -> Result<(TurnLock, Root), Space>
+        ensures fresh { MatchResult result (λ t. IsFresh t.0 t.1 × (opening_of t.0 ≡ space)) (λ s. s ≡ space) }
+        ensures ordered { IfOk result (λ t. InOrder space (view_of t.1.pass)) }
+    {
+        match DeskBox::new(alloc, space, true) {
+            Ok(desk) => around_desk(alloc, desk),
+            Err(space) => Err(space),
         }
+    }
+
+    /// Returns the number of events that the space had when the lock was made.
+    pub fn opening_len(&self) -> u64
+        ensures { result ≡ length (opening_of self.now).events }
+    {
+        self.opened
     }
 
     /// The space, once all passes were joined: its history is legal and begins with the one that the lock was made with and with what the
@@ -56,18 +62,64 @@ impl TurnLock {
         requires all { root.out ≡ 0 }
         ensures settled { Settled (opening_of self) (view_of root.pass) result }
     {
-        let TurnLock { board } = self;
-        let Root {
-            pass,
-            made: _,
-            out: _,
-        } = root;
-        let Pass { seat, number: _ } = pass;
-        let mut closed = board.close_with(seat);
-        let space = closed.take(0);
-        closed.free();
-        space.unwrap()
+        close_desk(self, root).into_space()
     }
+
+    /// The space as `close` gives it, with the events from this place on. None of them are given where they aren't all kept, or where the place
+    /// isn't the one at which the kept ones begin.
+    pub fn close_recording(self, root: Root, from: u64) -> (Space, Option<EventList>)
+        requires own { IsRootOf self root }
+        requires all { root.out ≡ 0 }
+        ensures settled { Settled (opening_of self) (view_of root.pass) result.0 }
+        ensures recent { IfSome result.1 (λ part. IsRest from result.0.events part) }
+    {
+        close_desk(self, root).into_parts(from)
+    }
+}
+
+/// A lock round the space of a desk, and its root. It is refused only for want of memory; then the space comes back.
+fn around_desk(alloc: Global, desk: DeskBox) -> Result<(TurnLock, Root), Space>
+    ensures fresh { MatchResult result (λ t. IsFresh t.0 t.1 × (opening_of t.0 ≡ desk)) (λ s. s ≡ desk) }
+    ensures ordered { IfOk result (λ t. InOrder desk (view_of t.1.pass)) }
+{
+    let about = desk.snapshot();
+    let opened = desk.len();
+    let mut slots = Vec::new(alloc);
+    if let Err(failed) = slots.push(Some(desk)) {
+        let AllocFailed { value } = failed;
+        return Err(value.unwrap().into_space());
+    }
+    match Table::new(alloc, &[0, 0, opened], slots, &about) {
+        Ok((board, seat)) => {
+            let pass = Pass { seat, number: 0 };
+            let root = Root {
+                pass,
+                made: 0,
+                out: 0,
+            };
+            Ok((TurnLock { board, opened }, root))
+        }
+        Err(NoRoom { mut slots }) => Err(slots.pop().unwrap().unwrap().into_space()),
+    }
+}
+
+/// The desk of a lock, once all passes were joined.
+fn close_desk(lock: TurnLock, root: Root) -> DeskBox
+    requires own { IsRootOf lock root }
+    requires all { root.out ≡ 0 }
+    ensures settled { Settled (opening_of lock) (view_of root.pass) result }
+{
+    let TurnLock { board, opened: _ } = lock;
+    let Root {
+        pass,
+        made: _,
+        out: _,
+    } = root;
+    let Pass { seat, number: _ } = pass;
+    let mut closed = board.close_with(seat);
+    let desk = closed.take(0);
+    closed.free();
+    desk.unwrap()
 }
 
 impl Root {
@@ -193,5 +245,20 @@ impl Pass {
             moment,
             object,
         )
+    }
+
+    /// Hands out the recent events from this place on, and makes no turn. It waits for its ticket.
+    pub(crate) fn take_recent<R: Wait>(
+        &mut self,
+        rt: &R,
+        lock: &TurnLock,
+        from: u64,
+    ) -> Option<EventList>
+        requires own { IsPassOf lock.now self.old }
+        ensures pass { IsPassOf lock.now self.new }
+        ensures went { PassWent self.old self.new [] }
+        ensures recent { IfSome result (λ part. IsRest from (view_of self.new).seen part) }
+    {
+        steps::take_recent(rt, &lock.board.shared, &mut self.seat, from)
     }
 }

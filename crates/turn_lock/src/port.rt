@@ -123,12 +123,12 @@ impl<'a, R: Wait> Port for PassPort<'a, R, AskedLog> {
 }
 
 /// A port whose turns wait for their ticket, and which keeps nothing of them: its entries exist in proofs alone. It takes no memory of its
-/// own, so each refusal is the space's.
+/// own, so each refusal is the space's, or that of a lock with no room for the event.
 pub type ToldSeatPort<'a, R> = PassPort<'a, R, ToldLog>;
 
 impl<'a, R: Wait> PassPort<'a, R, ToldLog> {
     /// The port of a pass of this lock. Its entries begin with the next turn.
-    pub fn told(rt: &'a R, lock: &'a TurnLock, pass: &'a mut Pass) -> ToldSeatPort<'a, R>
+    pub fn new_told(rt: &'a R, lock: &'a TurnLock, pass: &'a mut Pass) -> ToldSeatPort<'a, R>
         requires own { IsPassOf lock.now pass.old }
         ensures same_reference { result.pass.ghost_name ≡ pass.entry.ghost_name }
         ensures values { (result.pass.now ≡ pass.old) × (result.lock.now ≡ lock.now) × (result.asked ≡ []) }

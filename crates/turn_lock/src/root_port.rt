@@ -1,5 +1,5 @@
 //! The root's own pass.
-ghost use Rattle.std.specs.Prelude.{◌≡◌, ◌<◌, [], IfOk};
+ghost use Rattle.std.specs.Prelude.{◌≡◌, ◌<◌, [], IfOk, IfSome};
 ghost use Rattle.std.specs.Borrow.{sem};
 ghost use Rattle.history.specs.declared.limits.TheConstants.{END_OF_TIME};
 ghost use Rattle.ports.specs.Ties.{IsTied};
@@ -8,11 +8,12 @@ ghost use Rattle.turn_lock.specs.Handles.{IsPassOf, IsRootOf, opening_of, seen_s
 ghost use Rattle.turn_lock.specs.Lending.{LendsPass};
 ghost use Rattle.turn_lock.specs.Orders.{TurnCollects};
 ghost use Rattle.turn_lock.specs.PassPorts.{PassWent};
+ghost use Rattle.turn_lock.specs.Recent.{IsRest};
 ghost use Rattle.turn_lock.specs.Rule.{InOrder, TurnedWithEntry};
 
 use crate::handles::{Pass, Root, TurnLock};
 use crate::port::{PassPort, SeatPort};
-use history::{Ask, Refused, Turn};
+use history::{Ask, EventList, Refused, Turn};
 use ports::{Port, PortEntries};
 use std::alloc::Global;
 use std::sync::Wait;
@@ -67,11 +68,26 @@ impl Root {
     {
         turn_of_pass(rt, alloc, lock, self.own(), moment, ask)
     }
+
+    /// Hands out the events from this place on, and forgets them. It waits for its ticket, and makes no turn. None are handed out where they
+    /// aren't kept, where the place isn't the one at which the kept ones begin, or for want of memory. Then none is forgotten.
+    pub fn take_recent<R: Wait>(&mut self, rt: &R, lock: &TurnLock, from: u64) -> Option<EventList>
+        requires own { IsRootOf lock.now self.old }
+        ensures root { IsRootOf lock.now self.new }
+        ensures counts { (self.new.made ≡ self.old.made) × (self.new.out ≡ self.old.out) }
+
+        // The root makes no turn, but sees a history that begins with what it had seen.
+        ensures went { PassWent self.old.pass self.new.pass [] }
+        ensures recent { IfSome result (λ part. IsRest from (view_of self.new.pass).seen part) }
+        ensures ordered { InOrder (opening_of lock.now) (view_of self.new.pass) }
+    {
+        self.own().take_recent(rt, lock, from)
+    }
 }
 
 /// One turn of a pass, and its entries.
 #[tactic(auto, using(crate::proofs::OrderLaws::turn_collects))]
-fn turn_of_pass<R: Wait>(
+pub(crate) fn turn_of_pass<R: Wait>(
     rt: &R,
     alloc: Global,
     lock: &TurnLock,

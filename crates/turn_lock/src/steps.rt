@@ -1,20 +1,22 @@
 //! The steps of one seat.
-ghost use Rattle.std.specs.Prelude.{◌≡◌, ◌≢◌, ℕ, ◌<◌, ◌∷◌, ◌++◌, [], Err, None, IfOk};
+ghost use Rattle.std.specs.Prelude.{◌≡◌, ◌≢◌, ℕ, ◌<◌, ◌∷◌, ◌++◌, [], Err, None, IfOk, IfSome};
 ghost use Rattle.history.specs.Running.{running_calls_by};
 ghost use Rattle.history.specs.Table.{places};
 ghost use Rattle.history.specs.declared.limits.TheConstants.{END_OF_TIME};
 ghost use Rattle.space.specs.Entries.{entry_of};
 ghost use Rattle.space.specs.TurnAnswers.{IsAnswerTo};
 ghost use Rattle.turn_lock.specs.declared.view.SeatState.TheVariants.{Idle, Drawn, Called};
-ghost use Rattle.turn_lock.specs.Rule.{EndedBy, Events, MayComeTo, TurnedAt, TurnedBy, answer_of, events_after, holding, in_state, space_with, seat_after_answer};
+ghost use Rattle.turn_lock.specs.Recent.{IsRest};
+ghost use Rattle.turn_lock.specs.Rule.{EndedBy, Events, MayComeTo, SeesMore, TurnedAt, TurnedBy, answer_of, events_after, holding, in_state, space_with, seat_after_answer};
 
+use crate::desk::DeskBox;
 use crate::table::{
     Advance, Draw, LENGTH, LockSeat, Look, Naming, PassOver, Publish, SERVING, SharedTable, TICKET,
 };
 use crate::waiting::{approach, pause, wake};
-use history::{Ask, Event, Refused, Turn};
+use history::{Ask, Event, EventList, Refused, Turn};
 use object_ids::ObjId;
-use space::{Asked, Space};
+use space::Asked;
 use std::alloc::AllocError;
 use std::marker::Brand;
 use std::snapshot::Snapshot;
@@ -50,7 +52,7 @@ fn wait<R: Wait>(rt: &R, shared: &SharedTable, seat: &mut LockSeat, ticket: u64)
 }
 
 /// Waits for its turn, and takes the space out of the slot.
-fn enter<R: Wait>(rt: &R, shared: &SharedTable, seat: &mut LockSeat) -> Space
+pub(crate) fn enter<R: Wait>(rt: &R, shared: &SharedTable, seat: &mut LockSeat) -> DeskBox
     requires table { (seat.old.table_id ≡ shared.now.table_id) × (shared.now.table_id.words ≡ 3) × (shared.now.table_id.slots ≡ 1) }
     requires idle { (seat.old.me.0.state ≡ Idle) × (seat.old.me.1 ≡ []) × (0 < seat.old.me.0.parts) }
     ensures seat { (seat.new.table_id ≡ seat.old.table_id) × (seat.new.id ≡ seat.old.id) }
@@ -67,26 +69,26 @@ fn publish<N: Naming>(
     shared: &SharedTable,
     seat: &mut LockSeat,
     event: &Snapshot<Event>,
-    space: &Space,
+    desk: &DeskBox,
 )
     requires table { (seat.old.table_id ≡ shared.now.table_id) × (shared.now.table_id.words ≡ 3) × (shared.now.table_id.slots ≡ 1) }
     requires named { event.now.value ≡ N.event }
-    requires called { (t : ℕ) × (h : Events) × (seat.old.me.0.state ≡ Called t h) × (0 < seat.old.me.0.parts) × (event.now.value.by ≡ seat.old.me.0.number) × (space.now ≡ space_with seat.old.me.0.config (h ++ event.now.value ∷ [])) }
+    requires called { (t : ℕ) × (h : Events) × (seat.old.me.0.state ≡ Called t h) × (0 < seat.old.me.0.parts) × (event.now.value.by ≡ seat.old.me.0.number) × (desk.now ≡ space_with seat.old.me.0.config (h ++ event.now.value ∷ [])) }
     ensures seat { (seat.new.table_id ≡ seat.old.table_id) × (seat.new.id ≡ seat.old.id) }
     ensures view { (t : ℕ) (h : Events) → seat.old.me.0.state ≡ Called t h → seat.new.me ≡
         (record seat.old.me.0 { seen = h ++ event.now.value ∷ []; own = seat.old.me.0.own ++ event.now.value ∷ []; state = Called t (h ++ event.now.value ∷ []) }, seat.old.me.1) }
 {
-    shared.store::<Publish<N>>(seat, LENGTH, space.len());
+    shared.store::<Publish<N>>(seat, LENGTH, desk.len());
 }
 
 /// Publishes the length of the history in hand, which was seen, without an event.
-fn pass_over(shared: &SharedTable, seat: &mut LockSeat, space: &Space)
+pub(crate) fn pass_over(shared: &SharedTable, seat: &mut LockSeat, desk: &DeskBox)
     requires table { (seat.old.table_id ≡ shared.now.table_id) × (shared.now.table_id.words ≡ 3) × (shared.now.table_id.slots ≡ 1) }
-    requires called { (t : ℕ) × (h : Events) × (seat.old.me.0.state ≡ Called t h) × (0 < seat.old.me.0.parts) × (space.now ≡ space_with seat.old.me.0.config h) }
+    requires called { (t : ℕ) × (h : Events) × (seat.old.me.0.state ≡ Called t h) × (0 < seat.old.me.0.parts) × (desk.now ≡ space_with seat.old.me.0.config h) }
     ensures seat { (seat.new.table_id ≡ seat.old.table_id) × (seat.new.id ≡ seat.old.id) }
     ensures view { (t : ℕ) (h : Events) → seat.old.me.0.state ≡ Called t h → seat.new.me ≡ (record seat.old.me.0 { seen = h; state = Called t h }, seat.old.me.1) }
 {
-    shared.store::<PassOver>(seat, LENGTH, space.len());
+    shared.store::<PassOver>(seat, LENGTH, desk.len());
 }
 
 /// Publishes what the answer to an event says of it.
@@ -94,18 +96,18 @@ fn publish_answer(
     shared: &SharedTable,
     seat: &mut LockSeat,
     event: &Snapshot<Event>,
-    space: &Space,
+    desk: &DeskBox,
     answer: &Result<Turn, Refused>,
 )
     requires table { (seat.old.table_id ≡ shared.now.table_id) × (shared.now.table_id.words ≡ 3) × (shared.now.table_id.slots ≡ 1) }
     requires called { (t : ℕ) × (h : Events) × (seat.old.me.0.state ≡ Called t h) × (0 < seat.old.me.0.parts) × (event.now.value.by ≡ seat.old.me.0.number)
-        × (space.now ≡ space_with seat.old.me.0.config (events_after h event.now.value answer.now)) }
+        × (desk.now ≡ space_with seat.old.me.0.config (events_after h event.now.value answer.now)) }
     ensures seat { (seat.new.table_id ≡ seat.old.table_id) × (seat.new.id ≡ seat.old.id) }
     ensures view { (t : ℕ) (h : Events) → seat.old.me.0.state ≡ Called t h → seat.new.me ≡ (seat_after_answer seat.old.me.0 t h event.now.value answer.now, seat.old.me.1) }
 {
     match answer {
-        Ok(_turn) => publish::<Brand>(shared, seat, event, space),
-        Err(_refused) => pass_over(shared, seat, space),
+        Ok(_turn) => publish::<Brand>(shared, seat, event, desk),
+        Err(_refused) => pass_over(shared, seat, desk),
     }
 }
 
@@ -114,29 +116,29 @@ fn publish_noted(
     shared: &SharedTable,
     seat: &mut LockSeat,
     event: &Snapshot<Event>,
-    space: &Space,
+    desk: &DeskBox,
     noted: &Result<(Result<Turn, Refused>, Asked), AllocError>,
 )
     requires table { (seat.old.table_id ≡ shared.now.table_id) × (shared.now.table_id.words ≡ 3) × (shared.now.table_id.slots ≡ 1) }
     requires called { (t : ℕ) × (h : Events) × (seat.old.me.0.state ≡ Called t h) × (0 < seat.old.me.0.parts) × (event.now.value.by ≡ seat.old.me.0.number)
-        × (space.now ≡ space_with seat.old.me.0.config (events_after h event.now.value (answer_of noted.now))) }
+        × (desk.now ≡ space_with seat.old.me.0.config (events_after h event.now.value (answer_of noted.now))) }
     ensures seat { (seat.new.table_id ≡ seat.old.table_id) × (seat.new.id ≡ seat.old.id) }
     ensures view { (t : ℕ) (h : Events) → seat.old.me.0.state ≡ Called t h → seat.new.me ≡ (seat_after_answer seat.old.me.0 t h event.now.value (answer_of noted.now), seat.old.me.1) }
 {
     match noted {
-        Ok((answer, _entry)) => publish_answer(shared, seat, event, space, answer),
-        Err(_refused) => pass_over(shared, seat, space),
+        Ok((answer, _entry)) => publish_answer(shared, seat, event, desk, answer),
+        Err(_refused) => pass_over(shared, seat, desk),
     }
 }
 
 /// Gives the space back, and lets the next ticket be served.
-fn leave(shared: &SharedTable, seat: &mut LockSeat, space: Space)
+pub(crate) fn leave(shared: &SharedTable, seat: &mut LockSeat, desk: DeskBox)
     requires table { (seat.old.table_id ≡ shared.now.table_id) × (shared.now.table_id.words ≡ 3) × (shared.now.table_id.slots ≡ 1) }
-    requires called { (t : ℕ) × (h : Events) × (seat.old.me.0.state ≡ Called t h) × (0 < seat.old.me.0.parts) × (seat.old.me.1 ≡ (0, None) ∷ []) × (space ≡ space_with seat.old.me.0.config h) }
+    requires called { (t : ℕ) × (h : Events) × (seat.old.me.0.state ≡ Called t h) × (0 < seat.old.me.0.parts) × (seat.old.me.1 ≡ (0, None) ∷ []) × (desk ≡ space_with seat.old.me.0.config h) }
     ensures seat { (seat.new.table_id ≡ seat.old.table_id) × (seat.new.id ≡ seat.old.id) }
     ensures view { seat.new.me ≡ (in_state seat.old.me.0 Idle, []) }
 {
-    drop(shared.exchange(seat, 0, Some(space)));
+    drop(shared.exchange(seat, 0, Some(desk)));
     let served = shared.fetch_add::<Advance>(seat, SERVING, 1);
     wake(shared, served.wrapping_add(1));
 }
@@ -155,12 +157,12 @@ pub(crate) fn turn<R: Wait>(
     ensures seat { (seat.new.table_id ≡ seat.old.table_id) × (seat.new.id ≡ seat.old.id) × (seat.new.me.1 ≡ []) }
     ensures turned { TurnedBy seat.old.me.0 event.by event.moment event.ask result seat.new.me.0 }
 {
-    let mut space = enter(rt, shared, seat);
+    let mut desk = enter(rt, shared, seat);
     let taken = Snapshot::of(&event);
     let Event { by, moment, ask } = event;
-    let answer = space.turn(by, moment, ask);
-    publish_answer(shared, seat, &taken, &space, &answer);
-    leave(shared, seat, space);
+    let answer = desk.kept.turn(by, moment, ask);
+    publish_answer(shared, seat, &taken, &desk, &answer);
+    leave(shared, seat, desk);
     answer
 }
 
@@ -181,12 +183,12 @@ pub(crate) fn turn_noted<R: Wait>(
     ensures noted { IfOk result (λ x. x.1 ≡ entry_of event.moment event.ask x.0) }
     ensures known { IfOk result (λ x. x.0 ≢ Err Refused.OutOfMemory) }
 {
-    let mut space = enter(rt, shared, seat);
+    let mut desk = enter(rt, shared, seat);
     let taken = Snapshot::of(&event);
     let Event { by, moment, ask } = event;
-    let noted = space.turn_noted(by, moment, ask);
-    publish_noted(shared, seat, &taken, &space, &noted);
-    leave(shared, seat, space);
+    let noted = desk.kept.turn_noted(by, moment, ask);
+    publish_noted(shared, seat, &taken, &desk, &noted);
+    leave(shared, seat, desk);
     noted
 }
 
@@ -207,15 +209,35 @@ pub(crate) fn abandon<R: Wait>(
     ensures seat { (seat.new.table_id ≡ seat.old.table_id) × (seat.new.id ≡ seat.old.id) × (seat.new.me.1 ≡ []) }
     ensures turned { EndedBy seat.old.me.0 by moment object result seat.new.me.0 }
 {
-    let mut space = enter(rt, shared, seat);
-    let place = space.len();
-    space.abandon(by, moment, object);
+    let mut desk = enter(rt, shared, seat);
+    let place = desk.len();
+    desk.kept.abandon(by, moment, object);
     let taken = Snapshot::of(&Event {
         by,
         moment,
         ask: Ask::Abandon { object },
     });
-    publish::<Brand>(shared, seat, &taken, &space);
-    leave(shared, seat, space);
+    publish::<Brand>(shared, seat, &taken, &desk);
+    leave(shared, seat, desk);
     place
+}
+
+/// Hands out the recent events from this place on, and makes no turn.
+pub(crate) fn take_recent<R: Wait>(
+    rt: &R,
+    shared: &SharedTable,
+    seat: &mut LockSeat,
+    from: u64,
+) -> Option<EventList>
+    requires table { (seat.old.table_id ≡ shared.now.table_id) × (shared.now.table_id.words ≡ 3) × (shared.now.table_id.slots ≡ 1) }
+    requires idle { (seat.old.me.0.state ≡ Idle) × (seat.old.me.1 ≡ []) × (0 < seat.old.me.0.parts) }
+    ensures seat { (seat.new.table_id ≡ seat.old.table_id) × (seat.new.id ≡ seat.old.id) × (seat.new.me.1 ≡ []) }
+    ensures sees { SeesMore seat.old.me.0 seat.new.me.0 }
+    ensures recent { IfSome result (λ part. IsRest from seat.new.me.0.seen part) }
+{
+    let mut desk = enter(rt, shared, seat);
+    let part = desk.kept.take_recent(from);
+    pass_over(shared, seat, &desk);
+    leave(shared, seat, desk);
+    part
 }

@@ -1,5 +1,6 @@
-//! The words that threads step on, and the slot with the space. Word 0 is the ticket to be drawn next, word 1 the one that is served, both
+//! The words that threads step on, and the slot with the space on its desk. Word 0 is the ticket to be drawn next, word 1 the one that is served, both
 //! modulo 2^64, and word 2 the length of the history. Each struct here names what one kind of step tells the seat that takes it.
+use crate::desk::DeskBox;
 use crate::view::View;
 use atomic_table::{Join, Play, Seat, Shared, Split, Table, TableRule};
 use space::Space;
@@ -19,7 +20,7 @@ pub(crate) const LENGTH: usize = 2;
 /// The rule of the table.
 pub struct Law;
 
-impl TableRule<Option<Space>, View, Snapshot<Space>> for Law {
+impl TableRule<Option<DeskBox>, View, Snapshot<Space>> for Law {
     ghost use Rattle.turn_lock.specs.Rule.{KeepsRule, root};
 
     ghost holds = { λ opening. KeepsRule opening.value };
@@ -28,13 +29,13 @@ impl TableRule<Option<Space>, View, Snapshot<Space>> for Law {
 }
 
 /// The table that a lock owns.
-pub type LockTable = Table<Option<Space>, View, Snapshot<Space>, Law, Global>;
+pub type LockTable = Table<Option<DeskBox>, View, Snapshot<Space>, Law, Global>;
 
 /// The part of it that all threads share.
-pub type SharedTable = Shared<Option<Space>, View, Snapshot<Space>, Law>;
+pub type SharedTable = Shared<Option<DeskBox>, View, Snapshot<Space>, Law>;
 
 /// The seat with which a thread steps.
-pub type LockSeat = Seat<Option<Space>, View>;
+pub type LockSeat = Seat<Option<DeskBox>, View>;
 
 /// The event that a step publishes.
 pub trait Naming {
@@ -52,7 +53,7 @@ impl Naming for Brand {
 /// A ticket is drawn.
 pub struct Draw;
 
-impl Play<Option<Space>, View> for Draw {
+impl Play<Option<DeskBox>, View> for Draw {
     ghost use Rattle.turn_lock.specs.Rule.{DrawsTicket};
 
     ghost then = { DrawsTicket };
@@ -61,7 +62,7 @@ impl Play<Option<Space>, View> for Draw {
 /// The ticket that is served is looked at; where it is the seat's own, the slot goes to the seat.
 pub struct Look;
 
-impl Play<Option<Space>, View> for Look {
+impl Play<Option<DeskBox>, View> for Look {
     ghost use Rattle.turn_lock.specs.Rule.{LooksAtServing};
 
     ghost then = { LooksAtServing };
@@ -72,7 +73,7 @@ pub struct Publish<N> {
     of: PhantomData<N>,
 }
 
-impl<N: Naming> Play<Option<Space>, View> for Publish<N> {
+impl<N: Naming> Play<Option<DeskBox>, View> for Publish<N> {
     ghost use Rattle.turn_lock.specs.Rule.{PublishesEvent};
 
     ghost then = { PublishesEvent N.event };
@@ -81,7 +82,7 @@ impl<N: Naming> Play<Option<Space>, View> for Publish<N> {
 /// The length is published as it was.
 pub struct PassOver;
 
-impl Play<Option<Space>, View> for PassOver {
+impl Play<Option<DeskBox>, View> for PassOver {
     ghost use Rattle.turn_lock.specs.Rule.{PassesOver};
 
     ghost then = { PassesOver };
@@ -90,7 +91,7 @@ impl Play<Option<Space>, View> for PassOver {
 /// The slot goes home, and the next ticket is served.
 pub struct Advance;
 
-impl Play<Option<Space>, View> for Advance {
+impl Play<Option<DeskBox>, View> for Advance {
     ghost use Rattle.turn_lock.specs.Rule.{AdvancesServing};
 
     ghost then = { AdvancesServing };
@@ -99,7 +100,7 @@ impl Play<Option<Space>, View> for Advance {
 /// The seat has seen what the seat that was joined last had seen.
 pub struct Absorb;
 
-impl Play<Option<Space>, View> for Absorb {
+impl Play<Option<DeskBox>, View> for Absorb {
     ghost use Rattle.turn_lock.specs.Rule.{AbsorbsSeen};
 
     ghost then = { AbsorbsSeen };

@@ -1,5 +1,5 @@
 -- Links that were accepted or dialled, and ports that are listened on.
-use Rattle.std.specs.Prelude.{◌≡◌, ◌≤◌, ℕ, ℤ, Bool, false, true, List, [], ◌∷◌, ◌++◌, map, Option, None, Some, Result, Ok, Err}
+use Rattle.std.specs.Prelude.{◌≡◌, ℕ, ℤ, Bool, false, true, List, [], ◌∷◌, ◌++◌, map, Option, None, Some, Result, Ok, Err}
 use Rattle.wire_io.specs.Wire.{ReadHalf, WriteHalf, AreNewHalves, Rose}
 use Rattle.wire_io.specs.declared.link.Link.{Link}
 use Rattle.wire_io.specs.declared.listener.Waited.{Waited}
@@ -42,24 +42,24 @@ pub record Listening : Type 0 where
 abbrev pub untold_listener : ℕ → Bool → Listening
 untold_listener faults told = record { ports = None; accepted = None; faults = faults; told = told }
 
--- What a call did that listens on a port of an address. A call that failed leaves what is told.
+-- What a call did that listens on a port of an address. It counts a fault only where it failed, and then leaves what is told.
 abbrev pub Listens : {T E : Type 0} → Listening → Listening → List ℕ → ℕ → Result T E → Type 0
-Listens old new address port (Ok _) = (new.ports ≡ with_next old.ports (address, port)) × (old.faults ≤ new.faults)
+Listens old new address port (Ok _) = (new.ports ≡ with_next old.ports (address, port)) × (new.faults ≡ old.faults)
 Listens old new address port (Err _) = (new.ports ≡ old.ports) × Rose old.faults new.faults
 
--- What a call did that accepts a link, which is shown so. A call that failed gave none.
+-- What a call did that accepts a link, which is shown so. It counts a fault only where it failed, and then gave none.
 abbrev pub Accepts : {L E : Type 0} → (L → Accepted) → Listening → Listening → Result L E → Type 0
-Accepts shown old new (Ok link) = (new.accepted ≡ with_next old.accepted (shown link)) × (old.faults ≤ new.faults)
+Accepts shown old new (Ok link) = (new.accepted ≡ with_next old.accepted (shown link)) × (new.faults ≡ old.faults)
 Accepts shown old new (Err _) = (new.accepted ≡ old.accepted) × Rose old.faults new.faults
 
--- What a call did that waits for a link, which is shown so. It gave one, or none came, or the listener was told to stop. A call
--- that failed gave none. A listener that was told before answers that again, and nothing else.
+-- What a call did that waits for a link, which is shown so. It gave one, or none came, or the listener was told to stop. It counts
+-- a fault only where it failed, and then gave none. A listener that was told before answers that again, and nothing else.
 abbrev pub Waits : {L E : Type 0} → (L → Accepted) → Listening → Listening → Result (Waited L) E → Type 0
 Waits shown old new (Ok (Came link)) =
-    (new.accepted ≡ with_next old.accepted (shown link)) × (old.faults ≤ new.faults) × (new.told ≡ old.told) × (old.told ≡ false)
+    (new.accepted ≡ with_next old.accepted (shown link)) × (new.faults ≡ old.faults) × (new.told ≡ old.told) × (old.told ≡ false)
 Waits shown old new (Ok Quiet) =
-    (new.accepted ≡ old.accepted) × (old.faults ≤ new.faults) × (new.told ≡ old.told) × (old.told ≡ false)
-Waits shown old new (Ok Told) = (new.accepted ≡ old.accepted) × (old.faults ≤ new.faults) × (new.told ≡ true)
+    (new.accepted ≡ old.accepted) × (new.faults ≡ old.faults) × (new.told ≡ old.told) × (old.told ≡ false)
+Waits shown old new (Ok Told) = (new.accepted ≡ old.accepted) × (new.faults ≡ old.faults) × (new.told ≡ true)
 Waits shown old new (Err _) =
     (new.accepted ≡ old.accepted) × Rose old.faults new.faults × (new.told ≡ old.told) × (old.told ≡ false)
 
@@ -91,10 +91,10 @@ pub record Dialing : Type 0 where
 abbrev pub untold_dialer : ℕ → Dialing
 untold_dialer faults = record { dialed = None; faults = faults }
 
--- What a call did that dials a port of a host, and shows a link so. A call that failed gave none.
+-- What a call did that dials a port of a host, and shows a link so. It counts a fault only where it failed, and then gave none.
 abbrev pub Dials : {L E : Type 0} → (L → Accepted) → Dialing → Dialing → List ℕ → ℤ → Result L E → Type 0
 Dials shown old new host port (Ok link) =
-    (new.dialed ≡ with_next old.dialed (record { asked_host = host; asked_port = port; link = shown link })) × (old.faults ≤ new.faults)
+    (new.dialed ≡ with_next old.dialed (record { asked_host = host; asked_port = port; link = shown link })) × (new.faults ≡ old.faults)
 Dials shown old new host port (Err _) = (new.dialed ≡ old.dialed) × Rose old.faults new.faults
 
 -- what stands at a link in memory

@@ -117,7 +117,7 @@ impl MemDialer {
     }
 
     /// Returns the number of links that the dialer gave.
-    pub fn dialed(&self) -> usize
+    pub fn dialed_count(&self) -> usize
         ensures { result ≡ length self.now.dialed }
     {
         self.dialed.len()

@@ -73,6 +73,13 @@ pub trait Listener {
         ensures halves { IfOk result (λ waited. IfCame waited
             (λ link. AreNewHalves (Self.In.half link.source) (Self.Out.half link.sink))) }
         ensures ports { (listening self.new).ports ≡ (listening self.old).ports };
+
+    /// Gives the port that is listened on back to the system, if the listener holds one. The system then refuses the clients that wait there.
+    ///
+    /// A listener over another one calls it when it is told to stop and the one inside is not. Contracts see no change.
+    fn close(&mut self)
+        ensures { self.new ≡ self.old }
+    {}
 }
 
 /// A link in memory.
@@ -157,12 +164,17 @@ impl MemListener {
         ensures waits { result.waits ≡ 0 }
         ensures told { result.told ≡ false }
     {
-        MemListener::waiting(alloc, links, Kinds::new(alloc), None)
+        MemListener::with_script(alloc, links, Kinds::new(alloc), None)
     }
 
     /// The listener of these links, with no call so far, whose waits of these indices give no link, and which is told to stop at the
     /// wait of the index `stop`. No half of the links failed or was shut yet. It takes no memory.
-    pub fn waiting(alloc: Global, links: MemLinks, quiet: Kinds, stop: Option<u64>) -> MemListener
+    pub fn with_script(
+        alloc: Global,
+        links: MemLinks,
+        quiet: Kinds,
+        stop: Option<u64>,
+    ) -> MemListener
         requires { AllByRecursion IsNew links }
         ensures links { result.links ≡ links }
         ensures accepted { result.accepted ≡ [] }
@@ -194,7 +206,7 @@ impl MemListener {
     }
 
     /// Returns the number of links that the listener gave.
-    pub fn accepted(&self) -> usize
+    pub fn accepted_count(&self) -> usize
         ensures { result ≡ length self.now.accepted }
     {
         self.accepted.len()

@@ -87,7 +87,7 @@ impl MemSource {
     }
 
     /// The bytes still to come.
-    pub fn left(&self) -> &[u8]
+    pub fn rest(&self) -> &[u8]
         ensures { result.now ≡ self.now.left }
     {
         &self.bytes.as_slice()[self.taken..]
@@ -233,7 +233,7 @@ impl MemSink {
     }
 
     /// The bytes that it took.
-    pub fn held(&self) -> &[u8]
+    pub fn bytes(&self) -> &[u8]
         ensures { result.now ≡ self.now.held }
     {
         self.bytes.as_slice()

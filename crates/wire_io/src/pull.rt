@@ -1,5 +1,5 @@
 //! Taking bytes one after the other, with their positions.
-ghost use Rattle.std.specs.Prelude.{◌≡◌, ◌+◌, ◌<◌, ◌≤◌, ◌++◌, length, max, min, replicate, OnOk, OnErr, vec_len, vec_capacity};
+ghost use Rattle.std.specs.Prelude.{◌≡◌, ◌≢◌, ◌+◌, ◌<◌, ◌≤◌, ◌++◌, length, max, min, replicate, Err, OnOk, OnErr, vec_len, vec_capacity};
 ghost use Rattle.wire_io.specs.declared.limits.TheConstants.{LAST_POSITION};
 ghost use Rattle.wire_io.specs.declared.pull.TheConstants.{AHEAD};
 
@@ -19,7 +19,7 @@ pub enum PullEnd {
     /// The message already has as many bytes as it may have, or the position is the last, and the input goes on. It comes
     /// exactly there. The byte that shows it was taken from the source and dropped, and the position stayed.
     Limit { at: u64 },
-    /// The source failed. It comes only where the source's count of faults rose.
+    /// The source failed. It comes only where the source's count of faults rose. In no other case does that count change.
     ReadFault,
     /// There was no memory to keep the bytes. Only `take` answers it.
     OutOfMemory,
@@ -90,6 +90,8 @@ impl<'s, S: Source> Pull<'s, S> {
     #[inline]
     pub fn byte(&mut self) -> Result<u8, PullEnd>
         ensures gives { GivesByte (pull_state S.half self.old) (pull_state S.half self.new) result }
+        ensures kept { result ≢ Err PullEnd.ReadFault
+            → (S.half self.new.source.now).faults ≡ (S.half self.old.source.now).faults }
         ensures lent { self.new.source.ghost_name ≡ self.old.source.ghost_name }
     {
         let mut one = [0u8; 1];
@@ -117,6 +119,8 @@ impl<'s, S: Source> Pull<'s, S> {
     pub fn take(&mut self, alloc: Global, n: u32) -> Result<ByteList, PullEnd>
         ensures gives { GivesBytes
             (pull_state S.half self.old) (pull_state S.half self.new) n result }
+        ensures kept { result ≢ Err PullEnd.ReadFault
+            → (S.half self.new.source.now).faults ≡ (S.half self.old.source.now).faults }
         ensures lent { self.new.source.ghost_name ≡ self.old.source.ghost_name }
     {
         let wanted = n as usize;
@@ -141,6 +145,8 @@ impl<'s, S: Source> Pull<'s, S> {
     pub fn take_into(&mut self, buf: &mut [u8]) -> Result<(), PullEnd>
         ensures gives { GivesBytes (pull_state S.half self.old) (pull_state S.half self.new)
             (length buf.old) (with_bytes buf.new result) }
+        ensures kept { result ≢ Err PullEnd.ReadFault
+            → (S.half self.new.source.now).faults ≡ (S.half self.old.source.now).faults }
         ensures lent { self.new.source.ghost_name ≡ self.old.source.ghost_name }
     {
         let wanted = buf.len();
@@ -161,6 +167,8 @@ impl<'s, S: Source> Pull<'s, S> {
         requires within { from ≤ length buf.old }
         ensures gives { TakesRest
             (pull_state S.half self.old) (pull_state S.half self.new) from buf.old buf.new result }
+        ensures kept { result ≢ Err PullEnd.ReadFault
+            → (S.half self.new.source.now).faults ≡ (S.half self.old.source.now).faults }
         ensures lent { self.new.source.ghost_name ≡ self.old.source.ghost_name }
     {
         let mut done = from;
@@ -179,6 +187,8 @@ impl<'s, S: Source> Pull<'s, S> {
         requires { 0 < length buf.old }
         ensures gives { GivesFront
             (pull_state S.half self.old) (pull_state S.half self.new) buf.new result }
+        ensures kept { result ≢ Err PullEnd.ReadFault
+            → (S.half self.new.source.now).faults ≡ (S.half self.old.source.now).faults }
         ensures lent { self.new.source.ghost_name ≡ self.old.source.ghost_name }
     {
         if self.at == self.stop {
@@ -197,6 +207,8 @@ impl<'s, S: Source> Pull<'s, S> {
         requires { 0 < wanted }
         ensures gives { AppendsSome (pull_state S.half self.old) (pull_state S.half self.new)
             wanted bytes.old.items bytes.new.items result }
+        ensures kept { result ≢ Err PullEnd.ReadFault
+            → (S.half self.new.source.now).faults ≡ (S.half self.old.source.now).faults }
         ensures room { vec_capacity bytes.new ≤
             max (vec_capacity bytes.old) (vec_len bytes.old + AHEAD) }
         ensures lent { self.new.source.ghost_name ≡ self.old.source.ghost_name }
@@ -231,6 +243,8 @@ impl<'s, S: Source> Pull<'s, S> {
         requires room { self.old.at + length buf.old ≤ self.old.stop }
         ensures gives { GivesFront
             (pull_state S.half self.old) (pull_state S.half self.new) buf.new result }
+        ensures kept { result ≢ Err PullEnd.ReadFault
+            → (S.half self.new.source.now).faults ≡ (S.half self.old.source.now).faults }
         ensures lent { self.new.source.ghost_name ≡ self.old.source.ghost_name }
     {
         match self.source.read(buf) {

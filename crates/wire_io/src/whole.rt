@@ -1,5 +1,5 @@
 //! Taking all that a source has left.
-ghost use Rattle.std.specs.Prelude.{◌≡◌, ◌≤◌, ◌<◌, ◌+◌, ◌^◌, ℕ, List, length, IfOk, Err};
+ghost use Rattle.std.specs.Prelude.{◌≡◌, ◌≢◌, ◌≤◌, ◌<◌, ◌+◌, ◌^◌, ℕ, List, length, IfOk, Err};
 ghost use Rattle.wire_io.specs.Wire.{with_front, NothingLeft, Rose};
 ghost use Rattle.wire_io.specs.declared.whole.TheConstants.{READ_BLOCK};
 
@@ -15,7 +15,7 @@ pub const READ_BLOCK: usize = 4096;
 pub enum WholeEnd {
     /// The source has more bytes than the limit.
     TooLarge,
-    /// A read failed. The source's count of faults rose.
+    /// A read failed. The source's count of faults rose, which it does in no other case.
     ReadFault,
     /// There was no memory to keep the bytes.
     OutOfMemory,
@@ -40,6 +40,8 @@ pub fn take_whole<S: Source>(
         × ((S.half source.old).left ≡ with_front front (S.half source.new).left) }
     ensures read_fault { result ≡ Err WholeEnd.ReadFault →
         Rose (S.half source.old).faults (S.half source.new).faults }
+    ensures kept { result ≢ Err WholeEnd.ReadFault
+        → (S.half source.new).faults ≡ (S.half source.old).faults }
     ensures faults { (S.half source.old).faults ≤ (S.half source.new).faults }
     ensures shut { (S.half source.new).shut ≡ (S.half source.old).shut }
 {

@@ -1,6 +1,5 @@
 package interop;
 
-import java.rmi.registry.LocateRegistry;
 import sample.Counter;
 
 /**
@@ -19,7 +18,7 @@ public final class CallRate {
 
     public static void main(String[] words) throws Exception {
         int count = Integer.parseInt(words[1]);
-        Counter counter = (Counter) LocateRegistry.getRegistry("127.0.0.1", Integer.parseInt(words[0])).lookup("counter");
+        Counter counter = (Counter) Where.registry(Integer.parseInt(words[0])).lookup("counter");
         call(counter, count / 10);
         long start = System.nanoTime();
         call(counter, count);

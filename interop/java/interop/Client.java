@@ -1,16 +1,13 @@
 package interop;
 
 import java.rmi.Remote;
-import java.rmi.registry.LocateRegistry;
 import java.rmi.registry.Registry;
 
 /**
- * A client of the sample on 127.0.0.1: Client PORT CHECKS.. It prints a line for each check, and ends with status 1
- * where one failed.
+ * A client of the sample: Client PORT CHECKS.. It prints a line for each check, and ends with status 1 where one
+ * failed. The host is that of {@link Where}.
  */
 public final class Client {
-    private static final String HOST = "127.0.0.1";
-
     private final int port;
 
     private Client(int port) {
@@ -19,7 +16,7 @@ public final class Client {
 
     /** A new stub of the server's registry. */
     Registry registry() throws Exception {
-        return LocateRegistry.getRegistry(HOST, port);
+        return Where.registry(port);
     }
 
     /** What the registry has by this name. */
@@ -29,7 +26,7 @@ public final class Client {
 
     /** A stub of an object of another server, at which nobody looks. */
     Remote foreign() throws Exception {
-        return LocateRegistry.getRegistry(HOST, 1);
+        return Where.registry(1);
     }
 
     private static void checks(Client client, String name) throws Exception {

@@ -6,7 +6,6 @@ import java.io.InputStreamReader;
 import java.io.ObjectOutputStream;
 import java.lang.reflect.Proxy;
 import java.rmi.Remote;
-import java.rmi.registry.LocateRegistry;
 import java.rmi.server.RemoteObject;
 import java.util.Arrays;
 import sample.Counter;
@@ -62,7 +61,7 @@ public final class Holder {
     }
 
     public static void main(String[] words) throws Exception {
-        maker = (Maker) LocateRegistry.getRegistry("127.0.0.1", Integer.parseInt(words[0])).lookup("maker");
+        maker = (Maker) Where.registry(Integer.parseInt(words[0])).lookup("maker");
         counter = maker.make();
         say("made " + objectOf(counter));
         BufferedReader input = new BufferedReader(new InputStreamReader(System.in));

@@ -24,7 +24,7 @@ returns-in-NoObject-clause-answers g c first reads =
     let (moment, led) = c.in-Ok.ensures.led in
     let (bytes, takes, whole) = head_ends first _ c.args.head c.args.reader.stand reads in
     let prepared = rw c.take_turn.ensures.frame.setup at c.refuse.ensures.prepared in
-    rw c.take_turn.ensures.frame.pull (closing_answers _ _ (terms_of c.args.connection.now.book.now c.args.connection.now.setup.now) _ c.args.head (absent moment c.in-Ok.turn) bytes first (pull_state g.S.Source.half c.args.connection.now.pull) _ _ _ _ c.refuse.result
+    rw c.take_turn.ensures.frame.pull (closing_answers _ _ (terms_of c.args.connection.now.book.now c.args.connection.now.setup.now) _ c.args.head (absent (record { moment = moment; turn = c.in-Ok.turn })) bytes first (pull_state g.S.Source.half c.args.connection.now.pull) _ _ _ _ c.refuse.result
     takes (whole, c.in-NoObject.is) led (begin_absent c.args.head.id moment c.in-Ok.turn [] (λ o. refl) c.in-NoObject.is) prepared)
 
 pub returns-in-NoObject-clause-balanced : goal.returns-in-NoObject-clause-balanced

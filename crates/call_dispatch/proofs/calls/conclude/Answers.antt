@@ -18,7 +18,7 @@ pub returns-in-Ok-Exceptional-clause-concludes : goal.returns-in-Ok-Exceptional-
 returns-in-Ok-Exceptional-clause-concludes g c =
     let (moment, place, led) = c.give_up.ensures.led in
     let prepared = rw c.next_uid-uid.ensures.uid at (rw c.in-Ok-Exceptional.field-0-is at c.in-Ok-Exceptional.ensures.prepares) in
-    (faulted moment place, (prepared.0, prepared.1), led, prepared.2, refl)
+    (faulted (record { moment = moment; place = place }), (prepared.0, prepared.1), led, prepared.2, refl)
 
 pub returns-in-Ok-Exceptional-clause-balanced : goal.returns-in-Ok-Exceptional-clause-balanced
 returns-in-Ok-Exceptional-clause-balanced g c =

@@ -10,8 +10,8 @@ use Rattle.call_dispatch.proofs.Cutting.{finishes_answered, finishes_refused}
 use Rattle.call_dispatch.proofs.Returning.{ready_for}
 use Rattle.call_dispatch.proofs.calls.finish.Goals as goal
 
-pub finished-requires : goal.finished-requires
-finished-requires g c =
+pub finish_answer-requires : goal.finish_answer-requires
+finish_answer-requires g c =
     let over = finish_answered c.args.object c.args.pending.made c.args.pending.listed c.args.uid (g.P.Port.shown c.args.connection.now.port.now).asked c.in-Ok.turn.reply c.requires.runs c.in-Ok.ensures.answers in
     record { ready = ready_for c.args.pending.made c.in-Ok.turn.reply c.args.pending.sent c.requires.pending over }
 
@@ -19,8 +19,8 @@ pub returns-in-Ok-clause-finishes : goal.returns-in-Ok-clause-finishes
 returns-in-Ok-clause-finishes g c outcome pends =
     let (moment, led) = c.in-Ok.ensures.led in
     let over = finish_answered c.args.object c.args.pending.made c.args.pending.listed c.args.uid (g.P.Port.shown c.args.connection.now.port.now).asked c.in-Ok.turn.reply c.requires.runs c.in-Ok.ensures.answers in
-    let sends = c.finished.ensures.sends c.args.connection.now.book.now outcome in
-    finishes_answered _ _ (terms_of c.args.connection.now.book.now c.args.connection.now.setup.now) c.args.object c.args.uid outcome c.args.pending.listed _ _ moment c.in-Ok.turn c.finished.result
+    let sends = c.finish_answer.ensures.sends c.args.connection.now.book.now outcome in
+    finishes_answered _ _ (terms_of c.args.connection.now.book.now c.args.connection.now.setup.now) c.args.object c.args.uid outcome c.args.pending.listed _ _ moment c.in-Ok.turn c.finish_answer.result
     pends.listed (subst (λ made. IsFinished made c.in-Ok.turn.reply) pends.made over)
     (led_same _ _ _ _ _ _ (finish_same moment c.args.object outcome c.args.pending.made c.args.pending.listed c.args.uid (Ok c.in-Ok.turn) pends.made) led)
     (rw c.take_turn.ensures.frame.setup at sends pends.sent)
@@ -35,8 +35,8 @@ pub returns-in-Err-clause-finishes : goal.returns-in-Err-clause-finishes
 returns-in-Err-clause-finishes g c outcome pends =
     let (moment, led) = c.in-Err.ensures.led in
     let (moment2, place, up) = c.give_up.ensures.led in
-    finishes_refused _ _ (terms_of c.args.connection.now.book.now c.args.connection.now.setup.now) c.args.object c.args.uid outcome c.args.pending.listed _ _ _ moment moment2 place c.in-Err.refused c.denied.result
-    pends.listed (led_same _ _ _ _ _ _ (finish_same moment c.args.object outcome c.args.pending.made c.args.pending.listed c.args.uid (Err c.in-Err.refused) pends.made) led) up c.denied.ensures.denied
+    finishes_refused _ _ (terms_of c.args.connection.now.book.now c.args.connection.now.setup.now) c.args.object c.args.uid outcome c.args.pending.listed _ _ _ moment moment2 place c.in-Err.refused c.denial_answer.result
+    pends.listed (led_same _ _ _ _ _ _ (finish_same moment c.args.object outcome c.args.pending.made c.args.pending.listed c.args.uid (Err c.in-Err.refused) pends.made) led) up c.denial_answer.ensures.denied
 
 pub returns-in-Err-clause-balanced : goal.returns-in-Err-clause-balanced
 returns-in-Err-clause-balanced g c =

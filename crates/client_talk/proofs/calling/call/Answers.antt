@@ -1,3 +1,4 @@
+use Rattle.std.proofs.Common.{arith}
 use Rattle.client_talk.specs.Calling.{looks_up_and_calls}
 use Rattle.client_talk.specs.Commands.{greets}
 use Rattle.client_talk.proofs.Leaving.{rose_later, spoke_nothing, spoke_unopened, spoke_more}
@@ -12,7 +13,7 @@ returns-in-Ok-clause-spoke g c =
     c.has_room.ensures.items c.in-Ok.ensures.dials c.in-Ok.ensures.halves (λ b stands. c.call_through.ensures.talks _ b _ stands)
 
 pub returns-in-Ok-clause-fault : goal.returns-in-Ok-clause-fault
-returns-in-Ok-clause-fault g c is = rose_later _ _ _ (c.in-Ok.ensures.dials).1 (c.call_through.ensures.fault is)
+returns-in-Ok-clause-fault g c is = let same = (c.in-Ok.ensures.dials).1 in rose_later _ _ _ (omega (arith, same)) (c.call_through.ensures.fault is)
 
 pub returns-in-Err-clause-spoke : goal.returns-in-Err-clause-spoke
 returns-in-Err-clause-spoke g c =

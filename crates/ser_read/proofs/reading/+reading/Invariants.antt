@@ -13,8 +13,8 @@ use Rattle.ser_read.proofs.reading.+reading.Given as goal
 abbrev pub decreases-not_null : goal.decreases-not_null
 decreases-not_null g l = 16 * l.left + 0
 
-abbrev pub decreases-coded : goal.decreases-coded
-decreases-coded g l = 16 * l.left + 1
+abbrev pub decreases-construct : goal.decreases-construct
+decreases-construct g l = 16 * l.left + 1
 
 abbrev pub decreases-slot : goal.decreases-slot
 decreases-slot g l = 16 * l.left + 2

@@ -6,7 +6,7 @@ use Rattle.space.proofs.withdrawals.rest_of.Goals as goal
 
 pub returns : goal.returns
 returns c =
-    let P : List ObjId → Type 0 = λ l. IfOk c.joined.result (λ rest. rest.items ≡ l) in
+    let P : List ObjId → Type 0 = λ l. IfOk c.join_lists.result (λ rest. rest.items ≡ l) in
     subst P
     (ap (λ l. l ++ take (length c.args.objects.now - c.args.from) (drop c.args.from c.args.objects.now)) c.new.ensures.items ∙ slice_from c.args.from c.args.objects.now)
-    c.joined.ensures
+    c.join_lists.ensures

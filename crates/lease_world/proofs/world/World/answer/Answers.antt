@@ -19,7 +19,7 @@ returns-in_default c =
     let x = c.index-letter.result.now in
     let l : c.args.call < length c.self.inside.letters.items = omega (arith, c.if-call-len.false, c.len.ensures) in
     let there : nth c.args.self.now.letters c.args.call ≡ Some x = at-index c.self.inside.letters.items c.args.self.now.letters c.args.call x (ap (λ (v : WorldParts). v.letters) c.self.view_is) l c.index-letter.ensures in
-    answer-none c.args.self.now c.args.call (ap granted_by there ∙ sym c.granted.ensures.value ∙ c.in_default.is)
+    answer-none c.args.self.now c.args.call (ap granted_by there ∙ sym c.grant.ensures.value ∙ c.in_default.is)
 
 pub returns-then-at-len : goal.returns-then-at-len
 returns-then-at-len c =
@@ -39,7 +39,7 @@ returns c =
     let was = c.index_mut.result.now in
     let within : i < length c.self.inside.members.items = omega (arith, c.if-at-len.false, c.len-2.ensures) in
     answer-taken c.args.self.now _ c.args.call i c.in-Some.granted c.self.inside.moment x c.call-2.result.now.plan was c.hand_answer.new.table there
-    (sym c.granted.ensures.value ∙ c.in-Some.is) (c.from-at.ensures ∙ ap (λ (s : SentCall). s.client) c.call.ensures) (ap (λ (v : WorldParts). v.moment) c.self.view_is)
+    (sym c.grant.ensures.value ∙ c.in-Some.is) (c.from-at.ensures ∙ ap (λ (s : SentCall). s.client) c.call.ensures) (ap (λ (v : WorldParts). v.moment) c.self.view_is)
     (ap (λ (s : SentCall). s.plan) c.call-2.ensures)
     (at-index c.self.inside.members.items c.args.self.now.members i was (ap (λ (v : WorldParts). v.members) c.self.view_is) within c.index_mut.ensures.value)
     c.hand_answer.ensures

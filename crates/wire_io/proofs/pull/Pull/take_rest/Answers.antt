@@ -11,7 +11,8 @@ loop-done-preserved g c =
       omega (arith, part.0, part.1, given),
       part.1 ∙ c.loop-done.invariant.1,
       λ p before. front_more _ _ _ c.loop-done.buf c.fill_some.new.buf _ c.loop-done.done c.in-Ok.count c.loop-done.invariant.0 given (c.loop-done.invariant.2 p before) c.in-Ok.ensures.gives.2,
-      c.in-Ok.ensures.lent ∙ c.loop-done.invariant.3,
+      c.in-Ok.ensures.kept (λ same. cc) ∙ c.loop-done.invariant.3,
+      c.in-Ok.ensures.lent ∙ c.loop-done.invariant.4,
     )
 
 pub returns-in-Err-clause-gives : goal.returns-in-Err-clause-gives
