@@ -17,7 +17,6 @@ SILENCE = 60
 HAMMERS = 8
 # The sample's objects.
 SAMPLE = [16, 17, 18]
-LINK = re.compile(r"link (\d+) (\S+) (\d+) (.+) calls (\d+) ms (\d+)")
 
 
 class Hosted:
@@ -65,14 +64,6 @@ class Hosted:
         want(f"status {self.process.returncode} and errors {self.said['stderr'][-300:]!r}", self.process.returncode == 0)
         return self.said["stdout"].decode().splitlines()
 
-    def links(self):
-        """What it said of each link that ended, once it was stopped."""
-        lines = self.said["stderr"].decode().splitlines()
-        want(f"another first line: {lines[:1]}", lines[:1] == [f"listening {self.address} {self.port}"])
-        found = [LINK.fullmatch(line) for line in lines[1:]]
-        want(f"another line: {[line for line, it in zip(lines[1:], found) if not it][:3]}", all(found))
-        return found
-
 
 def objects(lines):
     """The numbers of the objects in an outline."""
@@ -88,13 +79,9 @@ def check_addresses(java, program):
     for address, host in (("127.0.0.2", "127.0.0.2"), ("127.0.0.1", "localhost"), ("0.0.0.0", "localhost")):
         with Hosted(program, address, host, "open", LEASE * 1000, LEASE * 1000) as server:
             java.checks("Client", server.port, "names", "values", "counters", flags=properties(host))
-            with check(f"a host at {address} by the name {host} stops well, and tells of each link"):
+            with check(f"a host at {address} by the name {host} stops well"):
                 lines = server.stop()
                 want(f"other objects: {lines}", objects(lines)[:3] == SAMPLE)
-                found = server.links()
-                numbers = sorted(int(it[1]) for it in found)
-                want(f"links {numbers}", numbers == list(range(1, len(numbers) + 1)))
-                want(f"no calls were told: {found[:3]}", any(int(it[5]) > 10 for it in found))
 
 
 def killed(java, server, word, kill):
@@ -149,21 +136,6 @@ def check_refused_after(java, program):
             raise Wrong("it is answered")
 
 
-def check_journal(java, program):
-    """The journal that it writes is one that `replay` reads, and gives what stands."""
-    with Hosted(program, HOST, HOST, "open", LEASE * 1000, LEASE * 1000, "journal") as server:
-        java.checks("Client", server.port, "names", "counters")
-        with check("a journal of a host is replayed"):
-            lines = server.stop()
-            want(f"another first line: {lines[:1]}", lines[:1] and lines[0].startswith("space "))
-            journal = "".join(f"{line}\n" for line in lines).encode()
-            ran = subprocess.run([program, "replay"], input=journal, stdout=subprocess.PIPE, stderr=subprocess.PIPE, timeout=PATIENCE, check=False)
-            want(f"status {ran.returncode}, errors {ran.stderr[:300]!r}", (ran.returncode, ran.stderr) == (0, b""))
-            outline = ran.stdout.decode().splitlines()
-            want(f"events {outline[:1]} of {len(lines) - 1} lines", outline[0].split()[1] == str(len(lines) - 1))
-            want(f"other objects: {outline}", objects(outline)[:3] == SAMPLE)
-
-
 def check_inputs(program):
     """An input that can't be waited for never stops it."""
     with open(os.devnull, "rb") as nothing:
@@ -197,5 +169,4 @@ def check_hosted(java, program):
     check_killed(java, program)
     check_stop(java, program)
     check_refused_after(java, program)
-    check_journal(java, program)
     check_inputs(program)

@@ -17,7 +17,6 @@ use Rattle.system_objects.proofs.setup.Setup.TheSendSync as setup_there
 use Rattle.conn_server.specs.contracts.ended_links.EndedLinks as ended
 use Rattle.conn_server.proofs.ended_links.EndedLinks.TheSendSync as ended_there
 use Rattle.conn_server.specs.contracts.link_task.LinkTask as task
-use Rattle.conn_server.proofs.link_task.Peer.TheSendSync as peer_there
 use Rattle.turn_lock.specs.contracts.handles.TurnLock as lock
 use Rattle.turn_lock.proofs.handles.TurnLock.TheSendSync as lock_there
 use Rattle.turn_lock.proofs.handles.Pass.TheSendSync as pass_there
@@ -33,7 +32,7 @@ ended_sync = ended_there.the_sync
 
 pub task_send : (I O T H : RattleType) → IsSend I → IsSend O → IsSend T → IsSend H → IsSend (task.the_row I O T H)
 task_send I O T H i o t h = recorded_send (task.the_field I O T H).row _ _ (task.the_type I O T H).to_one (struct_send (shape (task.the_type I O T H))
-    (search sendable, (pass_there.the_field_send, (search sendable, (search (peer_there.the_field_send, setup_there.the_field_send, i, o, t, h, sendable, crosses) depth 20, tt)))))
+    (search sendable, (pass_there.the_field_send, (search (setup_there.the_field_send, i, o, t, h, sendable, crosses) depth 20, tt))))
 
 parts_send : (Ts : List RattleType) → AllSend Ts → FieldsHave IsSend (parts Ts)
 parts_send [] s = tt

@@ -1,6 +1,6 @@
 -- What is kept while a host accepts links.
 use Rattle.std.proofs.Common.{◌≡◌, ℕ, ◌+◌, ◌<◌, ◌≤◌, List, [], ◌∷◌, ◌++◌, refl, ap, sym, ◌∙◌, subst, arith, append-nil, length}
-use Rattle.std.specs.Prelude.{Option, Some, None, true}
+use Rattle.std.specs.Prelude.{Option, Some, None}
 use Rattle.wire_io.specs.Links.{Accepted, Listening, with_next}
 use Rattle.wire_io.specs.Wire.{ReadHalf, WriteHalf, Rose}
 use Rattle.space.specs.declared.asked.Asked.{Asked}
@@ -17,7 +17,7 @@ use Rattle.conn_server.specs.Quiet.{TicksQuietly}
 use Rattle.conn_server.specs.Stops.{HostStopped, IsLostLink}
 use Rattle.conn_server.specs.Talks.{TalksOver}
 use Rattle.conn_server.specs.declared.accept_loop.Stop.{Stop}
-use Rattle.conn_server.specs.declared.accept_loop.Stop.TheVariants.{AcceptFault, OutOfMemory, Told}
+use Rattle.conn_server.specs.declared.accept_loop.Stop.TheVariants.{AcceptFault, OutOfMemory}
 use Rattle.conn_server.specs.declared.admission.Acceptor.{Acceptor}
 use Rattle.conn_server.specs.declared.admission.LostLink.{LostLink}
 use Rattle.conn_server.specs.declared.link_task.LinkReport.{LinkReport}
@@ -42,8 +42,8 @@ module _ {I O T H C : Type 0} (read_half : I → ReadHalf) (write_half : O → W
 
   -- Links ended, and the listener was asked, or wasn't.
   pub hosting_joined : (l l2 : Listening) (gave : Option (List ℕ)) (a b : Acceptor I O T H C) (hand : Option H) → Going l gave a hand → Taking b → (collected b.collector).ticks ≡ (collected a.collector).ticks
-      → shown_all read_half write_half given b.all ≡ shown_all read_half write_half given a.all → b.begun ≡ a.begun → l2.accepted ≡ l.accepted → l.faults ≤ l2.faults → l2.ports ≡ l.ports → l2.told ≡ l.told → Going l2 gave b hand
-  hosting_joined l l2 gave a b hand is then same_ticks same begun same_links more same_ports told =
+      → shown_all read_half write_half given b.all ≡ shown_all read_half write_half given a.all → b.begun ≡ a.begun → l2.accepted ≡ l.accepted → l.faults ≤ l2.faults → l2.ports ≡ l.ports → Going l2 gave b hand
+  hosting_joined l l2 gave a b hand is then same_ticks same begun same_links more same_ports =
       let few = is.few in
       let faults = is.faults in
       record {
@@ -52,7 +52,6 @@ module _ {I O T H C : Type 0} (read_half : I → ReadHalf) (write_half : O → W
         quiet = quiet_same shown moves gave_first gave (ticks_now a) (ticks_now b) (collected a.collector).ticks (collected b.collector).ticks hand is.quiet same_ticks (ap (λ l. ticks_of l) same);
         links = same_links ∙ (is.links ∙ ap (λ l. with_all l0.accepted (links_of l)) (sym same));
         faults = omega (arith, faults, more);
-        same_told = told ∙ is.same_told;
         same_ports = same_ports ∙ is.same_ports;
       }
 
@@ -67,14 +66,13 @@ module _ {I O T H C : Type 0} (read_half : I → ReadHalf) (write_half : O → W
         quiet = quiet_same shown moves gave_first gave2 (ticks_now a) (ticks_now b) (collected b.collector).ticks (collected b.collector).ticks hand2 (ticks is.quiet) refl (ap (λ (l : List (StartedLink I O T H)). ticks_of (shown_all read_half write_half given l)) same);
         links = is.links ∙ ap (λ (l : List (StartedLink I O T H)). with_all l0.accepted (links_of (shown_all read_half write_half given l))) (sym same);
         faults = is.faults;
-        same_told = is.same_told;
         same_ports = is.same_ports;
       }
 
   -- A link was begun.
-  pub hosting_link : (l l2 : Listening) (link : Accepted) (gave : Option (List ℕ)) (a b : Acceptor I O T H C) (hand : Option H) → Going l gave a hand → a.begun < plan.count → l2.accepted ≡ with_next l.accepted link → l.faults ≤ l2.faults → l2.ports ≡ l.ports → l2.told ≡ l.told
+  pub hosting_link : (l l2 : Listening) (link : Accepted) (gave : Option (List ℕ)) (a b : Acceptor I O T H C) (hand : Option H) → Going l gave a hand → a.begun < plan.count → l2.accepted ≡ with_next l.accepted link → l.faults ≤ l2.faults → l2.ports ≡ l.ports
       → Taking b → TicksOn (collected a.collector).ticks (collected b.collector).ticks (ticks_now a) (ticks_now b) → links_now b ≡ links_now a ++ link ∷ [] → b.begun ≡ a.begun + 1 → Going l2 gave b hand
-  hosting_link l l2 link gave a b hand is few next more same_ports told then ticks links begun =
+  hosting_link l l2 link gave a b hand is few next more same_ports then ticks links begun =
       let faults = is.faults in
       record {
         is = then;
@@ -82,15 +80,14 @@ module _ {I O T H C : Type 0} (read_half : I → ReadHalf) (write_half : O → W
         quiet = quiet_link shown moves gave_first gave (ticks_now a) (ticks_now b) (collected a.collector).ticks (collected b.collector).ticks hand is.quiet ticks;
         links = one_more l0.accepted l.accepted l2.accepted (links_now a) link is.links next ∙ ap (with_all l0.accepted) (sym links);
         faults = omega (arith, faults, more);
-        same_told = told ∙ is.same_told;
         same_ports = same_ports ∙ is.same_ports;
       }
 
   -- There was no memory for a link.
-  pub halted_lost : (l l2 : Listening) (link : Accepted) (gave : Option (List ℕ)) (a b : Acceptor I O T H C) (hand : Option H) (lost : LostLink I O T) → Going l gave a hand → a.begun < plan.count → l2.accepted ≡ with_next l.accepted link → l.faults ≤ l2.faults → l2.ports ≡ l.ports → l2.told ≡ l.told
+  pub halted_lost : (l l2 : Listening) (link : Accepted) (gave : Option (List ℕ)) (a b : Acceptor I O T H C) (hand : Option H) (lost : LostLink I O T) → Going l gave a hand → a.begun < plan.count → l2.accepted ≡ with_next l.accepted link → l.faults ≤ l2.faults → l2.ports ≡ l.ports
       → Taking b → (collected b.collector).ticks ≡ (collected a.collector).ticks → ticks_now b ≡ ticks_now a → links_now b ≡ links_now a → b.begun ≡ a.begun → IsLostLink read_half write_half given link lost
       → IsHalted read_half write_half given shown may moves collected expects lock kinds plan l0 l2 gave_first gave b hand (record { stop = OutOfMemory; lost = Some lost })
-  halted_lost l l2 link gave a b hand lost is few next more same_ports told then same_ticks same same_links begun lost_is =
+  halted_lost l l2 link gave a b hand lost is few next more same_ports then same_ticks same same_links begun lost_is =
       let faults = is.faults in
       record {
         is = then;
@@ -101,7 +98,6 @@ module _ {I O T H C : Type 0} (read_half : I → ReadHalf) (write_half : O → W
         back = lost_is;
         fault = λ same. absurd (cc);
         faults = omega (arith, faults, more);
-        untold = λ other. told ∙ is.same_told;
         same_ports = same_ports ∙ is.same_ports;
       }
 
@@ -117,29 +113,8 @@ module _ {I O T H C : Type 0} (read_half : I → ReadHalf) (write_half : O → W
     back = tt;
     fault = fault;
     faults = is.faults;
-    untold = λ other. is.same_told;
     same_ports = is.same_ports;
   }
-
-  -- The listener was told to stop.
-  pub halted_told : (l l2 : Listening) (gave : Option (List ℕ)) (a b : Acceptor I O T H C) (hand : Option H) → Going l gave a hand → Taking b → (collected b.collector).ticks ≡ (collected a.collector).ticks
-      → shown_all read_half write_half given b.all ≡ shown_all read_half write_half given a.all → b.begun ≡ a.begun → l2.accepted ≡ l.accepted → l.faults ≤ l2.faults → l2.told ≡ true → l2.ports ≡ l.ports
-      → IsHalted read_half write_half given shown may moves collected expects lock kinds plan l0 l2 gave_first gave b hand (record { stop = Told; lost = None })
-  halted_told l l2 gave a b hand is then same_ticks same begun same_links more told same_ports =
-      let few = is.few in
-      let faults = is.faults in
-      record {
-        is = then;
-        quiet = quiet_same shown moves gave_first gave (ticks_now a) (ticks_now b) (collected a.collector).ticks (collected b.collector).ticks hand is.quiet same_ticks (ap (λ l. ticks_of l) same);
-        missed = [];
-        links = same_links ∙ (is.links ∙ (ap (λ l. with_all l0.accepted (links_of l)) (sym same) ∙ ap (with_all l0.accepted) (sym (append-nil (links_now b)))));
-        stopped = (told, omega (arith, few, begun), refl);
-        back = tt;
-        fault = λ same. absurd (cc);
-        faults = omega (arith, faults, more);
-        untold = λ other. absurd (other refl);
-        same_ports = same_ports ∙ is.same_ports;
-      }
 
 -- At first no link is accepted.
 pub hosting_first : {I O T H C : Type 0} (read_half : I → ReadHalf) (write_half : O → WriteHalf) (given : T → Option (List ℕ)) (shown : H → WorkerState) (may : Invocation → Outcome → Type 0) (moves : States → Call → States → Type 0)
@@ -155,6 +130,5 @@ hosting_first {I = I} {O = O} {T = T} {H = H} read_half write_half given shown m
           (quiet_first shown moves gave (ticks_of (shown_all read_half write_half given a.all)) (collected a.collector).ticks (ap (λ (l : List (StartedLink I O T H)). ticks_of (shown_all read_half write_half given l)) none) no_tick);
       links = sym (with_none l.accepted) ∙ ap (λ (s : List (StartedLink I O T H)). with_all l.accepted (links_of (shown_all read_half write_half given s))) (sym none);
       faults = omega arith;
-      same_told = refl;
       same_ports = refl;
     }

@@ -10,7 +10,6 @@ use Rattle.call_dispatch.specs.Acts.{WorkerState}
 use Rattle.system_objects.specs.declared.book.Kind.{Kind}
 use Rattle.std.specs.List.Sorted.{IsPermutation}
 use Rattle.conn_server.specs.Collects.{Collected, SameReports}
-use Rattle.conn_server.specs.Handed.{AreHanded}
 use Rattle.conn_server.specs.Made.{IsTakenBelow, shown_admitted}
 use Rattle.conn_server.specs.Rows.{EachAt}
 use Rattle.conn_server.specs.Serves.{IsAdmittedLink, IsLinkTask}
@@ -84,7 +83,7 @@ abbrev pub ExpectsAll : {I O T H C : Type 0} → (AdmittedLink I O T H → LinkR
 ExpectsAll {I = I} {O = O} {T = T} {H = H} Talked Made expects c = (k : ℕ) (admitted : AdmittedLink I O T H) (report : LinkReport I O T H) → Made k admitted → Talked admitted report → report.by ≡ k → expects c report
 
 -- Every link was begun with its pass; those that haven't ended are kept, and the reports of the others were handed on, each once; there is room for
--- the reports to come; the root made these turns of its own; and the collector has the first events after the opening's.
+-- the reports to come; and the root made these turns of its own.
 pub record IsAccepting {I O T H C : Type 0} (Talked : AdmittedLink I O T H → LinkReport I O T H → Type 0) (Made : ℕ → AdmittedLink I O T H → Type 0) (shown : H → WorkerState)
     (collected : C → Collected (LinkReport I O T H)) (expects : C → LinkReport I O T H → Type 0) (lock : TurnLock) (kinds : List Kind) (a : Acceptor I O T H C) : Type 0 where
   pub own : IsRootOf lock a.root
@@ -96,7 +95,6 @@ pub record IsAccepting {I O T H C : Type 0} (Talked : AdmittedLink I O T H → L
   pub given : IsPermutation (reports_of a.all) (collected a.collector).reports
   pub room : length (collected a.collector).reports + open_all a.all ≤ (collected a.collector).report_limit
   pub expected : ExpectsAll Talked Made expects a.collector
-  pub handed_on : AreHanded lock (view_of a.root.pass) (collected a.collector).events a.handed
   pub links : EachAt (IsBegun Talked Made shown lock kinds (view_of a.root.pass)) 1 a.all
 
 -- There is more room, and all else is the same.
@@ -106,8 +104,6 @@ pub record IsSame {I O T H C : Type 0} (collected : C → Collected (LinkReport 
   pub live_are : b.live.items ≡ a.live.items
   pub all : b.all ≡ a.all
   pub ticks : (collected b.collector).ticks ≡ (collected a.collector).ticks
-  pub events : (collected b.collector).events ≡ (collected a.collector).events
-  pub handed_on : b.handed ≡ a.handed
   pub reports : SameReports collected expects a.collector b.collector
 
 -- The links are the same, and there is no less room for their reports.

@@ -1,5 +1,4 @@
 pub mod Plans
-pub mod LinkForms
 pub mod Talks
 pub mod Serves
 pub mod Rows
@@ -8,7 +7,6 @@ pub mod Made
 pub mod Starts
 pub mod Collects
 pub mod Quiet
-pub mod Handed
 pub mod Accepts
 pub mod Stops
 pub mod Joins

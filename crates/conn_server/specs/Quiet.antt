@@ -39,9 +39,8 @@ HaveTold shown moves entries None = entries ≡ []
 HaveTold shown moves entries (Some hand) = HasTold shown moves entries hand
 
 -- A server's own turns have these entries: those of the Ticks before its links, and those of its quiet seconds, each in their order. The latter are
--- Ticks at moments of the clock that gave these moments. The clock gave others, too, at which no Tick was made. (That those are the moments at which
--- nothing had ended, or for which there was no memory, is tested.)
--- The server's own hand, if it has one, was told what the Ticks withdrew.
+-- Ticks at moments of the clock that gave these moments, which gave no others but those of Ticks for which there was no memory; and the server's
+-- own hand, if it has one, was told what they withdrew.
 pub record TicksQuietly {H : Type 0} (shown : H → WorkerState) (moves : States → Call → States → Type 0) (gave_first gave_last : Option (List ℕ)) (before_links ticks : List Asked) (hand : Option H) : Type 0 where
   pub quiet : List Asked
   pub merged : Merges before_links quiet ticks
@@ -52,8 +51,7 @@ pub record TicksQuietly {H : Type 0} (shown : H → WorkerState) (moves : States
   pub gave : Gave gave_first gave_last looks
   pub among : Merges (moments_of quiet) passed_over looks
 
--- One Tick was made at a moment of the clock, as connection 0, and the hand was told what it withdrew. Or nothing had ended, or there was no memory
--- for the Tick.
+-- One Tick was made at a moment of the clock, as connection 0, and the hand was told what it withdrew; or there was no memory for it.
 pub record TicksOnce {H : Type 0} (shown : H → WorkerState) (moves : States → Call → States → Type 0) (gave_first gave_last : Option (List ℕ)) (ticks ticks_after : List Asked) (hand hand_after : H) : Type 0 where
   pub entry : Option Asked
   pub longer : ticks_after ≡ ticks ++ option_to_list entry

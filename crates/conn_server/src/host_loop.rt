@@ -6,7 +6,6 @@ ghost use Rattle.wire_io.specs.Wire.{AreNewHalves};
 ghost use Rattle.wire_io.specs.declared.limits.TheConstants.{MAX_HOST_BYTES};
 ghost use Rattle.wire_io.specs.declared.source.Failed.{Failed};
 ghost use Rattle.conn_server.specs.Accepts.{IsAccepting};
-ghost use Rattle.conn_server.specs.Collects.{Keeps};
 ghost use Rattle.conn_server.specs.Hosts.{GoesOn, IsHalted, IsHosting};
 ghost use Rattle.conn_server.specs.Made.{IsMadeFor};
 ghost use Rattle.conn_server.specs.Talks.{TalksOver};
@@ -93,7 +92,6 @@ impl<
         requires few { self.old.acceptor.begun < shared.now.plan.now.count }
         requires numbered { self.old.acceptor.begun < LAST_NUMBER }
         requires halves { IfCame waited (λ link. AreNewHalves (I.half link.source) (O.half link.sink)) }
-        ensures keeps { Keeps C.holds C.stays self.old.acceptor.collector self.new.acceptor.collector }
         ensures goes_on { (l0 l1 l2 : Listening) (gave_first : Option (List ℕ))
             → IsHosting I.half O.half T.given H.shown H.may H.moves C.collected C.expects
             shared.now.lock.now shared.now.book.now shared.now.plan.now
@@ -104,7 +102,7 @@ impl<
             l0 l2 gave_first (Q.given ticks.new) self.new.acceptor self.new.hand result }
     {
         self.idle_tries = 0;
-        self.acceptor.catch_up(shared);
+        self.acceptor.join_ended(shared);
         match waited {
             Waited::Came(link) => match self.acceptor.admit(scope, shared, crew, link) {
                 Some(lost) => Some(Halt {
@@ -152,7 +150,6 @@ impl<
             (TalksOver I.half O.half T.given H.shown H.may H.moves shared.now.book.now)
             (IsMadeFor I.half O.half T.given H.shown H.moves shared.now.plan.now)
             H.shown C.collected C.expects shared.now.lock.now shared.now.book.now self.old.acceptor }
-        ensures keeps { Keeps C.holds C.stays self.old.acceptor.collector self.new.acceptor.collector }
         ensures goes_on { (l0 : Listening) (gave_first : Option (List ℕ))
             → IsHosting I.half O.half T.given H.shown H.may H.moves C.collected C.expects
             shared.now.lock.now shared.now.book.now shared.now.plan.now
@@ -170,13 +167,13 @@ impl<
         let seen = shared.ended.count();
         if self.acceptor.live.len() >= MAX_LIVE {
             shared.ended.pause(shared.rt, seen);
-            self.acceptor.catch_up(shared);
+            self.acceptor.join_ended(shared);
             return None;
         }
         match listener.wait() {
             Ok(waited) => self.take_waited(scope, shared, crew, ticks, waited),
             Err(_failed) => {
-                self.acceptor.catch_up(shared);
+                self.acceptor.join_ended(shared);
                 if self.gives_up() {
                     return Some(Halt {
                         stop: Stop::AcceptFault,
@@ -218,7 +215,6 @@ impl<
         requires fresh { (self.old.acceptor.all ≡ [])
             × ((C.collected self.old.acceptor.collector).ticks ≡ []) }
         requires handless { self.old.hand ≡ None }
-        ensures keeps { Keeps C.holds C.stays self.old.acceptor.collector self.new.acceptor.collector }
         ensures halted { IsHalted I.half O.half T.given H.shown H.may H.moves C.collected C.expects
             shared.now.lock.now shared.now.book.now shared.now.plan.now
             (L.listening listener.old) (L.listening listener.new) (Q.given ticks.old) (Q.given ticks.new)

@@ -1,7 +1,6 @@
 //! Joining the threads of links that have ended.
 ghost use Rattle.std.specs.Prelude.{◌≡◌, ◌+◌, ◌<◌, List, [], length, vec_len, IfSome};
 ghost use Rattle.conn_server.specs.Accepts.{IsAccepting, shown_all};
-ghost use Rattle.conn_server.specs.Collects.{Keeps};
 ghost use Rattle.conn_server.specs.Made.{IsMadeFor};
 ghost use Rattle.conn_server.specs.Talks.{TalksOver};
 
@@ -46,7 +45,6 @@ impl<
             (IsMadeFor I.half O.half T.given H.shown H.moves shared.now.plan.now)
             H.shown C.collected C.expects shared.now.lock.now shared.now.book.now self.old }
         requires there { place < vec_len self.old.live }
-        ensures keeps { Keeps C.holds C.stays self.old.collector self.new.collector }
         ensures accepting { IsAccepting
             (TalksOver I.half O.half T.given H.shown H.may H.moves shared.now.book.now)
             (IsMadeFor I.half O.half T.given H.shown H.moves shared.now.plan.now)
@@ -78,7 +76,6 @@ impl<
             (TalksOver I.half O.half T.given H.shown H.may H.moves shared.now.book.now)
             (IsMadeFor I.half O.half T.given H.shown H.moves shared.now.plan.now)
             H.shown C.collected C.expects shared.now.lock.now shared.now.book.now self.old }
-        ensures keeps { Keeps C.holds C.stays self.old.collector self.new.collector }
         ensures accepting { IsAccepting
             (TalksOver I.half O.half T.given H.shown H.may H.moves shared.now.book.now)
             (IsMadeFor I.half O.half T.given H.shown H.moves shared.now.plan.now)
@@ -100,7 +97,6 @@ impl<
             (TalksOver I.half O.half T.given H.shown H.may H.moves shared.now.book.now)
             (IsMadeFor I.half O.half T.given H.shown H.moves shared.now.plan.now)
             H.shown C.collected C.expects shared.now.lock.now shared.now.book.now self.old }
-        ensures keeps { Keeps C.holds C.stays self.old.collector self.new.collector }
         ensures accepting { IsAccepting
             (TalksOver I.half O.half T.given H.shown H.may H.moves shared.now.book.now)
             (IsMadeFor I.half O.half T.given H.shown H.moves shared.now.plan.now)
@@ -124,7 +120,6 @@ impl<
             (TalksOver I.half O.half T.given H.shown H.may H.moves shared.now.book.now)
             (IsMadeFor I.half O.half T.given H.shown H.moves shared.now.plan.now)
             H.shown C.collected C.expects shared.now.lock.now shared.now.book.now self.old }
-        ensures keeps { Keeps C.holds C.stays self.old.collector self.new.collector }
         ensures accepting { IsAccepting
             (TalksOver I.half O.half T.given H.shown H.may H.moves shared.now.book.now)
             (IsMadeFor I.half O.half T.given H.shown H.moves shared.now.plan.now)

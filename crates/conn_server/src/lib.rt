@@ -27,19 +27,14 @@
 //!   turns are the Ticks before links and those of seconds without a link, each in order
 //!   (`merged`). The latter are at moments of the clock that it is handed (`among`). The hand of
 //!   number 0 is told what these withdraw, each object once (`told`). The stop is `Told` only if
-//!   the listener was told to stop, and then no link is lost (`stopped`). A host that records gives
-//!   its collector the events after the opening's in order (`handed`), and all of them where it
-//!   says `whole` (`all_handed`). A part has at most 4,096.
-//! - A report has the peer's host and port, and the number of calls that began (`peer_host`,
-//!   `peer_port`, `calls`).
+//!   the listener was told to stop, and then no link is lost (`stopped`).
 //!
 //! # What is not
 //!
 //! - How long a link waits, when it is begun, that two are served at once, or how long a stop
 //!   takes.
 //! - That reports come before all links end, and that memory grows with live links alone.
-//! - That a quiet second in which something ended has a Tick, and that at most 8,192 links are live
-//!   at once.
+//! - That a quiet second has a Tick, and that at most 8,192 links are live at once.
 //! - That a crew handed out no hand but the reported one.
 //!
 //! `test_server` tests most of these.
@@ -67,10 +62,8 @@ mod accept_loop;
 mod admission;
 pub mod collector;
 mod ended_links;
-mod handing;
 mod host_loop;
 mod join;
-mod link_entries;
 pub mod link_task;
 mod link_thread;
 pub mod plan;
@@ -80,10 +73,7 @@ mod shared;
 
 pub use accept_loop::Stop;
 pub use admission::LostLink;
-pub use collector::{Collector, DropsReports, KeepsReports, MAX_PART};
-pub use link_entries::LinkEntries;
+pub use collector::{Collector, DropsReports, KeepsReports};
 pub use link_task::{AdmittedLink, LinkDone, LinkReport, LinkTask, TaskPromise};
 pub use plan::ServePlan;
-pub use server::{
-    AllJoined, Begin, HostBegin, HostJoined, Hosted, LinkReports, Report, Served, Server,
-};
+pub use server::{AllJoined, Begin, HostJoined, Hosted, LinkReports, Report, Served, Server};

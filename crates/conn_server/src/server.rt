@@ -1,20 +1,19 @@
 //! The server.
-ghost use Rattle.std.specs.Prelude.{◌≡◌, ◌≤◌, ◌⊎◌, List, ◌++◌, length, IfSome, true};
+ghost use Rattle.std.specs.Prelude.{◌≡◌, ◌≤◌, ◌⊎◌, List, ◌++◌, length};
 ghost use Rattle.mod_utf.specs.Utf.{utf};
 ghost use Rattle.wire_io.specs.Wire.{Rose};
 ghost use Rattle.wire_io.specs.declared.limits.TheConstants.{MAX_HOST_BYTES};
 ghost use Rattle.turn_lock.specs.Handles.{IsFresh, opening_of};
-ghost use Rattle.conn_server.specs.Collects.{IsEmpty, ExpectsLinks, Keeps};
+ghost use Rattle.conn_server.specs.Collects.{IsEmpty, ExpectsLinks};
 ghost use Rattle.conn_server.specs.Hosts.{HostsLinks, IsHosted};
 ghost use Rattle.conn_server.specs.Reports.{GivesReports, IsLinkOf, IsServed, ServesLinks};
 ghost use Rattle.conn_server.specs.Stops.{IsLostLink};
 ghost use Rattle.conn_server.specs.declared.plan.TheConstants.{MAX_LINKS};
 
 use crate::accept_loop::{Stop, accept_links};
-use crate::admission::{Acceptor, Keeping, LostLink};
+use crate::admission::{Acceptor, LostLink};
 use crate::collector::{Collector, KeepsReports};
 use crate::ended_links::EndedLinks;
-use crate::handing::{close_recorded, first_place};
 use crate::host_loop::{Halt, Host};
 use crate::link_task::LinkReport;
 use crate::plan::ServePlan;
@@ -63,8 +62,6 @@ pub struct HostJoined<I, O, T, C, H> {
     pub stop: Stop,
     pub lost: Option<LostLink<I, O, T>>,
     pub hand: Option<H>,
-    /// The place of the next event that the collector is to be given.
-    pub handed: Option<u64>,
 }
 
 /// The outcome of serving links until the listener was told to stop, or for another cause.
@@ -79,8 +76,6 @@ pub struct Hosted<I, O, T, C, H> {
     pub lost: Option<LostLink<I, O, T>>,
     /// The space that the lock was round.
     pub space: Space,
-    /// True where the collector was given all events of the space after the opening's.
-    pub whole: bool,
     /// The hand of number 0, which was told what the Ticks of seconds without a link withdrew, where there was one.
     pub hand: Option<H>,
 }
@@ -109,24 +104,12 @@ pub struct Begin<C> {
     pub collector: C,
 }
 
-/// The root and the collector with which a host begins, and whether it hands events on.
+/// The root, the collector and the crew with which a host begins.
 #[derive(Drop)]
-pub struct HostBegin<C> {
-    /// The root of the server's lock.
-    pub root: Root,
-    /// The collector of the reports and the events, which was given nothing yet.
-    pub collector: C,
-    /// True where the collector is given the events of the space, as they are made. The lock has to be one that records (`TurnLock::recording`).
-    pub record: bool,
-}
-
-/// The root, the collector and the crew with which a host begins, and the number of events of the opening, where it hands further events on.
-#[derive(Drop)]
-struct HostStart<'c, C, G> {
+struct HostBegin<'c, C, G> {
     root: Root,
     collector: C,
     crew: &'c G,
-    handed: Option<u64>,
 }
 
 /// A server: what it runs on, who does the calls of its clients, and which objects they may call.
@@ -181,11 +164,7 @@ where
     ensures ports { (L.listening listener.new).ports ≡ (L.listening listener.old).ports }
 {
     let Begin { root, collector } = begin;
-    let keeping = Keeping {
-        entries: true,
-        handed: None,
-    };
-    let mut acceptor = Acceptor::new(shared.alloc, root, collector, keeping);
+    let mut acceptor = Acceptor::new(shared.alloc, root, collector);
     let (stop, lost) = accept_links(scope, shared, listener, crew, &mut acceptor);
     acceptor.join_all(shared);
     let Acceptor {
@@ -194,8 +173,6 @@ where
         live: _live,
         all: _all,
         collector,
-        keeps: _keeps,
-        handed: _handed,
     } = acceptor;
     AllJoined {
         root,
@@ -220,7 +197,7 @@ fn host_within<
     shared: &Shared<'s, R>,
     listener: &mut L,
     ticks: &mut Q,
-    begin: HostStart<'c, C, G>,
+    begin: HostBegin<'c, C, G>,
 ) -> HostJoined<L::In, L::Out, L::Ticks, C, G::Hand>
 where
     L::In: 's,
@@ -234,8 +211,6 @@ where
         (IsLinkOf L.In.half L.Out.half L.Ticks.given G.Hand.shown G.Hand.may G.Hand.moves
         shared.now.book.now shared.now.plan.now)
         C.expects begin.collector }
-    requires handed { IfSome begin.handed (λ n. n ≡ length (opening_of shared.now.lock.now).events) }
-    ensures keeps { Keeps C.holds C.stays begin.entry.collector result.collector }
     ensures hosted { IsHosted
         (IsLinkOf L.In.half L.Out.half L.Ticks.given G.Hand.shown G.Hand.may G.Hand.moves
         shared.now.book.now shared.now.plan.now)
@@ -247,24 +222,19 @@ where
     ensures faults { (L.listening listener.old).faults ≤ (L.listening listener.new).faults }
     ensures ports { (L.listening listener.new).ports ≡ (L.listening listener.old).ports }
 {
-    let HostStart {
+    let HostBegin {
         root,
         collector,
         crew,
-        handed,
     } = begin;
-    let keeping = Keeping {
-        entries: false,
-        handed,
-    };
-    let first = Acceptor::new(shared.alloc, root, collector, keeping);
+    let first = Acceptor::new(shared.alloc, root, collector);
     let mut host = Host {
         acceptor: first,
         hand: None,
         idle_tries: 0,
     };
     let Halt { stop, lost } = host.run(scope, shared, crew, listener, ticks);
-    host.acceptor.end_all(shared);
+    host.acceptor.join_all(shared);
     let Host {
         acceptor,
         hand,
@@ -276,8 +246,6 @@ where
         live: _live,
         all: _all,
         collector,
-        keeps: _keeps,
-        handed,
     } = acceptor;
     HostJoined {
         root,
@@ -285,7 +253,6 @@ where
         stop,
         lost,
         hand,
-        handed,
     }
 }
 
@@ -444,17 +411,9 @@ impl<'s, R: Threads + Wait + Sync, G: Crew> Server<'s, R, G> {
     /// Serves links until the listener is told to stop, each as [`Server::serve`] does, and hands the report of each to a collector as the link has
     /// ended. Links in all are at most the plan's count, and 8,192 are live at once: before another is accepted, one of them ends.
     ///
-    /// In each second without a link, threads of links that have ended are joined. Where a lease or a wait for an acknowledgement has ended at a
-    /// moment of `ticks`, a Tick is made as connection 0. The hand of number 0 is told of each object that it withdraws; it is made in the first such
-    /// second in which there is memory for it. A second in which there is no memory for that hand or for the Tick passes without one.
-    ///
-    /// Where the beginning says so, the collector is given the events of the space after the opening's, in their order and in parts of at most 4,096.
-    /// It is given those that there are each time that the listener answers, which is at least once a second, and the rest after the last link. Where
-    /// there is no memory to hand them out, they come with the next ones.
-    ///
-    /// Where no thread can be started for a link, the accepting thread serves it: until that link ends no events are handed on, and no stop is seen.
-    ///
-    /// The reports of links have the entries of their turns in proofs alone. So a link takes no more memory with each call.
+    /// In each second without a link, threads of links that have ended are joined, and a Tick is made as connection 0 at a moment of `ticks`. The
+    /// hand of number 0 is told of each object that it withdraws; it is made in the first such second in which there is memory for it. A second in
+    /// which there is no memory for that hand or for the Tick passes without one.
     ///
     /// The stop is Told where the listener was told to: the links that are live are served to their ends, and all threads are joined. It is All
     /// where the plan's count of links was served, AcceptFault only where the listener's count of faults rose, and OutOfMemory as in `serve`.
@@ -465,7 +424,7 @@ impl<'s, R: Threads + Wait + Sync, G: Crew> Server<'s, R, G> {
         listener: &mut L,
         ticks: &mut Q,
         lock: TurnLock,
-        begin: HostBegin<C>,
+        begin: Begin<C>,
         plan: &ServePlan,
     ) -> Hosted<L::In, L::Out, L::Ticks, C, G::Hand>
         requires fresh { IsFresh lock begin.root }
@@ -477,7 +436,7 @@ impl<'s, R: Threads + Wait + Sync, G: Crew> Server<'s, R, G> {
             C.expects begin.collector }
 
         // As `serve_with`, where the server's own turns are the Ticks before links and those of quiet seconds, at moments of `ticks`, whose hand was told
-        // what they withdrew. The events that the collector was given are the first after the opening's, and all where the result says so.
+        // what they withdrew.
         ensures hosts { HostsLinks
             (IsLinkOf L.In.half L.Out.half L.Ticks.given G.Hand.shown G.Hand.may G.Hand.moves
             self.now.book.now plan.now)
@@ -485,8 +444,6 @@ impl<'s, R: Threads + Wait + Sync, G: Crew> Server<'s, R, G> {
             C.collected (opening_of lock) plan.now.count
             (L.listening listener.old) (L.listening listener.new)
             (Q.given ticks.old) (Q.given ticks.new) result }
-
-        ensures keeps { Keeps C.holds C.stays begin.collector result.collector }
 
         // The listener.
         ensures fault { result.stop ≡ Stop.AcceptFault → Rose (L.listening listener.old).faults (L.listening listener.new).faults }
@@ -496,17 +453,6 @@ impl<'s, R: Threads + Wait + Sync, G: Crew> Server<'s, R, G> {
             → (result.stop ≡ Stop.Told) ⊎ ((result.stop ≡ Stop.All) ⊎ (result.stop ≡ Stop.OutOfMemory)) }
     {
         let (rt, alloc, crew, book) = (self.rt, self.alloc, self.crew, self.book);
-        let HostBegin {
-            root,
-            collector,
-            record,
-        } = begin;
-        let begun = HostStart {
-            root,
-            collector,
-            crew,
-            handed: first_place(&lock, record),
-        };
         let shared_lock = &lock;
         let noted = EndedLinks::new(alloc);
         let ended = &noted;
@@ -518,16 +464,14 @@ impl<'s, R: Threads + Wait + Sync, G: Crew> Server<'s, R, G> {
                 &mut Q,
                 HostJoined<L::In, L::Out, L::Ticks, C, G::Hand>,
             )
-                requires { IsFresh shared_lock.now begun.root × (length (utf plan.now.host) ≤ MAX_HOST_BYTES)
-                    × IsEmpty (C.collected begun.collector)
+                requires { IsFresh shared_lock.now begin.root × (length (utf plan.now.host) ≤ MAX_HOST_BYTES)
+                    × IsEmpty (C.collected begin.collector)
                     × ExpectsLinks
                     (IsLinkOf L.In.half L.Out.half L.Ticks.given G.Hand.shown G.Hand.may G.Hand.moves
                     book.now plan.now)
-                    C.expects begun.collector
-                    × IfSome begun.handed (λ n. n ≡ length (opening_of shared_lock.now).events) }
+                    C.expects begin.collector }
                 ensures left { (result.0.ghost_name ≡ listener.entry.ghost_name)
                     × (result.1.ghost_name ≡ ticks.entry.ghost_name) }
-                ensures keeps { Keeps C.holds C.stays begun.entry.collector result.2.collector }
                 ensures hosted { IsHosted
                     (IsLinkOf L.In.half L.Out.half L.Ticks.given G.Hand.shown G.Hand.may G.Hand.moves
                     book.entry.now plan.entry.now)
@@ -547,6 +491,12 @@ impl<'s, R: Threads + Wait + Sync, G: Crew> Server<'s, R, G> {
                     plan,
                     ended,
                 };
+                let Begin { root, collector } = begin;
+                let begun = HostBegin {
+                    root,
+                    collector,
+                    crew,
+                };
                 let outcome = host_within(scope, &shared, listener, ticks, begun);
                 (listener, ticks, outcome)
             },
@@ -555,19 +505,16 @@ impl<'s, R: Threads + Wait + Sync, G: Crew> Server<'s, R, G> {
         let _ = left_ticks;
         let HostJoined {
             root,
-            mut collector,
+            collector,
             stop,
             lost,
             hand,
-            handed,
         } = outcome;
-        let (space, whole) = close_recorded(lock, root, &mut collector, handed);
         Hosted {
             collector,
             stop,
             lost,
-            space,
-            whole,
+            space: lock.close(root),
             hand,
         }
     }

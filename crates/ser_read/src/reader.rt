@@ -12,7 +12,7 @@ ghost use Rattle.ser_read.specs.ReaderStand.{stand_of};
 use crate::block::{Head, next_head, run, run_into};
 use crate::fault::{StreamFault, StreamKind};
 use crate::header::magic;
-use crate::pieces::{add, bad, count_parts};
+use crate::pieces::{add, bad};
 use crate::reading::construct;
 use crate::serving::{Want, serve_all};
 use crate::table::Table;
@@ -89,11 +89,15 @@ fn reference<S: Source>(
 {
     match next_head(pull)? {
         Head::Block(_) => Err(bad(StreamKind::BlockLeft, pull.at)),
-        Head::Code(code, at) => {
-            let slot = construct(alloc, pull, table, SlotPlace::Reference, LEVELS, at, code)?;
-            count_parts(table, 1, at)?;
-            Ok(slot)
-        }
+        Head::Code(code, at) => construct(
+            alloc,
+            pull,
+            table,
+            SlotPlace::Reference,
+            LEVELS,
+            at,
+            code,
+        ),
     }
 }
 
@@ -114,6 +118,7 @@ fn slot_in<S: Source>(
         return Err(bad(StreamKind::BlockLeft, pull.at));
     }
     let slot = reference(alloc, pull, &mut stand.table)?;
+    stand.table.add_entries(1)?;
     stand.items.push(Item::Ref(slot))?;
     Ok(slot)
 }

@@ -28,7 +28,6 @@
 mod builder;
 mod chain;
 mod copying;
-mod counting;
 mod equality;
 mod fault;
 mod finishing;

@@ -40,8 +40,6 @@ mod object_calls;
 #[cfg(test)]
 mod promptness;
 #[cfg(test)]
-mod recording;
-#[cfg(test)]
 mod replays;
 #[cfg(test)]
 mod served;

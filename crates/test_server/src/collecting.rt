@@ -7,7 +7,6 @@ use crate::histories::begins_so;
 use crate::servers::{CONFIG, is_short, listener_of, plan_of};
 use crate::texts::must;
 use conn_server::{Begin, Collector, DropsReports, LinkReport, Served, Server, Stop};
-use history::Event;
 use past::Past;
 use sample_app::{SampleCrew, SampleHand, sample_book, sample_space};
 use sequence::Kinds;
@@ -25,7 +24,6 @@ struct NotesNumbers<R> {
     numbers: Kinds,
     reports: Past<R>,
     ticks: Past<Asked>,
-    events: Past<Event>,
 }
 
 impl<I: Drop, O: Drop, T: Drop, H: Drop> Collector<LinkReport<I, O, T, H>>
@@ -35,24 +33,15 @@ impl<I: Drop, O: Drop, T: Drop, H: Drop> Collector<LinkReport<I, O, T, H>>
     ghost collected = { λ n. record {
       reports = n.reports;
       ticks = n.ticks;
-      events = n.events;
       report_limit = length n.reports + 2 ^ 64;
       tick_limit = length n.ticks + 2 ^ 64;
     } };
 
     ghost expects = { λ n report. Unit {0} };
 
-    ghost holds = { λ n. Unit {0} };
-
-    ghost Stays = { Unit {0} };
-
-    ghost stays = { λ n. tt };
-
     fn reserve(&mut self, _reports: usize) -> bool {
         true
     }
-
-    fn began(&mut self, _by: u32) {}
 
     fn ended(&mut self, report: LinkReport<I, O, T, H>) {
         let _noted = self.numbers.push(report.by);
@@ -63,12 +52,6 @@ impl<I: Drop, O: Drop, T: Drop, H: Drop> Collector<LinkReport<I, O, T, H>>
     fn ticked(&mut self, entry: Asked) {
         self.ticks.push(&entry);
         drop(entry);
-    }
-
-    fn record(&mut self, part: &[Event]) {
-        for event in part {
-            self.events.push(event);
-        }
     }
 }
 
@@ -123,7 +106,6 @@ fn reports_come_as_links_end(rt: HostRuntime) {
         numbers: Kinds::new(rt.alloc()),
         reports: Past::new(),
         ticks: Past::new(),
-        events: Past::new(),
     };
     match serve_both(&rt, rt.alloc(), notes) {
         Some(served) => {

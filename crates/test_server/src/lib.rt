@@ -27,8 +27,6 @@ mod promptly;
 #[cfg(test)]
 mod recorded;
 #[cfg(test)]
-mod recording;
-#[cfg(test)]
 mod replies;
 #[cfg(test)]
 mod rows;

@@ -1,6 +1,5 @@
 use Rattle.std.proofs.Common.{◌≡◌, ◌∙◌, ap, subst, sym, ℕ, ◌++◌, length}
-use Rattle.std.specs.Prelude.{Option, IfSome}
-use Rattle.turn_lock.specs.Handles.{IsFresh, opening_of}
+use Rattle.turn_lock.specs.Handles.{IsFresh}
 use Rattle.turn_lock.specs.declared.handles.Root.{Root}
 use Rattle.conn_server.specs.Accepts.{links_of, reports_of, shown_all, ticks_of, with_all}
 use Rattle.conn_server.specs.Made.{shown_admitted}
@@ -24,13 +23,12 @@ run-stop-requires-clause-accepting g c κs within =
     (subst (λ (r : Root). IsFresh shared.lock.now r) (sym made.root) c.requires.fresh) made.begun made.live made.all
     (rw made.collector c.requires.empty)
     (λ k admitted report for_it talked by. rw made.collector (c.requires.expects k (shown_admitted read_half write_half given admitted) report (link k admitted report for_it talked by)))
-    (subst (λ (next : Option ℕ). IfSome next (λ n. n ≡ length (opening_of shared.lock.now).events)) (sym made.handed) c.requires.handed)
 
 pub returns-clause-hosted : goal.returns-clause-hosted
 returns-clause-hosted g c =
     let a = c.run-stop in
     let e = a.ensures.halted in
-    let j = c.end_all in
+    let j = c.join_all in
     let shared = c.args.shared.now in
     let end = j.new.self in
     let is = j.ensures.accepting in
@@ -47,13 +45,11 @@ returns-clause-hosted g c =
       links = reports_of end.all;
       missed = e.missed;
       joined = all_closed IsLink shared.lock.now read_half write_half given _ _ shown link _ _ shared.book.now end is j.ensures.none;
-      handed_on = is.handed_on;
       quiet = quiet_same shown moves _ _ _ _ _ _ a.new.self.hand e.quiet j.ensures.ticks (ap (λ l. ticks_of l) same);
       reports = is.given;
       told_links = e.links ∙ ap (λ l. with_all told (links_of l ++ e.missed)) (sym same);
       stopped = subst (λ (n : ℕ). HostStopped a.result.stop (g.L.Listener.listening a.new.listener).told shared.plan.now.count n e.missed) number e.stopped;
       back = e.back;
-      untold = e.untold;
     }
 
 pub returns-clause-fault : goal.returns-clause-fault
@@ -64,10 +60,3 @@ returns-clause-faults g c = c.run-stop.ensures.halted.faults
 
 pub returns-clause-ports : goal.returns-clause-ports
 returns-clause-ports g c = c.run-stop.ensures.halted.same_ports
-
-pub returns-clause-keeps : goal.returns-clause-keeps
-returns-clause-keeps g c =
-    let made = c.new-first.ensures in
-    let first = rw made.collector at c.run-stop.ensures.keeps in
-    let then = c.end_all.ensures.keeps in
-    (λ held. then.0 (first.0 held), then.1 ∙ first.1)

@@ -1,6 +1,5 @@
 use Rattle.std.proofs.Common.{◌≡◌, ◌∙◌, ap, subst, sym, ℕ, ◌++◌, length}
-use Rattle.std.specs.Prelude.{Option, IfSome}
-use Rattle.turn_lock.specs.Handles.{IsFresh, opening_of}
+use Rattle.turn_lock.specs.Handles.{IsFresh}
 use Rattle.turn_lock.specs.declared.handles.Root.{Root}
 use Rattle.conn_server.specs.Accepts.{links_of, reports_of, shown_all, ticks_of, with_all}
 use Rattle.conn_server.specs.Made.{shown_admitted}
@@ -23,7 +22,6 @@ accept_links-stop-requires-clause-accepting g c κs within =
     (subst (λ (r : Root). IsFresh shared.lock.now r) (sym made.root) c.requires.fresh) made.begun made.live made.all
     (rw made.collector c.requires.empty)
     (λ k admitted report for_it talked by. rw made.collector (c.requires.expects k (shown_admitted read_half write_half given admitted) report (link k admitted report for_it talked by)))
-    (subst (λ (next : Option ℕ). IfSome next (λ n. n ≡ length (opening_of shared.lock.now).events)) (sym made.handed) tt)
 
 pub returns-clause-served : goal.returns-clause-served
 returns-clause-served g c =

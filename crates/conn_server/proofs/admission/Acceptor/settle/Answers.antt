@@ -53,7 +53,7 @@ returns-clause-accepting g c =
     settled_accepting _ _ _ _ _ shared.lock.now shared.book.now c.args.self.now _ c.args.place (c.from.result - 1) x (Ended c.of.result) c.finish-report.result f
     c.requires.accepting done.root.0 done.root.1 done.root.2 done.grown
     (subst (λ r. IsEndOf talked (view_of c.finish-report.new.root.pass) (task_of x) r) (sym c.of.ensures) done.ended) refl (ap (λ r. r ∷ []) c.of.ensures)
-    (omega (arith, number, from)) c.remove-by.ensures.items c.put.ensures refl given.reports given.ticks given.room given.expects given.events refl
+    (omega (arith, number, from)) c.remove-by.ensures.items c.put.ensures refl given.reports given.ticks given.room given.expects
 
 pub returns-clause-links : goal.returns-clause-links
 returns-clause-links g c =

@@ -10,4 +10,4 @@ returns-clause-accepting g c =
     let is = next.accepting in
     link_accepting _ _ _ _ _ c.args.shared.now.lock.now c.args.shared.now.book.now c.args.self.now _ _ begun.result is c.split.ensures.root s.pass.1 s.pass.2 s.pass.4 s.pass.3 refl
     (record { own = s.pass.0; admitted = next.can }) next.made next.after_tick begun.ensures.task begun.ensures.by begun.ensures.begun begun.ensures.out
-    c.push_reserved.ensures.items c.push.ensures refl next.reports c.began.ensures.same refl
+    c.push_reserved.ensures.items c.push.ensures refl next.reports refl
