@@ -17,17 +17,18 @@ SILENCE = 60
 HAMMERS = 8
 # The sample's objects.
 SAMPLE = [16, 17, 18]
+LINK = re.compile(r"link (\d+) (\S+) (\d+) (.+) calls (\d+) ms (\d+)")
 
 
 class Hosted:
     """A server that runs for good, and what it printed once it was stopped."""
 
-    def __init__(self, program, address, host, *words, source=subprocess.PIPE):
+    def __init__(self, program, address, host, *words, source=subprocess.PIPE, output=subprocess.PIPE):
         self.address, self.port = address, free_port()
         command = [program, "host", address, host, str(self.port), *map(str, words)]
-        self.process = subprocess.Popen(command, stdin=source, stdout=subprocess.PIPE, stderr=subprocess.PIPE)
+        self.process = subprocess.Popen(command, stdin=source, stdout=output, stderr=subprocess.PIPE)
         self.said, self.took = {}, None
-        self.readers = [threading.Thread(target=self.read, args=(name,), daemon=True) for name in ("stdout", "stderr")]
+        self.readers = [threading.Thread(target=self.read, args=(name,), daemon=True) for name in ("stdout", "stderr") if getattr(self.process, name)]
         for it in self.readers:
             it.start()
         until(PATIENCE, self.listens)
@@ -53,16 +54,36 @@ class Hosted:
             return True
         return False
 
-    def stop(self):
-        """Ends its input, and returns the lines that it printed once it has ended well."""
+    def end(self):
+        """Ends its input, and waits until it has ended."""
         start = time.monotonic()
         self.process.stdin.close()
         self.process.wait(STOP + PATIENCE)
         self.took = time.monotonic() - start
         for it in self.readers:
             it.join(PATIENCE)
+
+    def stop(self):
+        """Ends its input, and returns the lines that it printed once it has ended well."""
+        self.end()
         want(f"status {self.process.returncode} and errors {self.said['stderr'][-300:]!r}", self.process.returncode == 0)
         return self.said["stdout"].decode().splitlines()
+
+    def kill(self):
+        """Kills it, and returns the whole lines that it printed until then."""
+        self.process.kill()
+        self.process.wait()
+        for it in self.readers:
+            it.join(PATIENCE)
+        return self.said["stdout"].decode().split("\n")[:-1]
+
+    def links(self):
+        """What it said of each link that ended, once it was stopped."""
+        lines = self.said["stderr"].decode().splitlines()
+        want(f"another first line: {lines[:1]}", lines[:1] == [f"listening {self.address} {self.port}"])
+        found = [LINK.fullmatch(line) for line in lines[1:]]
+        want(f"another line: {[line for line, it in zip(lines[1:], found) if not it][:3]}", all(found))
+        return found
 
 
 def objects(lines):
@@ -79,9 +100,13 @@ def check_addresses(java, program):
     for address, host in (("127.0.0.2", "127.0.0.2"), ("127.0.0.1", "localhost"), ("0.0.0.0", "localhost")):
         with Hosted(program, address, host, "open", LEASE * 1000, LEASE * 1000) as server:
             java.checks("Client", server.port, "names", "values", "counters", flags=properties(host))
-            with check(f"a host at {address} by the name {host} stops well"):
+            with check(f"a host at {address} by the name {host} stops well, and tells of each link"):
                 lines = server.stop()
                 want(f"other objects: {lines}", objects(lines)[:3] == SAMPLE)
+                found = server.links()
+                numbers = sorted(int(it[1]) for it in found)
+                want(f"links {numbers}", numbers == list(range(1, len(numbers) + 1)))
+                want(f"no calls were told: {found[:3]}", any(int(it[5]) > 10 for it in found))
 
 
 def killed(java, server, word, kill):
@@ -136,6 +161,50 @@ def check_refused_after(java, program):
             raise Wrong("it is answered")
 
 
+# A host that writes a journal.
+JOURNAL = ["open", LEASE * 1000, LEASE * 1000, "journal"]
+
+
+def replayed(program, lines):
+    """The outline of a journal of these lines."""
+    journal = "".join(f"{line}\n" for line in lines).encode()
+    ran = subprocess.run([program, "replay"], input=journal, stdout=subprocess.PIPE, stderr=subprocess.PIPE, timeout=PATIENCE, check=False)
+    want(f"status {ran.returncode}, errors {ran.stderr[:300]!r}", (ran.returncode, ran.stderr) == (0, b""))
+    outline = ran.stdout.decode().splitlines()
+    want(f"events {outline[:1]} of {len(lines) - 1} lines", outline[0].split()[1] == str(len(lines) - 1))
+    return outline
+
+
+def check_journal(java, program):
+    """The journal that it writes is one that `replay` reads, and gives what stands; so is the part that one had written which was killed."""
+    with Hosted(program, HOST, HOST, *JOURNAL) as server:
+        java.checks("Client", server.port, "names", "counters")
+        with check("a journal of a host is replayed"):
+            lines = server.stop()
+            want(f"another first line: {lines[:1]}", lines[:1] and lines[0].startswith("space "))
+            outline = replayed(program, lines)
+            want(f"other objects: {outline}", objects(outline)[:3] == SAMPLE)
+    with Hosted(program, HOST, HOST, *JOURNAL) as server:
+        java.checks("Client", server.port, "counters")
+        with check("the journal of a host that was killed is replayed, up to a second before"):
+            time.sleep(2)
+            lines = server.kill()
+            want(f"objects of {replayed(program, lines)}", objects(replayed(program, lines))[:3] == SAMPLE)
+            want(f"no calls among {len(lines)} lines", any(" begin " in line for line in lines))
+
+
+def check_full(program):
+    """An output that fails is told by the status at the stop, and until then it serves."""
+    for word in ("silent", "journal"):
+        with check(f"host {word} to a full disk"), open("/dev/full", "wb") as full:
+            with Hosted(program, HOST, HOST, "open", LEASE * 1000, LEASE * 1000, word, output=full) as server:
+                time.sleep(2)
+                want("it ended", server.listens())
+                server.end()
+                seen = server.process.returncode, server.said["stderr"].splitlines()[-1:]
+                want(f"status and last line {seen}", seen == (4, [b"write fault"]))
+
+
 def check_inputs(program):
     """An input that can't be waited for never stops it."""
     with open(os.devnull, "rb") as nothing:
@@ -169,4 +238,6 @@ def check_hosted(java, program):
     check_killed(java, program)
     check_stop(java, program)
     check_refused_after(java, program)
+    check_journal(java, program)
+    check_full(program)
     check_inputs(program)

@@ -51,6 +51,13 @@ learns_gained v w entries g =
 pub learns_left : (v w : View) → w ≡ left_of v → Learns v w
 learns_left v w is = subst (λ (y : View). Learns v y) (sym is) (record { seen = starts_self v.seen; more = []; ended = sym (append-nil v.ended) })
 
+-- What begins what a root had seen begins what it has seen.
+pub begins_later : (v w : View) → StartsWith w.seen v.seen → (front : Events) → StartsWith v.seen front → StartsWith w.seen front
+begins_later v w more front begins = starts_on w.seen v.seen front more begins
+
+pub begins_gained : (v w : View) (entries : List Asked) → Gained v w entries → (front : Events) → StartsWith v.seen front → StartsWith w.seen front
+begins_gained v w entries g = begins_later v w (learns_gained v w entries g).seen
+
 pub ticked_first : (v : View) (ticks : List Asked) → IsTicking v ticks → IsTicked v ticks
 ticked_first v ticks t = record { number = t.number; own = t.own; last = v.seen; went = t.went; seen = starts_self v.seen }
 

@@ -2,6 +2,8 @@ pub mod Rows
 pub mod Live
 pub mod Ordering
 pub mod Histories
+pub mod Recording
+pub mod Keeping
 pub mod Ticks
 pub mod Listening
 pub mod Taking

@@ -73,6 +73,9 @@ link_of read_half write_half given shown may moves kinds plan k admitted report 
       given_then = given admitted.clock;
       seen_then = (shown admitted.hand).seen;
       state_then = (shown admitted.hand).state;
+      peer_host = talks.2.peer_host ∙ m.peer_host;
+      peer_port = talks.2.peer_port ∙ m.peer_port;
+      calls = talks.2.calls;
       talks = own;
       halves = left;
       complete = completes read_half write_half given shown may moves (link_terms kinds plan k p.0.host p.0.port)

@@ -1,18 +1,27 @@
 -- Ticks of quiet seconds, one after another.
-use Rattle.std.proofs.Common.{◌≡◌, ℕ, List, [], ◌∷◌, ◌++◌, map, inl, inr, refl, ap, sym, ◌∙◌, subst, append_assoc, append-nil}
+use Rattle.std.proofs.Common.{◌≡◌, ◌⊎◌, ℕ, Bool, true, false, List, [], ◌∷◌, ◌++◌, map, inl, inr, refl, ap, sym, ◌∙◌, subst, append_assoc, append-nil}
 use Rattle.std.proofs.lemmas.List.{map-append}
 use Rattle.std.proofs.lemmas.Grind.{flat_map-append}
 use Rattle.std.specs.List.{AllByRecursion, flat_map}
-use Rattle.std.specs.Prelude.{Option, Some, None, IfSome, option_to_list}
+use Rattle.std.specs.Prelude.{Option, Some, None, IfSome, IfNone, option_to_list}
 use Rattle.wire_io.specs.Wire.{Gave, Gave-append, Gave-nothing}
 use Rattle.history.specs.declared.asks.Ask.TheVariants.{Tick}
+use Rattle.history.specs.declared.asks.SpaceConfig.{SpaceConfig}
+use Rattle.space.specs.Built.{SpaceHistory}
+use Rattle.space.specs.Idle.{TickChangesNothing, untold_of}
 use Rattle.space.specs.declared.asked.Asked.{Asked}
 use Rattle.call_dispatch.specs.Acts.{WorkerState, Call, States, Moves, TellsMore, LeadsStates}
 use Rattle.call_dispatch.specs.Hands.{IsUntold, IsUncounted}
 use Rattle.call_dispatch.proofs.Going.{tells_nothing, leads_nothing}
+use Rattle.turn_lock.specs.Handles.{IsRootOf, opening_of, view_of}
+use Rattle.turn_lock.specs.NoTick.{NeedsNoTick}
+use Rattle.turn_lock.specs.Rule.{Events, StartsWith}
+use Rattle.turn_lock.specs.declared.handles.Root.{Root}
+use Rattle.turn_lock.specs.declared.handles.TurnLock.{TurnLock}
 use Rattle.conn_server.specs.Accepts.{TicksOn}
 use Rattle.conn_server.specs.Made.{IsTickEnd, told_of}
-use Rattle.conn_server.specs.Quiet.{Merges, IsTick, moments_of, HasTold, HaveTold, TicksQuietly, TicksOnce}
+use Rattle.conn_server.specs.Quiet.{Merges, IsTick, moments_of, MayPass, HasTold, HaveTold, TicksQuietly, TicksOnce}
+use Rattle.conn_server.proofs.Histories.{starts_on, starts_self}
 
 -- ---- lists merged
 
@@ -29,6 +38,32 @@ merges_second xs ys (z ∷ zs) y (inr m) = inr (m.0 ++ y ∷ [], ap (λ l. l ++ 
 each_on : {A : Type 0} (P : A → Type 0) (xs : List A) (x : A) → AllByRecursion P xs → P x → AllByRecursion P (xs ++ x ∷ [])
 each_on P [] x a p = (p, tt)
 each_on P (y ∷ xs) x a p = (a.0, each_on P xs x a.1 p)
+
+each_more : {A : Type 0} (P Q : A → Type 0) (xs : List A) → ((x : A) → P x → Q x) → AllByRecursion P xs → AllByRecursion Q xs
+each_more P Q [] more a = tt
+each_more P Q (x ∷ xs) more a = (more x a.0, each_more P Q xs more a.1)
+
+-- ---- moments without a Tick
+
+-- They may pass when more was seen, and when further Ticks were missed.
+pub passes_on : (opening : SpaceHistory) (events events_after : Events) (missed missed_after : Bool) → ((front : Events) → StartsWith events front → StartsWith events_after front) → (missed ≡ true → missed_after ≡ true)
+    → (m : ℕ) → MayPass opening events missed m → MayPass opening events_after missed_after m
+passes_on opening events events_after missed missed_after begins still m (inl is) = inl (still is)
+passes_on opening events events_after missed missed_after begins still m (inr (seen, at_front, opened, nothing, told)) = inr (seen, begins seen at_front, opened, nothing, told)
+
+-- The moment at which the clock was looked at may pass where it has no entry: either a Tick was due and is missed, or nothing had ended.
+pub may_pass : (lock : TurnLock) (r : Root) (entry : Option Asked) (due missed : Bool) (look : ℕ) → IsRootOf lock r → (entry ≡ None → (missed ≡ true) ⊎ (due ≡ false)) → (due ≡ false → NeedsNoTick (view_of r.pass) look)
+    → IfNone entry (MayPass (opening_of lock) (view_of r.pass).seen missed look)
+may_pass lock r (Some e) due missed look own unmade idle = tt
+may_pass lock r None due missed look own unmade idle = by (unmade refl)
+  where
+    by : (missed ≡ true) ⊎ (due ≡ false) → MayPass (opening_of lock) (view_of r.pass).seen missed look
+    by (inl is) = inl is
+    by (inr none) =
+        let seen = (view_of r.pass).seen in
+        let nothing = idle none in
+        let order = own.pass_is.ordered in
+        inr (seen, starts_self seen, (order.tail, order.begins), subst (λ (config : SpaceConfig). TickChangesNothing config seen look) own.pass_is.configured nothing.0, subst (λ (config : SpaceConfig). untold_of config seen ≡ []) own.pass_is.configured nothing.1)
 
 -- An entry that there is, is a Tick's.
 pub tick_there : (entry : Option Asked) → IfSome entry (λ e. e.ask ≡ Tick) → IfSome entry (λ e. IsTickEnd e.end) → IfSome entry IsTick
@@ -86,38 +121,91 @@ module _ {H : Type 0} (shown : H → WorkerState) (moves : States → Call → S
   -- ---- a server's own turns
 
   -- At first there are none.
-  pub quiet_first : (gave : Option (List ℕ)) (before_links ticks : List Asked) → before_links ≡ [] → ticks ≡ [] → TicksQuietly shown moves gave gave before_links ticks None
-  quiet_first gave before_links ticks no_link no_tick =
-      let start : TicksQuietly shown moves gave gave [] [] None = record { quiet = []; merged = (refl, refl); each = tt; told = refl; passed_over = []; looks = []; gave = Gave-nothing gave; among = (refl, refl) } in
-      subst (λ (x : List Asked × List Asked). TicksQuietly shown moves gave gave x.0 x.1 None) (λ i. (sym no_link i, sym no_tick i)) start
+  pub quiet_first : (Passes : ℕ → Type 0) (gave : Option (List ℕ)) (before_links ticks : List Asked) → before_links ≡ [] → ticks ≡ [] → TicksQuietly shown moves Passes gave gave before_links ticks None
+  quiet_first Passes gave before_links ticks no_link no_tick =
+      let start : TicksQuietly shown moves Passes gave gave [] [] None = record { quiet = []; merged = (refl, refl); each = tt; told = refl; passed_over = []; each_passes = tt; looks = []; gave = Gave-nothing gave; among = (refl, refl) } in
+      subst (λ (x : List Asked × List Asked). TicksQuietly shown moves Passes gave gave x.0 x.1 None) (λ i. (sym no_link i, sym no_tick i)) start
 
   -- A Tick was made before a link.
-  pub quiet_link : (gave_first gave_last : Option (List ℕ)) (before_links before_links_after ticks ticks_after : List Asked) (hand : Option H) → TicksQuietly shown moves gave_first gave_last before_links ticks hand
-      → TicksOn ticks ticks_after before_links before_links_after → TicksQuietly shown moves gave_first gave_last before_links_after ticks_after hand
-  quiet_link gave_first gave_last before_links before_links_after ticks ticks_after hand t (tick, one, other) =
-      let longer : TicksQuietly shown moves gave_first gave_last (before_links ++ tick ∷ []) (ticks ++ tick ∷ []) hand = record {
+  pub quiet_link : (Passes : ℕ → Type 0) (gave_first gave_last : Option (List ℕ)) (before_links before_links_after ticks ticks_after : List Asked) (hand : Option H) → TicksQuietly shown moves Passes gave_first gave_last before_links ticks hand
+      → TicksOn ticks ticks_after before_links before_links_after → TicksQuietly shown moves Passes gave_first gave_last before_links_after ticks_after hand
+  quiet_link Passes gave_first gave_last before_links before_links_after ticks ticks_after hand t (tick, one, other) =
+      let longer : TicksQuietly shown moves Passes gave_first gave_last (before_links ++ tick ∷ []) (ticks ++ tick ∷ []) hand = record {
         quiet = t.quiet;
         merged = merges_first before_links t.quiet ticks tick t.merged;
         each = t.each;
         told = t.told;
         passed_over = t.passed_over;
+        each_passes = t.each_passes;
         looks = t.looks;
         gave = t.gave;
         among = t.among;
       } in
-      subst (λ (x : List Asked × List Asked). TicksQuietly shown moves gave_first gave_last x.0 x.1 hand) (λ i. (sym other i, sym one i)) longer
+      subst (λ (x : List Asked × List Asked). TicksQuietly shown moves Passes gave_first gave_last x.0 x.1 hand) (λ i. (sym other i, sym one i)) longer
 
   -- The same lists by other names.
-  pub quiet_same : (gave_first gave_last : Option (List ℕ)) (before_links before_links_after ticks ticks_after : List Asked) (hand : Option H) → TicksQuietly shown moves gave_first gave_last before_links ticks hand
-      → ticks_after ≡ ticks → before_links_after ≡ before_links → TicksQuietly shown moves gave_first gave_last before_links_after ticks_after hand
-  quiet_same gave_first gave_last before_links before_links_after ticks ticks_after hand t same other =
-      subst (λ (x : List Asked × List Asked). TicksQuietly shown moves gave_first gave_last x.0 x.1 hand) (λ i. (sym other i, sym same i)) t
+  pub quiet_same : (Passes : ℕ → Type 0) (gave_first gave_last : Option (List ℕ)) (before_links before_links_after ticks ticks_after : List Asked) (hand : Option H) → TicksQuietly shown moves Passes gave_first gave_last before_links ticks hand
+      → ticks_after ≡ ticks → before_links_after ≡ before_links → TicksQuietly shown moves Passes gave_first gave_last before_links_after ticks_after hand
+  quiet_same Passes gave_first gave_last before_links before_links_after ticks ticks_after hand t same other =
+      subst (λ (x : List Asked × List Asked). TicksQuietly shown moves Passes gave_first gave_last x.0 x.1 hand) (λ i. (sym other i, sym same i)) t
 
-  -- A Tick was made in a quiet second.
-  pub quiet_on : (gave_first gave_last gave_then : Option (List ℕ)) (before_links ticks ticks_after : List Asked) (own : Option H) (a b : H) → TicksQuietly shown moves gave_first gave_last before_links ticks own
+  -- More moments may pass.
+  pub quiet_later : (Passes Passes2 : ℕ → Type 0) (gave_first gave_last : Option (List ℕ)) (before_links ticks : List Asked) (hand : Option H) → ((m : ℕ) → Passes m → Passes2 m)
+      → TicksQuietly shown moves Passes gave_first gave_last before_links ticks hand → TicksQuietly shown moves Passes2 gave_first gave_last before_links ticks hand
+  quiet_later Passes Passes2 gave_first gave_last before_links ticks hand more t = record {
+    quiet = t.quiet;
+    merged = t.merged;
+    each = t.each;
+    told = t.told;
+    passed_over = t.passed_over;
+    each_passes = each_more Passes Passes2 t.passed_over more t.each_passes;
+    looks = t.looks;
+    gave = t.gave;
+    among = t.among;
+  }
+
+  -- A second passed in which there was no memory: any moment may pass then.
+  pub quiet_missed : (Passes Passes2 : ℕ → Type 0) (gave_first gave_last : Option (List ℕ)) (before_links ticks ticks_after : List Asked) (hand hand_after : Option H) → ((m : ℕ) → Passes2 m) → ticks_after ≡ ticks → hand_after ≡ hand
+      → TicksQuietly shown moves Passes gave_first gave_last before_links ticks hand → TicksQuietly shown moves Passes2 gave_first gave_last before_links ticks_after hand_after
+  quiet_missed Passes Passes2 gave_first gave_last before_links ticks ticks_after hand hand_after every same same_hand t =
+      let later = quiet_later Passes Passes2 gave_first gave_last before_links ticks hand (λ m was. every m) t in
+      subst (λ (x : List Asked × Option H). TicksQuietly shown moves Passes2 gave_first gave_last before_links x.0 x.1) (λ i. (sym same i, sym same_hand i)) later
+
+  -- The same of one look at the clock.
+  pub once_later : (Passes Passes2 : ℕ → Type 0) (gave_first gave_last : Option (List ℕ)) (ticks ticks_after : List Asked) (a b : H) → ((m : ℕ) → Passes m → Passes2 m)
+      → TicksOnce shown moves Passes gave_first gave_last ticks ticks_after a b → TicksOnce shown moves Passes2 gave_first gave_last ticks ticks_after a b
+  once_later Passes Passes2 gave_first gave_last ticks ticks_after a b more once = record {
+    entry = once.entry;
+    longer = once.longer;
+    is_tick = once.is_tick;
+    look = once.look;
+    gave = once.gave;
+    at_look = once.at_look;
+    passes = more_none once.entry once.passes;
+    seen = once.seen;
+    state = once.state;
+    same_calls = once.same_calls;
+    same_number = once.same_number;
+  }
+    where
+      more_none : (entry : Option Asked) → IfNone entry (Passes once.look) → IfNone entry (Passes2 once.look)
+      more_none None is = more once.look is
+      more_none (Some e) is = tt
+
+  -- The lock was closed, and the same is known by other names.
+  pub quiet_closed : (opening : SpaceHistory) (seen events : Events) (missed missed_after : Bool) (gave_first gave_last : Option (List ℕ)) (before_links ticks ticks_after : List Asked) (hand hand_after : Option H)
+      → StartsWith events seen → missed_after ≡ missed → ticks_after ≡ ticks → hand_after ≡ hand
+      → TicksQuietly shown moves (MayPass opening seen missed) gave_first gave_last before_links ticks hand → TicksQuietly shown moves (MayPass opening events missed_after) gave_first gave_last before_links ticks_after hand_after
+  quiet_closed opening seen events missed missed_after gave_first gave_last before_links ticks ticks_after hand hand_after more same_missed same same_hand t =
+      let later = quiet_later (MayPass opening seen missed) (MayPass opening events missed_after) gave_first gave_last before_links ticks hand
+      (passes_on opening seen events missed missed_after (λ front begins. starts_on events seen front more begins) (λ is. same_missed ∙ is)) t in
+      subst (λ (x : List Asked × Option H). TicksQuietly shown moves (MayPass opening events missed_after) gave_first gave_last before_links x.0 x.1) (λ i. (sym same i, sym same_hand i)) later
+
+  -- A Tick was made in a quiet second, or none.
+  pub quiet_on : (Passes : ℕ → Type 0) (gave_first gave_last gave_then : Option (List ℕ)) (before_links ticks ticks_after : List Asked) (own : Option H) (a b : H) → TicksQuietly shown moves Passes gave_first gave_last before_links ticks own
       → ((entries : List Asked) → HaveTold shown moves entries own → HasTold shown moves entries a)
-      → TicksOnce shown moves gave_last gave_then ticks ticks_after a b → TicksQuietly shown moves gave_first gave_then before_links ticks_after (Some b)
-  quiet_on gave_first gave_last gave_then before_links ticks ticks_after own a b t has once = more once.entry refl
+      → TicksOnce shown moves Passes gave_last gave_then ticks ticks_after a b → TicksQuietly shown moves Passes gave_first gave_then before_links ticks_after (Some b)
+  quiet_on Passes gave_first gave_last gave_then before_links ticks ticks_after own a b t has once = more once.entry refl
     where
       looks_after : List ℕ
       looks_after = t.looks ++ once.look ∷ []
@@ -128,13 +216,14 @@ module _ {H : Type 0} (shown : H → WorkerState) (moves : States → Call → S
       told_after : HasTold shown moves (t.quiet ++ option_to_list once.entry) b
       told_after = told_on t.quiet (option_to_list once.entry) a b (has t.quiet t.told) once.seen once.state once.same_calls once.same_number
 
-      more : (entry : Option Asked) → once.entry ≡ entry → TicksQuietly shown moves gave_first gave_then before_links ticks_after (Some b)
+      more : (entry : Option Asked) → once.entry ≡ entry → TicksQuietly shown moves Passes gave_first gave_then before_links ticks_after (Some b)
       more None is = record {
         quiet = t.quiet;
         merged = subst (λ (l : List Asked). Merges before_links t.quiet l) (sym (once.longer ∙ (ap (λ e. ticks ++ option_to_list e) is ∙ append-nil ticks))) t.merged;
         each = t.each;
         told = subst (λ (l : List Asked). HasTold shown moves l b) (ap (λ e. t.quiet ++ option_to_list e) is ∙ append-nil t.quiet) told_after;
         passed_over = t.passed_over ++ once.look ∷ [];
+        each_passes = each_on Passes t.passed_over once.look t.each_passes (subst (λ (o : Option Asked). IfNone o (Passes once.look)) is once.passes);
         looks = looks_after;
         gave = gave_after;
         among = merges_second (moments_of t.quiet) t.passed_over t.looks once.look t.among;
@@ -148,6 +237,7 @@ module _ {H : Type 0} (shown : H → WorkerState) (moves : States → Call → S
             each = each_on IsTick t.quiet e t.each tick;
             told = subst (λ (l : List Asked). HasTold shown moves l b) (ap (λ o. t.quiet ++ option_to_list o) is) told_after;
             passed_over = t.passed_over;
+            each_passes = t.each_passes;
             looks = looks_after;
             gave = gave_after;
             among = subst (λ (l : List ℕ). Merges l t.passed_over looks_after) (ap (λ m. moments_of t.quiet ++ m ∷ []) (sym at_look) ∙ sym (map-append (λ (x : Asked). x.moment) t.quiet (e ∷ [])))

@@ -1,24 +1,26 @@
 -- What is kept as links are admitted.
-use Rattle.std.proofs.Common.{◌≡◌, ℕ, ◌+◌, ◌<◌, List, [], ◌∷◌, ◌++◌, length, map, get_or, set, sym, refl, ap, ◌∙◌, subst, arith, append-nil, length-append, length-set}
-use Rattle.std.specs.Prelude.{◌≤◌, vec_len}
+use Rattle.std.proofs.Common.{◌≡◌, ℕ, ◌+◌, ◌<◌, false, List, [], ◌∷◌, ◌++◌, length, map, get_or, set, sym, refl, ap, ◌∙◌, subst, arith, append-nil, length-append, length-set}
+use Rattle.std.specs.Prelude.{◌≤◌, vec_len, Option, IfSome}
 use Rattle.std.specs.List.{remove}
 use Rattle.std.specs.List.Sorted.{IsPermutation}
 use Rattle.std.proofs.lemmas.List.Sorted.{IsPermutation-refl}
 use Rattle.std.proofs.lemmas.List.Sums.{sum_by_push}
+use Rattle.history.specs.declared.asks.Event.{Event}
 use Rattle.history.specs.declared.asks.SpaceConfig.{SpaceConfig}
 use Rattle.ports.specs.Balance.{WentAmong}
 use Rattle.space.specs.declared.asked.Asked.{Asked}
 use Rattle.turn_lock.specs.Answers.{Gained, events_of}
 use Rattle.turn_lock.specs.Handles.{IsFresh, IsRootOf, opening_of, view_of}
 use Rattle.turn_lock.specs.PortLaws.{among_on, events_on}
-use Rattle.turn_lock.specs.Rule.{Events, events_by, left_of, right_of, space_with}
+use Rattle.turn_lock.specs.Rule.{Events, StartsWith, events_by, left_of, right_of, space_with}
 use Rattle.turn_lock.specs.declared.handles.Root.{Root}
 use Rattle.turn_lock.specs.declared.handles.TurnLock.{TurnLock}
 use Rattle.turn_lock.specs.declared.view.View.{View}
 use Rattle.call_dispatch.specs.Acts.{WorkerState}
 use Rattle.system_objects.specs.declared.book.Kind.{Kind}
-use Rattle.conn_server.specs.Accepts.{ExpectsAll, IsAccepting, IsBegun, IsSame, live_of, open_all, reports_of}
-use Rattle.conn_server.specs.Collects.{Collected, IsEmpty, SameReports}
+use Rattle.conn_server.specs.Accepts.{ExpectsAll, Follows, IsAccepting, IsBegun, IsSame, live_of, open_all, reports_of}
+use Rattle.conn_server.specs.Collects.{Collected, IsEmpty, SameAll, SameReports}
+use Rattle.conn_server.specs.Handed.{AreHanded}
 use Rattle.conn_server.specs.Made.{IsTakenBelow}
 use Rattle.conn_server.specs.Rows.{EachAt}
 use Rattle.conn_server.specs.Serves.{IsLinkTask}
@@ -31,6 +33,7 @@ use Rattle.conn_server.specs.declared.link_task.LinkReport.{LinkReport}
 use Rattle.conn_server.specs.declared.link_thread.StartedLink.{StartedLink}
 use Rattle.conn_server.specs.declared.link_thread.LinkState.{LinkState}
 use Rattle.conn_server.proofs.Ending.{learns_gained, learns_grown, learns_left}
+use Rattle.conn_server.proofs.Recording.{handed_first, handed_later}
 use Rattle.conn_server.proofs.Histories.{turns_closed}
 use Rattle.conn_server.proofs.Joining.{Found, each_later, found}
 use Rattle.conn_server.proofs.Live.{given_ended, live_begun, live_ended, live_length, open_ended, reports_begun}
@@ -67,9 +70,9 @@ ticking_grown lock a b ticks was is g t =
 module _ {I O T H C : Type 0} (Talked : AdmittedLink I O T H → LinkReport I O T H → Type 0) (Made : ℕ → AdmittedLink I O T H → Type 0) (shown : H → WorkerState)
     (collected : C → Collected (LinkReport I O T H)) (expects : C → LinkReport I O T H → Type 0) (lock : TurnLock) (kinds : List Kind) where
   -- At first there is no link.
-  pub first_accepting : (a : Acceptor I O T H C) → IsFresh lock a.root → a.begun ≡ 0 → a.live.items ≡ [] → a.all ≡ [] → IsEmpty (collected a.collector) → ExpectsAll Talked Made expects a.collector
-      → IsAccepting Talked Made shown collected expects lock kinds a
-  first_accepting a fresh none no_live no_link empty expected =
+  pub first_accepting : (a : Acceptor I O T H C) → IsFresh lock a.root → a.begun ≡ 0 → a.live.items ≡ [] → a.all ≡ [] → IsEmpty (collected a.collector) → (a.keeps ≡ false → (collected a.collector).events ≡ []) → ExpectsAll Talked Made expects a.collector
+      → IfSome a.handed (λ n. n ≡ length (opening_of lock).events) → IsAccepting Talked Made shown collected expects lock kinds a
+  first_accepting a fresh none no_live no_link empty no_event expected at_end =
       let opens : open_all a.all ≡ 0 = ap (λ (l : List (StartedLink I O T H)). open_all l) no_link in
       let reports : length (collected a.collector).reports ≡ 0 = ap length empty.no_report in
       let count : length a.all ≡ 0 = ap length no_link in
@@ -83,6 +86,7 @@ module _ {I O T H C : Type 0} (Talked : AdmittedLink I O T H → LinkReport I O 
         given = subst (λ (x : List (StartedLink I O T H) × List (LinkReport I O T H)). IsPermutation (reports_of x.0) x.1) (λ i. (sym no_link i, sym empty.no_report i)) (IsPermutation-refl []);
         room = omega (arith, opens, reports);
         expected = expected;
+        handed_on = λ host. handed_first lock (view_of a.root.pass) (collected a.collector).events a.handed (ap (λ (y : View). y.seen) fresh.knows) (no_event host) at_end;
         links = subst (λ (l : List (StartedLink I O T H)). EachAt (IsBegun Talked Made shown lock kinds (view_of a.root.pass)) 1 l) (sym no_link) tt;
       }
 
@@ -106,13 +110,14 @@ module _ {I O T H C : Type 0} (Talked : AdmittedLink I O T H → LinkReport I O 
         given = subst (λ (x : List (StartedLink I O T H) × List (LinkReport I O T H)). IsPermutation (reports_of x.0) x.1) (λ i. (sym same.all i, sym same.reports.reports i)) is.given;
         room = omega (arith, room, more, opens, reports);
         expected = still_expected a.collector b.collector same.reports.still is.expected;
+        handed_on = λ host. subst (λ (x : Root × List Event × Option ℕ). AreHanded lock (view_of x.0.pass) x.1 x.2) (λ i. (sym same.root i, sym same.events i, sym same.handed_on i)) (is.handed_on (sym same.same_keeps ∙ host));
         links = subst (λ (x : Root × List (StartedLink I O T H)). EachAt (IsBegun Talked Made shown lock kinds (view_of x.0.pass)) 1 x.1) (λ i. (sym same.root i, sym same.all i)) is.links;
       }
 
   pub tick_accepting : (a b : Acceptor I O T H C) (more : List Asked) → IsAccepting Talked Made shown collected expects lock kinds a → IsRootOf lock b.root → b.root.made ≡ a.root.made → b.root.out ≡ a.root.out
       → Gained (view_of a.root.pass) (view_of b.root.pass) more → (collected b.collector).ticks ≡ (collected a.collector).ticks ++ more → SameReports collected expects a.collector b.collector
-      → b.begun ≡ a.begun → b.live ≡ a.live → b.all ≡ a.all → IsAccepting Talked Made shown collected expects lock kinds b
-  tick_accepting a b more is own made out went ticks kept begun live all =
+      → b.begun ≡ a.begun → b.live ≡ a.live → b.all ≡ a.all → (b.keeps ≡ false → AreHanded lock (view_of b.root.pass) (collected b.collector).events b.handed) → IsAccepting Talked Made shown collected expects lock kinds b
+  tick_accepting a b more is own made out went ticks kept begun live all handed =
       let room = is.room in let more_room = kept.room in
       let opens : open_all b.all ≡ open_all a.all = ap (λ (l : List (StartedLink I O T H)). open_all l) all in
       let reports : length (collected b.collector).reports ≡ length (collected a.collector).reports = ap length kept.reports in
@@ -127,17 +132,24 @@ module _ {I O T H C : Type 0} (Talked : AdmittedLink I O T H → LinkReport I O 
         given = subst (λ (x : List (StartedLink I O T H) × List (LinkReport I O T H)). IsPermutation (reports_of x.0) x.1) (λ i. (sym all i, sym kept.reports i)) is.given;
         room = omega (arith, room, more_room, opens, reports);
         expected = still_expected a.collector b.collector kept.still is.expected;
+        handed_on = handed;
         links = subst (λ (l : List (StartedLink I O T H)). EachAt (IsBegun Talked Made shown lock kinds (view_of b.root.pass)) 1 l) (sym all)
             (each_later Talked Made shown lock kinds (view_of a.root.pass) (view_of b.root.pass) (learns_gained (view_of a.root.pass) (view_of b.root.pass) more went) 1 a.all is.links);
       }
+
+  -- A turn was made, and no event handed on.
+  pub handed_at_turn : (a : Acceptor I O T H C) (w : View) (more : List Asked) (events : Events) (next : Option ℕ) → IsAccepting Talked Made shown collected expects lock kinds a → Gained (view_of a.root.pass) w more
+      → events ≡ (collected a.collector).events → next ≡ a.handed → a.keeps ≡ false → AreHanded lock w events next
+  handed_at_turn a w more events next is went same_events same host =
+      handed_later lock (view_of a.root.pass) w (collected a.collector).events events a.handed next (is.handed_on host) (learns_gained (view_of a.root.pass) w more went).seen same_events same
 
   pub link_accepting : (a b : Acceptor I O T H C) (task : LinkTask I O T H) (x : StartedLink I O T H) → IsAccepting Talked Made shown collected expects lock kinds a → IsRootOf lock b.root
       → view_of task.pass ≡ right_of (view_of a.root.pass) → view_of b.root.pass ≡ left_of (view_of a.root.pass) → b.root.out ≡ a.root.out + 1 → b.root.made ≡ a.root.made + 1
       → task.by ≡ a.begun + 1 → IsLinkTask shown lock task → Made (a.begun + 1) task.admitted
       → IsTakenBelow (length (view_of a.root.pass).seen) task.admitted.tick.value.end → task_of x ≡ task → x.by ≡ task.by → ((v : View) → IsUnder Talked lock kinds v (task_of x) x.link_state) → open_in x.link_state ≡ 1
       → b.live.items ≡ a.live.items ++ x ∷ [] → b.all ≡ a.all ++ x ∷ [] → b.begun ≡ a.begun + 1
-      → length (collected a.collector).reports + vec_len a.live < (collected a.collector).report_limit → b.collector ≡ a.collector → IsAccepting Talked Made shown collected expects lock kinds b
-  link_accepting a b task x is own right left out made by task_at for_it after_it task_is x_by link_state one live all begun room same =
+      → length (collected a.collector).reports + vec_len a.live < (collected a.collector).report_limit → SameAll collected expects a.collector b.collector → b.handed ≡ a.handed → b.keeps ≡ a.keeps → IsAccepting Talked Made shown collected expects lock kinds b
+  link_accepting a b task x is own right left out made by task_at for_it after_it task_is x_by link_state one live all begun room same same_handed same_keeps =
       let v = view_of a.root.pass in
       let w = view_of b.root.pass in
       let was : v.made ≡ a.root.made = is.own.made_are in
@@ -149,8 +161,8 @@ module _ {I O T H C : Type 0} (Talked : AdmittedLink I O T H → LinkReport I O 
       let view : view_of (task_of x).pass ≡ right_of v = ap (λ (j : LinkTask I O T H). view_of j.pass) task_is ∙ right in
       let number : v.made + 1 ≡ length a.all + 1 = omega (arith, was, n) in
       let live_count : vec_len a.live ≡ open_all a.all = a.live.ok.0 ∙ (ap length is.live_are ∙ live_length a.all) in
-      let reports : length (collected b.collector).reports ≡ length (collected a.collector).reports = ap (λ (c : C). length (collected c).reports) same in
-      let limit : (collected b.collector).report_limit ≡ (collected a.collector).report_limit = ap (λ (c : C). (collected c).report_limit) same in
+      let reports : length (collected b.collector).reports ≡ length (collected a.collector).reports = ap length same.reports.reports in
+      let limit = same.reports.room in
       let here : IsBegun Talked Made shown lock kinds w (length a.all + 1) x = record {
         number = x_by ∙ (by ∙ ap (λ n. n + 1) length_is);
         task = record {
@@ -168,11 +180,12 @@ module _ {I O T H C : Type 0} (Talked : AdmittedLink I O T H → LinkReport I O 
         out = omega (arith, out, o, longer);
         made = omega (arith, made, n, count);
         begun = omega (arith, begun, length_is, count);
-        ticked = subst (λ (c : C). IsTicking w (collected c).ticks) (sym same) (ticking_left v w (collected a.collector).ticks left is.ticked);
+        ticked = subst (λ (l : List Asked). IsTicking w l) (sym same.ticks) (ticking_left v w (collected a.collector).ticks left is.ticked);
         live_are = live ∙ (ap (λ (l : List (StartedLink I O T H)). l ++ x ∷ []) is.live_are ∙ (sym (live_begun a.all x one) ∙ ap (λ (l : List (StartedLink I O T H)). live_of l) (sym all)));
-        given = subst (λ (y : List (LinkReport I O T H) × C). IsPermutation y.0 (collected y.1).reports) (λ i. (sym (ap (λ (l : List (StartedLink I O T H)). reports_of l) all ∙ reports_begun a.all x one) i, sym same i)) is.given;
+        given = subst (λ (y : List (LinkReport I O T H) × List (LinkReport I O T H)). IsPermutation y.0 y.1) (λ i. (sym (ap (λ (l : List (StartedLink I O T H)). reports_of l) all ∙ reports_begun a.all x one) i, sym same.reports.reports i)) is.given;
         room = omega (arith, room, live_count, longer, reports, limit);
-        expected = subst (λ (c : C). ExpectsAll Talked Made expects c) (sym same) is.expected;
+        expected = still_expected a.collector b.collector same.reports.still is.expected;
+        handed_on = λ host. handed_later lock v w (collected a.collector).events (collected b.collector).events a.handed b.handed (is.handed_on (sym same_keeps ∙ host)) (learns_left v w left).seen same.events same_handed;
         links = subst (λ (l : List (StartedLink I O T H)). EachAt (IsBegun Talked Made shown lock kinds w) 1 l) (sym all)
             (each_on (IsBegun Talked Made shown lock kinds w) 1 a.all x (each_later Talked Made shown lock kinds v w (learns_left v w left) 1 a.all is.links) here);
       }
@@ -196,8 +209,8 @@ module _ {I O T H C : Type 0} (Talked : AdmittedLink I O T H → LinkReport I O 
       → n + 1 ≡ x.by → b.live.items ≡ remove a.live.items place → b.all ≡ set a.all n (record { by = x.by; task = x.task; link_state = st }) → b.begun ≡ a.begun
       → (collected b.collector).reports ≡ (collected a.collector).reports ++ report ∷ [] → (collected b.collector).ticks ≡ (collected a.collector).ticks
       → (collected a.collector).report_limit ≤ (collected b.collector).report_limit → ((other : LinkReport I O T H) → expects a.collector other → expects b.collector other)
-      → IsAccepting Talked Made shown collected expects lock kinds b
-  settled_accepting a b place n x st report f is own out made grows ended none one number live all begun reports ticks limit still =
+      → (collected b.collector).events ≡ (collected a.collector).events → b.handed ≡ a.handed → b.keeps ≡ a.keeps → IsAccepting Talked Made shown collected expects lock kinds b
+  settled_accepting a b place n x st report f is own out made grows ended none one number live all begun reports ticks limit still events same_handed same_keeps =
       let v = view_of a.root.pass in
       let w = view_of b.root.pass in
       let m = f.amid_is in
@@ -224,6 +237,7 @@ module _ {I O T H C : Type 0} (Talked : AdmittedLink I O T H → LinkReport I O 
             (given_ended a.all place x y m report (collected a.collector).reports (collected b.collector).reports one is.given reports);
         room = omega (arith, room, shorter, opens, longer, limit);
         expected = still_expected a.collector b.collector still is.expected;
+        handed_on = λ host. handed_later lock v w (collected a.collector).events (collected b.collector).events a.handed b.handed (is.handed_on (sym same_keeps ∙ host)) grows.seen events same_handed;
         links = subst (λ (l : List (StartedLink I O T H)). EachAt (IsBegun Talked Made shown lock kinds w) 1 l) (sym now)
             (each_instead (IsBegun Talked Made shown lock kinds w) 1 m.before x y m.after later here_begun);
       }
@@ -239,3 +253,11 @@ module _ {I O T H C : Type 0} (Talked : AdmittedLink I O T H → LinkReport I O 
       let here : n ≡ length m.before = omega (arith, number, at_number) in
       let now : after ≡ m.before ++ y ∷ m.after = all ∙ ((λ i. set (m.whole i) (here i) y) ∙ set_amid m.before x y m.after) in
       ap (map shows) now ∙ (map_instead shows m.before x y m.after same ∙ ap (map shows) (sym m.whole))
+
+-- An acceptor that is the same but for more room follows.
+pub follows_same : {I O T H C : Type 0} (collected : C → Collected (LinkReport I O T H)) (expects : C → LinkReport I O T H → Type 0) (a b : Acceptor I O T H C) → IsSame collected expects a b → Follows a b
+follows_same collected expects a b same = (λ front begins. subst (λ (r : Root). StartsWith (view_of r.pass).seen front) (sym same.root) begins, same.same_keeps)
+
+-- One acceptor follows another that follows a first one.
+pub follows_on : {I O T H C : Type 0} (a b c : Acceptor I O T H C) → Follows a b → Follows b c → Follows a c
+follows_on a b c first then = (λ front begins. then.0 front (first.0 front begins), then.1 ∙ first.1)

@@ -1,15 +1,17 @@
 -- What holds while links are accepted.
 use Rattle.wire_io.specs.Wire.{ReadHalf, WriteHalf, Rose}
-use Rattle.std.specs.Prelude.{◌≡◌, ℕ, ◌+◌, ◌<◌, ◌≤◌, List, [], ◌∷◌, ◌++◌, length, map, sum_by, vec_len, vec_capacity, Option, Some, None, Result, Ok, Err}
+use Rattle.std.specs.Prelude.{◌≡◌, ℕ, ◌+◌, ◌<◌, ◌≤◌, false, List, [], ◌∷◌, ◌++◌, length, map, sum_by, vec_len, vec_capacity, Option, Some, None, Result, Ok, Err}
 use Rattle.wire_io.specs.Links.{Accepted, Listening, with_next}
 use Rattle.space.specs.declared.asked.Asked.{Asked}
 use Rattle.turn_lock.specs.Handles.{IsRootOf, view_of}
+use Rattle.turn_lock.specs.Rule.{Events, StartsWith}
 use Rattle.turn_lock.specs.declared.handles.TurnLock.{TurnLock}
 use Rattle.turn_lock.specs.declared.view.View.{View}
 use Rattle.call_dispatch.specs.Acts.{WorkerState}
 use Rattle.system_objects.specs.declared.book.Kind.{Kind}
 use Rattle.std.specs.List.Sorted.{IsPermutation}
 use Rattle.conn_server.specs.Collects.{Collected, SameReports}
+use Rattle.conn_server.specs.Handed.{AreHanded}
 use Rattle.conn_server.specs.Made.{IsTakenBelow, shown_admitted}
 use Rattle.conn_server.specs.Rows.{EachAt}
 use Rattle.conn_server.specs.Serves.{IsAdmittedLink, IsLinkTask}
@@ -83,7 +85,8 @@ abbrev pub ExpectsAll : {I O T H C : Type 0} → (AdmittedLink I O T H → LinkR
 ExpectsAll {I = I} {O = O} {T = T} {H = H} Talked Made expects c = (k : ℕ) (admitted : AdmittedLink I O T H) (report : LinkReport I O T H) → Made k admitted → Talked admitted report → report.by ≡ k → expects c report
 
 -- Every link was begun with its pass; those that haven't ended are kept, and the reports of the others were handed on, each once; there is room for
--- the reports to come; and the root made these turns of its own.
+-- the reports to come; the root made these turns of its own; and the collector of a host, whose reports don't keep their entries, has the first
+-- events after the opening's.
 pub record IsAccepting {I O T H C : Type 0} (Talked : AdmittedLink I O T H → LinkReport I O T H → Type 0) (Made : ℕ → AdmittedLink I O T H → Type 0) (shown : H → WorkerState)
     (collected : C → Collected (LinkReport I O T H)) (expects : C → LinkReport I O T H → Type 0) (lock : TurnLock) (kinds : List Kind) (a : Acceptor I O T H C) : Type 0 where
   pub own : IsRootOf lock a.root
@@ -95,7 +98,12 @@ pub record IsAccepting {I O T H C : Type 0} (Talked : AdmittedLink I O T H → L
   pub given : IsPermutation (reports_of a.all) (collected a.collector).reports
   pub room : length (collected a.collector).reports + open_all a.all ≤ (collected a.collector).report_limit
   pub expected : ExpectsAll Talked Made expects a.collector
+  pub handed_on : a.keeps ≡ false → AreHanded lock (view_of a.root.pass) (collected a.collector).events a.handed
   pub links : EachAt (IsBegun Talked Made shown lock kinds (view_of a.root.pass)) 1 a.all
+
+-- What begins the history that the root had seen begins what it has seen, and reports keep their entries where they did.
+abbrev pub Follows : {I O T H C : Type 0} → Acceptor I O T H C → Acceptor I O T H C → Type 0
+Follows a b = ((front : Events) → StartsWith (view_of a.root.pass).seen front → StartsWith (view_of b.root.pass).seen front) × (b.keeps ≡ a.keeps)
 
 -- There is more room, and all else is the same.
 pub record IsSame {I O T H C : Type 0} (collected : C → Collected (LinkReport I O T H)) (expects : C → LinkReport I O T H → Type 0) (a b : Acceptor I O T H C) : Type 0 where
@@ -104,6 +112,9 @@ pub record IsSame {I O T H C : Type 0} (collected : C → Collected (LinkReport 
   pub live_are : b.live.items ≡ a.live.items
   pub all : b.all ≡ a.all
   pub ticks : (collected b.collector).ticks ≡ (collected a.collector).ticks
+  pub events : (collected b.collector).events ≡ (collected a.collector).events
+  pub handed_on : b.handed ≡ a.handed
+  pub same_keeps : b.keeps ≡ a.keeps
   pub reports : SameReports collected expects a.collector b.collector
 
 -- The links are the same, and there is no less room for their reports.

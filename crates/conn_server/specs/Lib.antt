@@ -1,4 +1,5 @@
 pub mod Plans
+pub mod LinkForms
 pub mod Talks
 pub mod Serves
 pub mod Rows
@@ -7,6 +8,7 @@ pub mod Made
 pub mod Starts
 pub mod Collects
 pub mod Quiet
+pub mod Handed
 pub mod Accepts
 pub mod Stops
 pub mod Joins

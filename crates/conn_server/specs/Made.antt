@@ -71,6 +71,8 @@ pub record IsMadeFor {I O T H : Type 0} (read_half : I → ReadHalf) (write_half
   pub left_is : (read_half admitted.source).left ≡ (read_half admitted.first.value.source).left
   pub held_is : (write_half admitted.sink).held ≡ (write_half admitted.first.value.sink).held
   pub halves : AreNewHalves (read_half admitted.source) (write_half admitted.sink)
+  pub peer_host : admitted.peer.host ≡ admitted.first.value.host
+  pub peer_port : admitted.peer.port ≡ admitted.first.value.port
   pub terms : (kinds : List Kind) → terms_of kinds admitted.setup ≡ link_terms kinds plan k admitted.first.value.host admitted.first.value.port
   pub tick_asked : admitted.tick.value.ask ≡ Tick
   pub tick_end : IsTickEnd admitted.tick.value.end

@@ -1,10 +1,10 @@
 -- What is told of the links, over the history that was left.
-use Rattle.std.specs.Prelude.{◌≡◌, ◌<◌, ℕ, List, [], ◌∷◌, ◌++◌, length, drop, Contains, Option, Some}
+use Rattle.std.specs.Prelude.{◌≡◌, ◌<◌, ◌^◌, ℕ, List, [], ◌∷◌, ◌++◌, length, drop, Contains, Option, Some}
 use Rattle.wire_io.specs.Links.{Accepted}
 use Rattle.wire_io.specs.Wire.{ReadHalf, WriteHalf, Gave}
 use Rattle.history.specs.Steps.{IsLegal}
 use Rattle.history.specs.declared.asks.Ask.TheVariants.{Tick}
-use Rattle.ports.specs.Balance.{WentAmong}
+use Rattle.ports.specs.Balance.{WentAmong, calls_in}
 use Rattle.space.specs.Built.{SpaceHistory}
 use Rattle.space.specs.EventLists.{CollectsEach}
 use Rattle.space.specs.declared.asked.Asked.{Asked}
@@ -65,10 +65,13 @@ CompletesLink may moves terms start now read_faults write_faults end = read_faul
 -- What is told of a link's own connection, of which the listener and the server's turn before it tell p: it was served on the terms of its
 -- number, the plan and the link, from the link's own first byte on; its clock gave the moment of that turn, a Tick, and then those of the
 -- connection; and its hand is that of its number, began without calls and numbers, and was told what the Tick withdrew, and then of the
--- connection's calls alone.
+-- connection's calls alone. The report has the peer's host and port, as the link was accepted with them, and the number of calls that it began.
 pub record IsLinkOf {I O T H : Type 0} (read_half : I → ReadHalf) (write_half : O → WriteHalf) (given : T → Option (List ℕ)) (shown : H → WorkerState)
     (may : Invocation → Outcome → Type 0) (moves : States → Call → States → Type 0) (kinds : List Kind) (plan : ServePlan) (k : ℕ) (p : Accepted × Asked) (report : LinkReport I O T H) : Type 0 where
   pub by : report.by ≡ k
+  pub peer_host : report.peer_host ≡ p.0.host
+  pub peer_port : report.peer_port ≡ p.0.port
+  pub calls : calls_in report.asked < 2 ^ 64 → report.calls ≡ calls_in report.asked
   pub given_then : Option (List ℕ)
   pub seen_then : Option (List Call)
   pub state_then : Option States

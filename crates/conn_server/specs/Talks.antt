@@ -1,7 +1,7 @@
 -- What a served link's connection is, over its own bytes.
 use Rattle.wire_io.specs.Wire.{ReadHalf, WriteHalf, Rose, first_shut}
-use Rattle.std.specs.Prelude.{◌≡◌, ℕ, List, [], Option}
-use Rattle.ports.specs.Balance.{Balanced}
+use Rattle.std.specs.Prelude.{◌≡◌, ◌<◌, ◌^◌, ℕ, List, [], Option}
+use Rattle.ports.specs.Balance.{Balanced, calls_in}
 use Rattle.call_dispatch.specs.Acts.{WorkerState, Call, States}
 use Rattle.call_dispatch.specs.Invoked.{InvokesEachOnce}
 use Rattle.call_dispatch.specs.Progress.{IsServedFrom}
@@ -52,9 +52,16 @@ pub record LeavesHalves (read read_after : ReadHalf) (write write_after : WriteH
   pub read_shut : read_after.shut ≡ first_shut read.shut read_after.left
   pub write_shut : write_after.shut ≡ first_shut write.shut write_after.held
 
--- The same of a link that was admitted: its connection began where it stands, with its halves as they stand.
+-- The report has the peer of the link, and as many calls as its entries began, where a word of 64 bits holds that number.
+pub record TellsOf {I O T H : Type 0} (admitted : AdmittedLink I O T H) (report : LinkReport I O T H) : Type 0 where
+  pub peer_host : report.peer_host ≡ admitted.peer.host
+  pub peer_port : report.peer_port ≡ admitted.peer.port
+  pub calls : calls_in report.asked < 2 ^ 64 → report.calls ≡ calls_in report.asked
+
+-- What became of a link that was admitted: its connection began where it stands, with its halves as they stand, and the report tells of it.
 abbrev pub TalksOver : {I O T H : Type 0} → (I → ReadHalf) → (O → WriteHalf) → (T → Option (List ℕ)) → (H → WorkerState)
     → (Invocation → Outcome → Type 0) → (States → Call → States → Type 0) → List Kind → AdmittedLink I O T H → LinkReport I O T H → Type 0
 TalksOver read_half write_half given shown may moves kinds admitted report =
     Talks read_half write_half given shown may moves (terms_of kinds admitted.setup) (first_spot (read_half admitted.source).left (write_half admitted.sink).held (given admitted.clock) (shown admitted.hand).seen (shown admitted.hand).state (shown admitted.hand).number) report
     × LeavesHalves (read_half admitted.source) (read_half report.source) (write_half admitted.sink) (write_half report.sink) report.end
+    × TellsOf admitted report

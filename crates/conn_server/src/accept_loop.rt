@@ -14,7 +14,7 @@ use crate::admission::{Acceptor, LostLink};
 use crate::collector::Collector;
 use crate::link_task::LinkReport;
 use crate::shared::Shared;
-use call_dispatch::Crew;
+use call_dispatch::{Crew, Worker};
 use std::sync::Wait;
 use std::thread::{Scope, Threads};
 use wire_io::{Failed, Link, Listener};
@@ -38,13 +38,31 @@ pub enum Stop {
     OutOfMemory,
 }
 
-/// The listener's next link. Where it fails it is asked again, once a link has ended or after a pause: as long as one of those that were begun is served,
-/// whose end gives back a descriptor and memory, and then a few times more.
-fn next_link<'s, R: Wait, L: Listener>(
+/// The listener's next link. Where it fails, threads of links that have ended are joined, and it is asked again, once a link has ended or after a pause:
+/// as long as one of those that were begun is served, whose end gives back a descriptor and memory, and then a few times more.
+fn next_link<
+    's,
+    R: Threads + Wait,
+    L: Listener,
+    H: Worker + Drop,
+    C: Collector<LinkReport<L::In, L::Out, L::Ticks, H>>,
+>(
     shared: &Shared<'s, R>,
     listener: &mut L,
-    begun: usize,
+    acceptor: &mut Acceptor<L::In, L::Out, L::Ticks, H, C>,
 ) -> Result<Link<L::In, L::Out, L::Ticks>, Failed>
+    requires accepting { IsAccepting
+        (TalksOver L.In.half L.Out.half L.Ticks.given H.shown H.may H.moves shared.now.book.now)
+        (IsMadeFor L.In.half L.Out.half L.Ticks.given H.shown H.moves shared.now.plan.now)
+        H.shown C.collected C.expects shared.now.lock.now shared.now.book.now acceptor.old }
+    ensures accepting { IsAccepting
+        (TalksOver L.In.half L.Out.half L.Ticks.given H.shown H.may H.moves shared.now.book.now)
+        (IsMadeFor L.In.half L.Out.half L.Ticks.given H.shown H.moves shared.now.plan.now)
+        H.shown C.collected C.expects shared.now.lock.now shared.now.book.now acceptor.new }
+    ensures ticks { (C.collected acceptor.new.collector).ticks ≡ (C.collected acceptor.old.collector).ticks }
+    ensures links { shown_all L.In.half L.Out.half L.Ticks.given acceptor.new.all
+        ≡ shown_all L.In.half L.Out.half L.Ticks.given acceptor.old.all }
+    ensures begun { acceptor.new.begun ≡ acceptor.old.begun }
     ensures accepts { AcceptsAtLast (accepted_as L.In.half L.Out.half L.Ticks.given)
         (L.listening listener.old) (L.listening listener.new) result }
     ensures halves { IfOk result (λ link. AreNewHalves (L.In.half link.source) (L.Out.half link.sink)) }
@@ -56,7 +74,8 @@ fn next_link<'s, R: Wait, L: Listener>(
         if let Ok(link) = listener.accept() {
             return Ok(link);
         }
-        if seen >= begun as u64 {
+        acceptor.join_ended(shared);
+        if seen >= u64::from(acceptor.begun) {
             idle_tries = idle_tries.saturating_add(1);
         }
         shared.ended.pause(shared.rt, seen);
@@ -101,8 +120,7 @@ where
     ensures ports { (L.listening listener.new).ports ≡ (L.listening listener.old).ports }
 {
     for _ in 0..shared.plan.count {
-        let begun = acceptor.begun as usize;
-        let Ok(link) = next_link(shared, listener, begun) else {
+        let Ok(link) = next_link(shared, listener, acceptor) else {
             return (Stop::AcceptFault, None);
         };
         acceptor.join_ended(shared);

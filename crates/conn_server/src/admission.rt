@@ -1,6 +1,5 @@
 //! Admitting a link: a Tick before it, its hand and its setup, and its start.
 ghost use Rattle.std.specs.Prelude.{◌≡◌, ◌<◌, ◌≤◌, ◌+◌, pos, ◌<ℤ◌, List, [], ◌∷◌, ◌++◌, map, length, vec_len, vec_capacity, ℕ, MatchBool, MatchOption, IfSome, Some, None, IfOk, IfErr, OnErr, option_to_list, Option};
-ghost use Rattle.std.specs.List.{flat_map};
 ghost use Rattle.mod_utf.specs.Utf.{utf};
 ghost use Rattle.wire_io.specs.Links.{accepted_as};
 ghost use Rattle.wire_io.specs.Wire.{AreNewHalves, Gave, ShutsRead, ShutsWrite};
@@ -14,8 +13,8 @@ ghost use Rattle.system_objects.specs.declared.book.Kind.{Kind};
 ghost use Rattle.system_objects.specs.declared.setup.TheConstants.{DRAWS_BEGIN_BELOW};
 ghost use Rattle.turn_lock.specs.Handles.{IsRootOf, view_of};
 ghost use Rattle.turn_lock.specs.PassPorts.{PassWent};
-ghost use Rattle.conn_server.specs.Accepts.{HasRoom, HasSameLinks, IsAccepting, IsNext, IsSame, TicksOn, shown_all, links_of, ticks_of};
-ghost use Rattle.conn_server.specs.Collects.{SameReports};
+ghost use Rattle.conn_server.specs.Accepts.{Follows, HasRoom, HasSameLinks, IsAccepting, IsNext, IsSame, TicksOn, shown_all, links_of, ticks_of};
+ghost use Rattle.conn_server.specs.Collects.{Keeps, SameReports};
 ghost use Rattle.call_dispatch.specs.Hands.{IsUntold, IsUncounted};
 ghost use Rattle.conn_server.specs.Made.{gone_with, told_of, shown_admitted, IsMadeFor, IsHandFor, IsTakenBelow, IsTickEnd};
 ghost use Rattle.conn_server.specs.Plans.{link_terms};
@@ -24,7 +23,7 @@ ghost use Rattle.conn_server.specs.Talks.{TalksOver};
 ghost use Rattle.conn_server.specs.declared.plan.TheConstants.{LAST_NUMBER};
 
 use crate::collector::Collector;
-use crate::link_task::{AdmittedLink, LinkReport, LinkTask};
+use crate::link_task::{AdmittedLink, LinkReport, LinkTask, Peer};
 use crate::link_thread::{StartedLink, start};
 use crate::plan::{ServePlan, setup_for};
 use crate::shared::Shared;
@@ -50,8 +49,21 @@ pub struct Acceptor<I: Source, O: Sink, T: Clock, H: Worker, C> {
     pub live: Vec<StartedLink<I, O, T, H>>,
     /// All that were begun, in that order. It exists in proofs alone.
     pub all: Past<StartedLink<I, O, T, H>>,
-    /// Takes the reports of links, and the entries of the root's own turns.
+    /// Takes the reports of links, the entries of the root's own turns, and events.
     pub collector: C,
+    /// True where the reports of links have the entries of their turns at run time, too. A host's have them in proofs alone.
+    pub keeps: bool,
+    /// The place of the next event of the history that the collector is to be given. None where it is given none.
+    pub handed: Option<u64>,
+}
+
+/// Which entries and events a server keeps or hands on.
+#[derive(Clone, Copy)]
+pub struct Keeping {
+    /// True where the reports of links have the entries of their turns at run time, too.
+    pub entries: bool,
+    /// The place of the first event of the history that the collector is to be given. None where it is given none.
+    pub handed: Option<u64>,
 }
 
 /// A link that was accepted and isn't served, since there was no memory for it: its halves, which are shut, and its clock.
@@ -79,7 +91,7 @@ fn has_room<X>(items: &mut Vec<X>, more: usize) -> bool
 }
 
 /// Tells a hand what an answer tells as withdrawn.
-fn tell_answer<H: Worker>(hand: &mut H, answer: &Result<Turn, Refused>)
+pub(crate) fn tell_answer<H: Worker>(hand: &mut H, answer: &Result<Turn, Refused>)
     ensures seen { TellsMore (H.shown hand.old).seen (map unreferenced (gone_with (end_of answer.now))) (H.shown hand.new).seen }
     ensures state { LeadsStates H.moves (H.shown hand.old).state (map unreferenced (gone_with (end_of answer.now))) (H.shown hand.new).state }
     ensures calls { (H.shown hand.new).calls ≡ (H.shown hand.old).calls }
@@ -92,7 +104,7 @@ fn tell_answer<H: Worker>(hand: &mut H, answer: &Result<Turn, Refused>)
 }
 
 /// The entry of a Tick that was made at this moment and answered so: none where there was no memory for the Tick.
-fn tick_entry(moment: u64, answer: Result<Turn, Refused>) -> Option<Asked>
+pub(crate) fn tick_entry(moment: u64, answer: Result<Turn, Refused>) -> Option<Asked>
     ensures { option_to_list result ≡ entries_of moment Tick answer }
 {
     match answer {
@@ -112,7 +124,7 @@ fn tick_entry(moment: u64, answer: Result<Turn, Refused>) -> Option<Asked>
 
 /// Makes a Tick at the clock's moment, as connection 0, and tells the hand what is gone. Its entry is answered: none where there was no
 /// memory for it.
-pub(crate) fn tick<'s, R: Wait, T: Clock, H: Worker>(
+fn tick<'s, R: Wait, T: Clock, H: Worker>(
     shared: &Shared<'s, R>,
     root: &mut Root,
     clock: &mut T,
@@ -127,14 +139,8 @@ pub(crate) fn tick<'s, R: Wait, T: Clock, H: Worker>(
     ensures place { IfSome result (λ entry. IsTakenBelow (length (view_of root.new.pass).seen) entry.end) }
     ensures given { IfSome result (λ entry. Gave (T.given clock.old) (T.given clock.new) (entry.moment ∷ [])) }
     ensures moment { (moment : ℕ) × Gave (T.given clock.old) (T.given clock.new) (moment ∷ []) }
-    ensures once { (moment : ℕ) × Gave (T.given clock.old) (T.given clock.new) (moment ∷ [])
-        × IfSome result (λ entry. entry.moment ≡ moment) }
     ensures seen { IfSome result (λ entry. TellsMore (H.shown hand.old).seen (told_of entry) (H.shown hand.new).seen) }
     ensures state { IfSome result (λ entry. LeadsStates H.moves (H.shown hand.old).state (told_of entry) (H.shown hand.new).state) }
-    ensures all_seen { TellsMore (H.shown hand.old).seen
-        (flat_map told_of (option_to_list result)) (H.shown hand.new).seen }
-    ensures all_state { LeadsStates H.moves (H.shown hand.old).state
-        (flat_map told_of (option_to_list result)) (H.shown hand.new).state }
     ensures calls { (H.shown hand.new).calls ≡ (H.shown hand.old).calls }
     ensures number { (H.shown hand.new).number ≡ (H.shown hand.old).number }
 {
@@ -181,9 +187,11 @@ pub(crate) fn hand_entry<R, C: Collector<R>>(
     entry: Option<Asked>,
 ) -> Option<Snapshot<Asked>>
     requires { length (C.collected collector.old).ticks < (C.collected collector.old).tick_limit }
+    ensures keeps { Keeps C.holds C.stays collector.old collector.new }
     ensures items { (C.collected collector.new).ticks
         ≡ (C.collected collector.old).ticks ++ option_to_list entry }
     ensures reports { SameReports C.collected C.expects collector.old collector.new }
+    ensures events { (C.collected collector.new).events ≡ (C.collected collector.old).events }
     ensures known { MatchOption result (entry ≡ None) (λ known. entry ≡ Some known.value) }
 {
     match entry {
@@ -238,12 +246,14 @@ impl<I: Source, O: Sink, T: Clock, H: Worker, C: Collector<LinkReport<I, O, T, H
     C,
 > {
     /// It has admitted no link yet.
-    pub fn new(alloc: Global, root: Root, collector: C) -> Acceptor<I, O, T, H, C>
+    pub fn new(alloc: Global, root: Root, collector: C, keeping: Keeping) -> Acceptor<I, O, T, H, C>
         ensures root { result.root ≡ root }
         ensures begun { result.begun ≡ 0 }
         ensures live { result.live.items ≡ [] }
         ensures all { result.all ≡ [] }
         ensures collector { result.collector ≡ collector }
+        ensures keeps { result.keeps ≡ keeping.entries }
+        ensures handed { result.handed ≡ keeping.handed }
     {
         Acceptor {
             root,
@@ -251,11 +261,14 @@ impl<I: Source, O: Sink, T: Clock, H: Worker, C: Collector<LinkReport<I, O, T, H
             live: Vec::new(alloc),
             all: Past::new(),
             collector,
+            keeps: keeping.entries,
+            handed: keeping.handed,
         }
     }
 
     /// Takes room for one more link, and says whether there was memory.
     fn with_room(&mut self) -> bool
+        ensures keeps { Keeps C.holds C.stays self.old.collector self.new.collector }
         ensures same { IsSame C.collected C.expects self.old self.new }
         ensures room { MatchBool result (HasRoom C.collected self.new) (Unit {0}) }
     {
@@ -276,7 +289,9 @@ impl<I: Source, O: Sink, T: Clock, H: Worker, C: Collector<LinkReport<I, O, T, H
         requires accepting { IsAccepting (TalksOver I.half O.half T.given H.shown H.may H.moves shared.now.book.now) (IsMadeFor I.half O.half T.given H.shown H.moves shared.now.plan.now) H.shown C.collected C.expects shared.now.lock.now shared.now.book.now self.old }
         requires room { length (C.collected self.old.collector).ticks
             < (C.collected self.old.collector).tick_limit }
+        ensures keeps { Keeps C.holds C.stays self.old.collector self.new.collector }
         ensures accepting { IsAccepting (TalksOver I.half O.half T.given H.shown H.may H.moves shared.now.book.now) (IsMadeFor I.half O.half T.given H.shown H.moves shared.now.plan.now) H.shown C.collected C.expects shared.now.lock.now shared.now.book.now self.new }
+        ensures follows { Follows self.old self.new }
         ensures links { HasSameLinks C.collected self.old self.new }
         ensures ticks { MatchOption result
             ((C.collected self.new.collector).ticks ≡ (C.collected self.old.collector).ticks)
@@ -313,6 +328,7 @@ impl<
     ) -> Option<HandAndSetup<H>>
         requires host { length (utf shared.now.plan.now.host) ≤ MAX_HOST_BYTES }
         requires few { self.old.begun < LAST_NUMBER }
+        ensures keeps { Keeps C.holds C.stays self.old.collector self.new.collector }
         ensures same { IsSame C.collected C.expects self.old self.new }
         ensures room { IfSome result (λ r. HasRoom C.collected self.new) }
         ensures ready { IfSome result (λ r. IsHandFor H.shown shared.now.plan.now (self.old.begun + 1) link.now.host link.now.port r) }
@@ -339,7 +355,9 @@ impl<
         requires room { HasRoom C.collected self.old }
         requires halves { AreNewHalves (I.half link.source) (O.half link.sink) }
         requires ready { IsHandFor H.shown shared.now.plan.now (self.old.begun + 1) link.host link.port ready }
+        ensures keeps { Keeps C.holds C.stays self.old.collector self.new.collector }
         ensures accepting { IsAccepting (TalksOver I.half O.half T.given H.shown H.may H.moves shared.now.book.now) (IsMadeFor I.half O.half T.given H.shown H.moves shared.now.plan.now) H.shown C.collected C.expects shared.now.lock.now shared.now.book.now self.new }
+        ensures follows { Follows self.old self.new }
         ensures links { HasSameLinks C.collected self.old self.new }
         ensures ticks { IfOk result (λ admitted. (C.collected self.new.collector).ticks
             ≡ (C.collected self.old.collector).ticks ++ admitted.tick.value ∷ []) }
@@ -354,9 +372,10 @@ impl<
             source,
             sink,
             mut clock,
-            host: _host,
-            port: _port,
+            host,
+            port,
         } = link;
+        let peer = Peer { host, port };
         let HandAndSetup { mut hand, setup } = ready;
         let entry = self.with_tick(shared, &mut clock, &mut hand);
         let Some(tick) = entry else {
@@ -366,6 +385,7 @@ impl<
             source,
             sink,
             clock,
+            peer,
             setup,
             hand,
             first,
@@ -386,7 +406,9 @@ impl<
         T: Send + 's,
         H: Send + 's,
         requires { IsNext (TalksOver I.half O.half T.given H.shown H.may H.moves shared.now.book.now) (IsMadeFor I.half O.half T.given H.shown H.moves shared.now.plan.now) H.shown C.collected C.expects shared.now.lock.now shared.now.book.now self.old admitted }
+        ensures keeps { Keeps C.holds C.stays self.old.collector self.new.collector }
         ensures accepting { IsAccepting (TalksOver I.half O.half T.given H.shown H.may H.moves shared.now.book.now) (IsMadeFor I.half O.half T.given H.shown H.moves shared.now.plan.now) H.shown C.collected C.expects shared.now.lock.now shared.now.book.now self.new }
+        ensures follows { Follows self.old self.new }
         ensures ticks { (C.collected self.new.collector).ticks ≡ (C.collected self.old.collector).ticks }
         ensures links { shown_all I.half O.half T.given self.new.all
             ≡ shown_all I.half O.half T.given self.old.all ++ shown_admitted I.half O.half T.given admitted ∷ [] }
@@ -396,7 +418,13 @@ impl<
         let Ok(pass) = self.root.split(shared.lock) else {
             unreachable!()
         };
-        let task = LinkTask { by, pass, admitted };
+        let task = LinkTask {
+            by,
+            pass,
+            keeps: self.keeps,
+            admitted,
+        };
+        self.collector.began(by);
         let begun = start(scope, shared, task);
         self.begun = by;
         self.all.push(&begun);
@@ -420,7 +448,9 @@ impl<
         requires accepting { IsAccepting (TalksOver I.half O.half T.given H.shown H.may H.moves shared.now.book.now) (IsMadeFor I.half O.half T.given H.shown H.moves shared.now.plan.now) H.shown C.collected C.expects shared.now.lock.now shared.now.book.now self.old }
         requires few { self.old.begun < LAST_NUMBER }
         requires halves { AreNewHalves (I.half link.source) (O.half link.sink) }
+        ensures keeps { Keeps C.holds C.stays self.old.collector self.new.collector }
         ensures accepting { IsAccepting (TalksOver I.half O.half T.given H.shown H.may H.moves shared.now.book.now) (IsMadeFor I.half O.half T.given H.shown H.moves shared.now.plan.now) H.shown C.collected C.expects shared.now.lock.now shared.now.book.now self.new }
+        ensures follows { Follows self.old self.new }
         ensures tied { MatchOption result
             (TicksOn (C.collected self.old.collector).ticks (C.collected self.new.collector).ticks
             (ticks_of (shown_all I.half O.half T.given self.old.all))

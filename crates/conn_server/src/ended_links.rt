@@ -36,10 +36,14 @@ impl EndedLinks {
         let _ = numbers.push(by);
     }
 
-    /// Takes the number of a link that has ended, if there is one.
+    /// Takes the number of the link that ended first of those noted, if there is one.
     pub fn next<R: Wait>(&self, rt: &R) -> Option<u32> {
         let mut numbers = self.numbers.lock(rt);
-        numbers.pop()
+        if numbers.is_empty() {
+            None
+        } else {
+            Some(numbers.remove(0))
+        }
     }
 
     /// Returns the number of links that have ended.

@@ -1,11 +1,12 @@
 //! Accepting links until the listener is told to stop.
-ghost use Rattle.std.specs.Prelude.{◌≡◌, ◌≤◌, ◌<◌, ℕ, List, [], length, Option, None, Ok};
+ghost use Rattle.std.specs.Prelude.{◌≡◌, ◌≤◌, ◌<◌, ℕ, List, [], length, Option, None, Ok, false};
 ghost use Rattle.mod_utf.specs.Utf.{utf};
 ghost use Rattle.wire_io.specs.Links.{Listening, Waits, IfCame, accepted_as};
 ghost use Rattle.wire_io.specs.Wire.{AreNewHalves};
 ghost use Rattle.wire_io.specs.declared.limits.TheConstants.{MAX_HOST_BYTES};
 ghost use Rattle.wire_io.specs.declared.source.Failed.{Failed};
 ghost use Rattle.conn_server.specs.Accepts.{IsAccepting};
+ghost use Rattle.conn_server.specs.Collects.{Keeps};
 ghost use Rattle.conn_server.specs.Hosts.{GoesOn, IsHalted, IsHosting};
 ghost use Rattle.conn_server.specs.Made.{IsMadeFor};
 ghost use Rattle.conn_server.specs.Talks.{TalksOver};
@@ -16,6 +17,7 @@ use crate::admission::{Acceptor, LostLink};
 use crate::collector::Collector;
 use crate::link_task::LinkReport;
 use crate::plan::ServePlan;
+use crate::quiet_second::OwnHand;
 use crate::shared::Shared;
 use call_dispatch::{Crew, Worker};
 use std::sync::Wait;
@@ -39,8 +41,8 @@ pub struct Halt<I, O, T> {
 #[derive(Drop)]
 pub struct Host<I: Source, O: Sink, T: Clock, H: Worker, C> {
     pub acceptor: Acceptor<I, O, T, H, C>,
-    /// The hand of number 0, once there was a quiet second and memory for it.
-    pub hand: Option<H>,
+    /// The hand of number 0, which quiet seconds have.
+    pub own: OwnHand<H>,
     /// The number of times that the listener failed without a live link since it last answered.
     pub idle_tries: u32,
 }
@@ -62,7 +64,7 @@ impl<
     /// Notes that the listener failed, and says whether it is given up.
     fn gives_up(&mut self) -> bool
         ensures acceptor { self.new.acceptor ≡ self.old.acceptor }
-        ensures hand { self.new.hand ≡ self.old.hand }
+        ensures own { self.new.own ≡ self.old.own }
     {
         if self.acceptor.live.is_empty() {
             self.idle_tries = self.idle_tries.saturating_add(1);
@@ -92,17 +94,18 @@ impl<
         requires few { self.old.acceptor.begun < shared.now.plan.now.count }
         requires numbered { self.old.acceptor.begun < LAST_NUMBER }
         requires halves { IfCame waited (λ link. AreNewHalves (I.half link.source) (O.half link.sink)) }
+        ensures keeps { Keeps C.holds C.stays self.old.acceptor.collector self.new.acceptor.collector }
         ensures goes_on { (l0 l1 l2 : Listening) (gave_first : Option (List ℕ))
             → IsHosting I.half O.half T.given H.shown H.may H.moves C.collected C.expects
             shared.now.lock.now shared.now.book.now shared.now.plan.now
-            l0 l1 gave_first (Q.given ticks.old) self.old.acceptor self.old.hand
+            l0 l1 gave_first (Q.given ticks.old) self.old.acceptor self.old.own
             → Waits {E = Failed} (accepted_as I.half O.half T.given) l1 l2 (Ok waited) → l2.ports ≡ l1.ports
             → GoesOn I.half O.half T.given H.shown H.may H.moves C.collected C.expects
             shared.now.lock.now shared.now.book.now shared.now.plan.now
-            l0 l2 gave_first (Q.given ticks.new) self.new.acceptor self.new.hand result }
+            l0 l2 gave_first (Q.given ticks.new) self.new.acceptor self.new.own result }
     {
         self.idle_tries = 0;
-        self.acceptor.join_ended(shared);
+        self.acceptor.catch_up(shared);
         match waited {
             Waited::Came(link) => match self.acceptor.admit(scope, shared, crew, link) {
                 Some(lost) => Some(Halt {
@@ -112,9 +115,8 @@ impl<
                 None => None,
             },
             Waited::Quiet => {
-                let mut hand = self.hand.take();
-                self.acceptor.tick_quietly(shared, crew, ticks, &mut hand);
-                self.hand = hand;
+                self.acceptor
+                    .tick_quietly(shared, crew, ticks, &mut self.own);
                 None
             }
             Waited::Told => Some(Halt {
@@ -150,13 +152,14 @@ impl<
             (TalksOver I.half O.half T.given H.shown H.may H.moves shared.now.book.now)
             (IsMadeFor I.half O.half T.given H.shown H.moves shared.now.plan.now)
             H.shown C.collected C.expects shared.now.lock.now shared.now.book.now self.old.acceptor }
+        ensures keeps { Keeps C.holds C.stays self.old.acceptor.collector self.new.acceptor.collector }
         ensures goes_on { (l0 : Listening) (gave_first : Option (List ℕ))
             → IsHosting I.half O.half T.given H.shown H.may H.moves C.collected C.expects
             shared.now.lock.now shared.now.book.now shared.now.plan.now
-            l0 (L.listening listener.old) gave_first (Q.given ticks.old) self.old.acceptor self.old.hand
+            l0 (L.listening listener.old) gave_first (Q.given ticks.old) self.old.acceptor self.old.own
             → GoesOn I.half O.half T.given H.shown H.may H.moves C.collected C.expects
             shared.now.lock.now shared.now.book.now shared.now.plan.now
-            l0 (L.listening listener.new) gave_first (Q.given ticks.new) self.new.acceptor self.new.hand result }
+            l0 (L.listening listener.new) gave_first (Q.given ticks.new) self.new.acceptor self.new.own result }
     {
         if self.acceptor.begun >= count_of(shared.plan) {
             return Some(Halt {
@@ -167,13 +170,13 @@ impl<
         let seen = shared.ended.count();
         if self.acceptor.live.len() >= MAX_LIVE {
             shared.ended.pause(shared.rt, seen);
-            self.acceptor.join_ended(shared);
+            self.acceptor.catch_up(shared);
             return None;
         }
         match listener.wait() {
             Ok(waited) => self.take_waited(scope, shared, crew, ticks, waited),
             Err(_failed) => {
-                self.acceptor.join_ended(shared);
+                self.acceptor.catch_up(shared);
                 if self.gives_up() {
                     return Some(Halt {
                         stop: Stop::AcceptFault,
@@ -214,11 +217,13 @@ impl<
             H.shown C.collected C.expects shared.now.lock.now shared.now.book.now self.old.acceptor }
         requires fresh { (self.old.acceptor.all ≡ [])
             × ((C.collected self.old.acceptor.collector).ticks ≡ []) }
-        requires handless { self.old.hand ≡ None }
+        requires handless { self.old.own.hand ≡ None }
+        requires hosts { self.old.acceptor.keeps ≡ false }
+        ensures keeps { Keeps C.holds C.stays self.old.acceptor.collector self.new.acceptor.collector }
         ensures halted { IsHalted I.half O.half T.given H.shown H.may H.moves C.collected C.expects
             shared.now.lock.now shared.now.book.now shared.now.plan.now
             (L.listening listener.old) (L.listening listener.new) (Q.given ticks.old) (Q.given ticks.new)
-            self.new.acceptor self.new.hand result }
+            self.new.acceptor self.new.own result }
     {
         for _ in shared.rt.forever() {
             match self.step(scope, shared, crew, listener, ticks) {

@@ -1,6 +1,7 @@
 //! Joining the threads of links that have ended.
 ghost use Rattle.std.specs.Prelude.{◌≡◌, ◌+◌, ◌<◌, List, [], length, vec_len, IfSome};
-ghost use Rattle.conn_server.specs.Accepts.{IsAccepting, shown_all};
+ghost use Rattle.conn_server.specs.Accepts.{Follows, IsAccepting, shown_all};
+ghost use Rattle.conn_server.specs.Collects.{Keeps};
 ghost use Rattle.conn_server.specs.Made.{IsMadeFor};
 ghost use Rattle.conn_server.specs.Talks.{TalksOver};
 
@@ -45,10 +46,12 @@ impl<
             (IsMadeFor I.half O.half T.given H.shown H.moves shared.now.plan.now)
             H.shown C.collected C.expects shared.now.lock.now shared.now.book.now self.old }
         requires there { place < vec_len self.old.live }
+        ensures keeps { Keeps C.holds C.stays self.old.collector self.new.collector }
         ensures accepting { IsAccepting
             (TalksOver I.half O.half T.given H.shown H.may H.moves shared.now.book.now)
             (IsMadeFor I.half O.half T.given H.shown H.moves shared.now.plan.now)
             H.shown C.collected C.expects shared.now.lock.now shared.now.book.now self.new }
+        ensures follows { Follows self.old self.new }
         ensures ticks { (C.collected self.new.collector).ticks ≡ (C.collected self.old.collector).ticks }
         ensures links { shown_all I.half O.half T.given self.new.all
             ≡ shown_all I.half O.half T.given self.old.all }
@@ -76,10 +79,12 @@ impl<
             (TalksOver I.half O.half T.given H.shown H.may H.moves shared.now.book.now)
             (IsMadeFor I.half O.half T.given H.shown H.moves shared.now.plan.now)
             H.shown C.collected C.expects shared.now.lock.now shared.now.book.now self.old }
+        ensures keeps { Keeps C.holds C.stays self.old.collector self.new.collector }
         ensures accepting { IsAccepting
             (TalksOver I.half O.half T.given H.shown H.may H.moves shared.now.book.now)
             (IsMadeFor I.half O.half T.given H.shown H.moves shared.now.plan.now)
             H.shown C.collected C.expects shared.now.lock.now shared.now.book.now self.new }
+        ensures follows { Follows self.old self.new }
         ensures ticks { (C.collected self.new.collector).ticks ≡ (C.collected self.old.collector).ticks }
         ensures links { shown_all I.half O.half T.given self.new.all
             ≡ shown_all I.half O.half T.given self.old.all }
@@ -97,10 +102,12 @@ impl<
             (TalksOver I.half O.half T.given H.shown H.may H.moves shared.now.book.now)
             (IsMadeFor I.half O.half T.given H.shown H.moves shared.now.plan.now)
             H.shown C.collected C.expects shared.now.lock.now shared.now.book.now self.old }
+        ensures keeps { Keeps C.holds C.stays self.old.collector self.new.collector }
         ensures accepting { IsAccepting
             (TalksOver I.half O.half T.given H.shown H.may H.moves shared.now.book.now)
             (IsMadeFor I.half O.half T.given H.shown H.moves shared.now.plan.now)
             H.shown C.collected C.expects shared.now.lock.now shared.now.book.now self.new }
+        ensures follows { Follows self.old self.new }
         ensures ticks { (C.collected self.new.collector).ticks ≡ (C.collected self.old.collector).ticks }
         ensures links { shown_all I.half O.half T.given self.new.all
             ≡ shown_all I.half O.half T.given self.old.all }
@@ -120,11 +127,13 @@ impl<
             (TalksOver I.half O.half T.given H.shown H.may H.moves shared.now.book.now)
             (IsMadeFor I.half O.half T.given H.shown H.moves shared.now.plan.now)
             H.shown C.collected C.expects shared.now.lock.now shared.now.book.now self.old }
+        ensures keeps { Keeps C.holds C.stays self.old.collector self.new.collector }
         ensures accepting { IsAccepting
             (TalksOver I.half O.half T.given H.shown H.may H.moves shared.now.book.now)
             (IsMadeFor I.half O.half T.given H.shown H.moves shared.now.plan.now)
             H.shown C.collected C.expects shared.now.lock.now shared.now.book.now self.new }
         ensures none { vec_len self.new.live ≡ 0 }
+        ensures follows { Follows self.old self.new }
         ensures ticks { (C.collected self.new.collector).ticks ≡ (C.collected self.old.collector).ticks }
         ensures links { shown_all I.half O.half T.given self.new.all
             ≡ shown_all I.half O.half T.given self.old.all }

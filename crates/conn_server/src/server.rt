@@ -1,22 +1,26 @@
 //! The server.
-ghost use Rattle.std.specs.Prelude.{◌≡◌, ◌≤◌, ◌⊎◌, List, ◌++◌, length};
+ghost use Rattle.std.specs.Prelude.{◌≡◌, ◌≤◌, ◌⊎◌, List, [], ◌++◌, length, IfSome, true, false};
 ghost use Rattle.mod_utf.specs.Utf.{utf};
 ghost use Rattle.wire_io.specs.Wire.{Rose};
 ghost use Rattle.wire_io.specs.declared.limits.TheConstants.{MAX_HOST_BYTES};
-ghost use Rattle.turn_lock.specs.Handles.{IsFresh, opening_of};
-ghost use Rattle.conn_server.specs.Collects.{IsEmpty, ExpectsLinks};
+ghost use Rattle.turn_lock.specs.Handles.{IsFresh, IsRootOf, opening_of, view_of};
+ghost use Rattle.turn_lock.specs.Rule.{Settled, StartsWith};
+ghost use Rattle.conn_server.specs.Collects.{IsEmpty, ExpectsLinks, Keeps, SameReports};
+ghost use Rattle.conn_server.specs.Handed.{AreHanded};
 ghost use Rattle.conn_server.specs.Hosts.{HostsLinks, IsHosted};
 ghost use Rattle.conn_server.specs.Reports.{GivesReports, IsLinkOf, IsServed, ServesLinks};
 ghost use Rattle.conn_server.specs.Stops.{IsLostLink};
 ghost use Rattle.conn_server.specs.declared.plan.TheConstants.{MAX_LINKS};
 
 use crate::accept_loop::{Stop, accept_links};
-use crate::admission::{Acceptor, LostLink};
+use crate::admission::{Acceptor, Keeping, LostLink};
 use crate::collector::{Collector, KeepsReports};
 use crate::ended_links::EndedLinks;
+use crate::handing::{close_recorded, first_place};
 use crate::host_loop::{Halt, Host};
 use crate::link_task::LinkReport;
 use crate::plan::ServePlan;
+use crate::quiet_second::OwnHand;
 use crate::shared::Shared;
 use call_dispatch::{Book, Crew};
 use sequence::Sequence;
@@ -61,7 +65,9 @@ pub struct HostJoined<I, O, T, C, H> {
     pub collector: C,
     pub stop: Stop,
     pub lost: Option<LostLink<I, O, T>>,
-    pub hand: Option<H>,
+    pub own: OwnHand<H>,
+    /// The place of the next event that the collector is to be given.
+    pub handed: Option<u64>,
 }
 
 /// The outcome of serving links until the listener was told to stop, or for another cause.
@@ -76,8 +82,13 @@ pub struct Hosted<I, O, T, C, H> {
     pub lost: Option<LostLink<I, O, T>>,
     /// The space that the lock was round.
     pub space: Space,
+    /// True where the collector was given all events of the space after the opening's. False means that there was no memory to hand them on, or that the host
+    /// or its lock doesn't record.
+    pub whole: bool,
     /// The hand of number 0, which was told what the Ticks of seconds without a link withdrew, where there was one.
     pub hand: Option<H>,
+    /// True where there was no memory, in a second without a link, for that hand, for the entry of a Tick or for a Tick that was due.
+    pub tick_missed: bool,
 }
 
 /// A report of the links that a server served.
@@ -100,16 +111,28 @@ pub struct Report<I, O, T, H> {
 pub struct Begin<C> {
     /// The root of the server's lock.
     pub root: Root,
-    /// The collector of the reports, which was given nothing yet.
+    /// The collector of the reports, which was given no report and no entry yet.
     pub collector: C,
 }
 
-/// The root, the collector and the crew with which a host begins.
+/// The root and the collector with which a host begins, and whether it hands events on.
 #[derive(Drop)]
-struct HostBegin<'c, C, G> {
+pub struct HostBegin<C> {
+    /// The root of the server's lock.
+    pub root: Root,
+    /// The collector of the reports and the events, which was given nothing yet.
+    pub collector: C,
+    /// True where the collector is given the events of the space, as they are made. The lock has to be one that records (`TurnLock::recording`).
+    pub record: bool,
+}
+
+/// The root, the collector and the crew with which a host begins, and the number of events of the opening, where it hands further events on.
+#[derive(Drop)]
+struct HostStart<'c, C, G> {
     root: Root,
     collector: C,
     crew: &'c G,
+    handed: Option<u64>,
 }
 
 /// A server: what it runs on, who does the calls of its clients, and which objects they may call.
@@ -164,7 +187,11 @@ where
     ensures ports { (L.listening listener.new).ports ≡ (L.listening listener.old).ports }
 {
     let Begin { root, collector } = begin;
-    let mut acceptor = Acceptor::new(shared.alloc, root, collector);
+    let keeping = Keeping {
+        entries: true,
+        handed: None,
+    };
+    let mut acceptor = Acceptor::new(shared.alloc, root, collector, keeping);
     let (stop, lost) = accept_links(scope, shared, listener, crew, &mut acceptor);
     acceptor.join_all(shared);
     let Acceptor {
@@ -173,6 +200,8 @@ where
         live: _live,
         all: _all,
         collector,
+        keeps: _keeps,
+        handed: _handed,
     } = acceptor;
     AllJoined {
         root,
@@ -197,7 +226,7 @@ fn host_within<
     shared: &Shared<'s, R>,
     listener: &mut L,
     ticks: &mut Q,
-    begin: HostBegin<'c, C, G>,
+    begin: HostStart<'c, C, G>,
 ) -> HostJoined<L::In, L::Out, L::Ticks, C, G::Hand>
 where
     L::In: 's,
@@ -211,6 +240,9 @@ where
         (IsLinkOf L.In.half L.Out.half L.Ticks.given G.Hand.shown G.Hand.may G.Hand.moves
         shared.now.book.now shared.now.plan.now)
         C.expects begin.collector }
+    requires no_event { (C.collected begin.collector).events ≡ [] }
+    requires handed { IfSome begin.handed (λ n. n ≡ length (opening_of shared.now.lock.now).events) }
+    ensures keeps { Keeps C.holds C.stays begin.entry.collector result.collector }
     ensures hosted { IsHosted
         (IsLinkOf L.In.half L.Out.half L.Ticks.given G.Hand.shown G.Hand.may G.Hand.moves
         shared.now.book.now shared.now.plan.now)
@@ -222,22 +254,27 @@ where
     ensures faults { (L.listening listener.old).faults ≤ (L.listening listener.new).faults }
     ensures ports { (L.listening listener.new).ports ≡ (L.listening listener.old).ports }
 {
-    let HostBegin {
+    let HostStart {
         root,
         collector,
         crew,
+        handed,
     } = begin;
-    let first = Acceptor::new(shared.alloc, root, collector);
+    let keeping = Keeping {
+        entries: false,
+        handed,
+    };
+    let first = Acceptor::new(shared.alloc, root, collector, keeping);
     let mut host = Host {
         acceptor: first,
-        hand: None,
+        own: OwnHand::new(),
         idle_tries: 0,
     };
     let Halt { stop, lost } = host.run(scope, shared, crew, listener, ticks);
-    host.acceptor.join_all(shared);
+    host.acceptor.end_all(shared);
     let Host {
         acceptor,
-        hand,
+        own,
         idle_tries: _idle_tries,
     } = host;
     let Acceptor {
@@ -246,13 +283,61 @@ where
         live: _live,
         all: _all,
         collector,
+        keeps: _keeps,
+        handed,
     } = acceptor;
     HostJoined {
         root,
         collector,
         stop,
         lost,
+        own,
+        handed,
+    }
+}
+
+/// Closes the lock of a host whose threads were joined, hands the last events on, and gives the host's outcome.
+fn close_host<I, O, T, H, C: Collector<LinkReport<I, O, T, H>>>(
+    lock: TurnLock,
+    joined: HostJoined<I, O, T, C, H>,
+    records: bool,
+) -> Hosted<I, O, T, C, H>
+    requires own { IsRootOf lock joined.root }
+    requires all { joined.root.out ≡ 0 }
+    requires handed { AreHanded lock (view_of joined.root.pass)
+        (C.collected joined.collector).events joined.handed }
+    ensures keeps { Keeps C.holds C.stays joined.collector result.collector }
+    ensures settled { Settled (opening_of lock) (view_of joined.root.pass) result.space }
+    ensures handed { StartsWith result.space.events
+        ((opening_of lock).events ++ (C.collected result.collector).events) }
+    ensures whole { result.whole ≡ true → result.space.events
+        ≡ (opening_of lock).events ++ (C.collected result.collector).events }
+    ensures unrecorded { records ≡ false → result.whole ≡ false }
+    ensures ticks { (C.collected result.collector).ticks ≡ (C.collected joined.collector).ticks }
+    ensures reports { SameReports C.collected C.expects joined.collector result.collector }
+    ensures stop { result.stop ≡ joined.stop }
+    ensures lost { result.lost ≡ joined.lost }
+    ensures hand { result.hand ≡ joined.own.hand }
+    ensures missed { result.tick_missed ≡ joined.own.missed }
+{
+    let HostJoined {
+        root,
+        mut collector,
+        stop,
+        lost,
+        own,
+        handed,
+    } = joined;
+    let (space, whole) = close_recorded(lock, root, &mut collector, handed);
+    let OwnHand { hand, missed } = own;
+    Hosted {
+        collector,
+        stop,
+        lost,
+        space,
+        whole: records && whole,
         hand,
+        tick_missed: missed,
     }
 }
 
@@ -411,32 +496,43 @@ impl<'s, R: Threads + Wait + Sync, G: Crew> Server<'s, R, G> {
     /// Serves links until the listener is told to stop, each as [`Server::serve`] does, and hands the report of each to a collector as the link has
     /// ended. Links in all are at most the plan's count, and 8,192 are live at once: before another is accepted, one of them ends.
     ///
-    /// In each second without a link, threads of links that have ended are joined, and a Tick is made as connection 0 at a moment of `ticks`. The
-    /// hand of number 0 is told of each object that it withdraws; it is made in the first such second in which there is memory for it. A second in
-    /// which there is no memory for that hand or for the Tick passes without one.
+    /// In each second without a link, threads of links that have ended are joined. Where a lease or a wait for an acknowledgement has ended at a
+    /// moment of `ticks`, a Tick is made as connection 0. The hand of number 0 is told of each object that it withdraws; it is made in the first such
+    /// second in which there is memory for it. A second in which there is no memory for that hand or for the Tick passes without one, and the result
+    /// says so.
+    ///
+    /// Where the beginning says so, the collector is given the events of the space after the opening's, in their order and in parts of at most 4,096.
+    /// It is given those that there are each time that the listener answers, which is at least once a second, and the rest after the last link. Where
+    /// there is no memory to hand them out, they come with the next ones.
+    ///
+    /// Where no thread can be started for a link, the accepting thread serves it: until that link ends no events are handed on, and no stop is seen.
+    ///
+    /// The reports of links have the entries of their turns in proofs alone. So a link takes no more memory with each call.
     ///
     /// The stop is Told where the listener was told to: the links that are live are served to their ends, and all threads are joined. It is All
     /// where the plan's count of links was served, AcceptFault only where the listener's count of faults rose, and OutOfMemory as in `serve`.
     ///
-    /// Its conditions: those of `serve_with`, but for the count, which may be any.
+    /// Its conditions: those of `serve_with`, but for the count, which may be any, and a collector that was given no event yet.
     pub fn host<L: Listener, Q: Clock, C: Collector<LinkReport<L::In, L::Out, L::Ticks, G::Hand>>>(
         &self,
         listener: &mut L,
         ticks: &mut Q,
         lock: TurnLock,
-        begin: Begin<C>,
+        begin: HostBegin<C>,
         plan: &ServePlan,
     ) -> Hosted<L::In, L::Out, L::Ticks, C, G::Hand>
         requires fresh { IsFresh lock begin.root }
         requires host { length (utf plan.now.host) ≤ MAX_HOST_BYTES }
         requires empty { IsEmpty (C.collected begin.collector) }
+        requires no_event { (C.collected begin.collector).events ≡ [] }
         requires expects { ExpectsLinks
             (IsLinkOf L.In.half L.Out.half L.Ticks.given G.Hand.shown G.Hand.may G.Hand.moves
             self.now.book.now plan.now)
             C.expects begin.collector }
 
         // As `serve_with`, where the server's own turns are the Ticks before links and those of quiet seconds, at moments of `ticks`, whose hand was told
-        // what they withdrew.
+        // what they withdrew. A quiet second passes without a Tick only where nothing had ended, or where the result says that a Tick was missed. The events
+        // that the collector was given are the first after the opening's, and all where the result says so.
         ensures hosts { HostsLinks
             (IsLinkOf L.In.half L.Out.half L.Ticks.given G.Hand.shown G.Hand.may G.Hand.moves
             self.now.book.now plan.now)
@@ -444,6 +540,9 @@ impl<'s, R: Threads + Wait + Sync, G: Crew> Server<'s, R, G> {
             C.collected (opening_of lock) plan.now.count
             (L.listening listener.old) (L.listening listener.new)
             (Q.given ticks.old) (Q.given ticks.new) result }
+
+        ensures keeps { Keeps C.holds C.stays begin.collector result.collector }
+        ensures unrecorded { begin.record ≡ false → result.whole ≡ false }
 
         // The listener.
         ensures fault { result.stop ≡ Stop.AcceptFault → Rose (L.listening listener.old).faults (L.listening listener.new).faults }
@@ -453,6 +552,17 @@ impl<'s, R: Threads + Wait + Sync, G: Crew> Server<'s, R, G> {
             → (result.stop ≡ Stop.Told) ⊎ ((result.stop ≡ Stop.All) ⊎ (result.stop ≡ Stop.OutOfMemory)) }
     {
         let (rt, alloc, crew, book) = (self.rt, self.alloc, self.crew, self.book);
+        let HostBegin {
+            root,
+            collector,
+            record,
+        } = begin;
+        let begun = HostStart {
+            root,
+            collector,
+            crew,
+            handed: first_place(&lock, record),
+        };
         let shared_lock = &lock;
         let noted = EndedLinks::new(alloc);
         let ended = &noted;
@@ -464,14 +574,17 @@ impl<'s, R: Threads + Wait + Sync, G: Crew> Server<'s, R, G> {
                 &mut Q,
                 HostJoined<L::In, L::Out, L::Ticks, C, G::Hand>,
             )
-                requires { IsFresh shared_lock.now begin.root × (length (utf plan.now.host) ≤ MAX_HOST_BYTES)
-                    × IsEmpty (C.collected begin.collector)
+                requires { IsFresh shared_lock.now begun.root × (length (utf plan.now.host) ≤ MAX_HOST_BYTES)
+                    × IsEmpty (C.collected begun.collector)
+                    × ((C.collected begun.collector).events ≡ [])
                     × ExpectsLinks
                     (IsLinkOf L.In.half L.Out.half L.Ticks.given G.Hand.shown G.Hand.may G.Hand.moves
                     book.now plan.now)
-                    C.expects begin.collector }
+                    C.expects begun.collector
+                    × IfSome begun.handed (λ n. n ≡ length (opening_of shared_lock.now).events) }
                 ensures left { (result.0.ghost_name ≡ listener.entry.ghost_name)
                     × (result.1.ghost_name ≡ ticks.entry.ghost_name) }
+                ensures keeps { Keeps C.holds C.stays begun.entry.collector result.2.collector }
                 ensures hosted { IsHosted
                     (IsLinkOf L.In.half L.Out.half L.Ticks.given G.Hand.shown G.Hand.may G.Hand.moves
                     book.entry.now plan.entry.now)
@@ -491,31 +604,12 @@ impl<'s, R: Threads + Wait + Sync, G: Crew> Server<'s, R, G> {
                     plan,
                     ended,
                 };
-                let Begin { root, collector } = begin;
-                let begun = HostBegin {
-                    root,
-                    collector,
-                    crew,
-                };
                 let outcome = host_within(scope, &shared, listener, ticks, begun);
                 (listener, ticks, outcome)
             },
         );
         let _ = left;
         let _ = left_ticks;
-        let HostJoined {
-            root,
-            collector,
-            stop,
-            lost,
-            hand,
-        } = outcome;
-        Hosted {
-            collector,
-            stop,
-            lost,
-            space: lock.close(root),
-            hand,
-        }
+        close_host(lock, outcome, record)
     }
 }

@@ -1,6 +1,6 @@
 -- How a run that served links ends.
 use Rattle.std.proofs.Common.{◌≡◌, ◌≢◌, ℕ, ◌≤◌, List, Option, Result, Ok, Err, refl, ap, sym, ◌∙◌, arith, inl, inr}
-use Rattle.std.specs.Prelude.{false, is_err}
+use Rattle.std.specs.Prelude.{false, true, is_err}
 use Rattle.wire_io.specs.Links.{Listening, Listens, with_next}
 use Rattle.wire_io.specs.Wire.{Rose}
 use Rattle.conn_server.specs.declared.accept_loop.Stop.{Stop}
@@ -53,6 +53,11 @@ accept_failed held held2 f f2 text stop end before heard after ends more rose is
 pub listened : {T E : Type 0} (old new : Listening) (address : List ℕ) (port : ℕ) (result : Result T E) → Listens old new address port result → old.faults ≤ new.faults
 listened old new address port (Ok done) is = let same = is.1 in omega (arith, same)
 listened old new address port (Err failed) is = is.1.0
+
+-- Where it does not listen, it tells no port more.
+pub deaf : {T E : Type 0} (old new : Listening) (address : List ℕ) (port : ℕ) (result : Result T E) → is_err result ≡ true → Listens old new address port result → new.ports ≡ old.ports
+deaf old new address port (Ok done) bad is = absurd (cc)
+deaf old new address port (Err failed) bad is = is.0
 
 -- Where a listener listens, its port is the last one that it tells.
 pub added : {T E : Type 0} (old new : Listening) (address : List ℕ) (port : ℕ) (result : Result T E) → is_err result ≡ false → Listens old new address port result →

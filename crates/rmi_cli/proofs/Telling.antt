@@ -33,7 +33,3 @@ line_told OutOfMemory not = refl
 -- The line of an end was written.
 pub told_so : (told : Reported) (end : RunEnd) (bytes : List ℕ) → end ≢ Done → bytes ≡ line_of end ++ 10 ∷ [] → told.status ≡ status_of_run end → Took told bytes → TellsEnd told end
 told_so told end bytes not is status took = inl (status, subst (Took told) (is ∙ sym (line_told end not)) took)
-
--- In its place, that there was no memory for it.
-pub told_wanting : (told : Reported) (end : RunEnd) → end ≢ Done → told.status ≡ 5 → Took told (told_line OutOfMemory) → TellsEnd told end
-told_wanting told end not status took = inr (not, (status, took))

@@ -1,7 +1,7 @@
 pub mod Answer
-pub mod Taking
 pub mod Arguments
 pub mod Called
+pub mod Desk
 pub mod Drilled
 pub mod Helped
 pub mod Hosted
@@ -15,7 +15,9 @@ pub mod Replay
 pub mod Replayed
 pub mod ServedLinks
 pub mod Shown
+pub mod Sinks
 pub mod Statuses
+pub mod Taking
 pub mod TalkEnds
 pub mod Talked
 pub mod Told

@@ -1,5 +1,5 @@
 -- What `rmi serve` does.
-use Rattle.std.specs.Prelude.{◌≡◌, ℕ, ◌<◌, pos, ◌⊎◌, List, length, take, Option, Some, None, IfSome}
+use Rattle.std.specs.Prelude.{◌≡◌, ℕ, pos, ◌⊎◌, List, Option, Some, None, IfSome}
 use Rattle.wire_io.specs.Links.{Accepted, Listening, with_next}
 use Rattle.wire_io.specs.Wire.{ReadHalf, WriteHalf, Wires, with_end, Rose}
 use Rattle.history.specs.Outline.{outline}
@@ -16,6 +16,7 @@ use Rattle.conn_server.specs.declared.plan.ServePlan.{ServePlan}
 use Rattle.conn_server.specs.declared.server.Report.{Report}
 use Rattle.rmi_cli.specs.Loopback.{loopback_host}
 use Rattle.rmi_cli.specs.Opening.{served_opening}
+use Rattle.rmi_cli.specs.Sinks.{WroteLess}
 use Rattle.rmi_cli.specs.Told.{Reported, TellsEnd}
 use Rattle.rmi_words.specs.declared.options.ServeWords.{ServeWords}
 use Rattle.rmi_cli.specs.declared.end.RunEnd.{RunEnd}
@@ -29,10 +30,6 @@ serve_plan seed serve = record { count = serve.count; host = loopback_host; port
 -- hand tells its connection's number, and neither its calls nor the numbers, which all hands share.
 abbrev pub IsSampleLink : {I O T R : Type 0} → (I → ReadHalf) → (O → WriteHalf) → (T → Option (List ℕ)) → ServePlan → ℕ → Accepted × Asked → LinkReport I O T (SampleHand R) → Type 0
 IsSampleLink read_half write_half given plan = IsLinkOf read_half write_half given (λ hand. record { calls = hand.calls; seen = None; state = None; number = hand.by }) May Moves sample_kinds plan
-
--- A front of these bytes, and not all, was written.
-abbrev pub WroteLess : Option (List ℕ) → Option (List ℕ) → List ℕ → Type 0
-WroteLess held held_after bytes = (sent : ℕ) × (sent < length bytes) × (held_after ≡ with_end held (take sent bytes))
 
 -- How printing this text ends, by what the output holds and how often it failed: all was written; or less, for the output failed; or nothing, for
 -- there was no memory for the text.

@@ -15,10 +15,14 @@ pub record Reported : Type 0 where
   pub faults_before : ℕ
   pub faults_after : ℕ
 
+-- the same of what a sink shows
+abbrev pub told_of_halves : WriteHalf → WriteHalf → ℕ → Reported
+told_of_halves before after status =
+    record { status = status; before = before.held; after = after.held; faults_before = before.faults; faults_after = after.faults }
+
 -- the same of a sink
 abbrev pub told_by : {E : Type 0} → (E → WriteHalf) → E → E → ℕ → Reported
-told_by half before after status =
-    record { status = status; before = (half before).held; after = (half after).held; faults_before = (half before).faults; faults_after = (half after).faults }
+told_by half before after status = told_of_halves (half before) (half after) status
 
 -- The errors' sink failed after it took exactly a front of these bytes.
 pub record TookFront (told : Reported) (bytes : List ℕ) : Type 0 where

@@ -1,205 +1,266 @@
-//! `host` over the program's listener, clock and output.
-ghost use Rattle.std.specs.Prelude.{◌≡◌, ◌≢◌, ◌≤◌, ℕ, List, IfOk, None, Some, IfSome};
+//! `host` over the program's listener, clock, output and errors' sink.
+ghost use Rattle.std.specs.Prelude.{◌≡◌, ◌≢◌, ◌≤◌, ◌∷◌, [], ℕ, List, IfOk};
 ghost use Rattle.wire_io.specs.Wire.{Rose};
 ghost use Rattle.space.specs.Standing.{standing};
-ghost use Rattle.turn_lock.specs.Handles.{IsFresh, opening_of};
-ghost use Rattle.rmi_cli.specs.Hosted.{ArePartsOf, AreReady, HostEnds, Hosts, HostsFrom, host_plan, host_side};
+ghost use Rattle.rmi_cli.specs.Desk.{recorded_lines, told_lines};
+ghost use Rattle.rmi_cli.specs.Hosted.{ArePartsOf, AreReady, HostsFrom, HostsTelling, IsClosed, end_of_record, host_side};
 ghost use Rattle.rmi_cli.specs.Line.{status_of_run};
-ghost use Rattle.rmi_cli.specs.Opening.{hosted_opening};
-ghost use Rattle.rmi_cli.specs.ServedLinks.{ListensAt, Printed};
-ghost use Rattle.rmi_words.specs.HostWords.{IsHostInRange};
-ghost use Rattle.rmi_words.specs.Options.{IsInRange};
+ghost use Rattle.rmi_cli.specs.LinkLine.{listening_line};
+ghost use Rattle.rmi_cli.specs.ServedLinks.{Printed, end_after};
+ghost use Rattle.rmi_cli.specs.Sinks.{Goes, joined};
+ghost use Rattle.rmi_cli.specs.declared.sink_state.SinkState.TheVariants.{Whole};
 
 use crate::end::RunEnd;
-use crate::opening::erased_space;
+use crate::host::Host;
+use crate::host_desk::{Desk, DeskLeft, DeskSinks, Given, SinkStates};
+use crate::host_parts::HostParts;
+use crate::link_line::listening_line;
 use crate::serve_input::end_after;
-use call_dispatch::Book;
-use conn_server::plan::LAST_NUMBER;
-use conn_server::{Begin, DropsReports, Hosted, LinkReport, ServePlan, Server, Stop};
-use rmi_words::{Address, HostWords, LeaseOptions};
-use sample_app::{SampleCrew, SampleHand, sample_book};
+use crate::sink_state::{SinkState, write_made, write_text};
+use conn_server::{HostBegin, Hosted, LinkReport, Server, Stop};
+use rmi_words::{HostWords, Record};
+use sample_app::SampleHand;
 use space::{Space, standing};
 use std::alloc::{AllocError, Global};
 use std::sync::Wait;
 use std::thread::Threads;
-use turn_lock::{Root, TurnLock};
+use wire_io::Dialer;
 use wire_io::clock::Clock;
+use wire_io::listener::Listener;
 use wire_io::put::put_all;
-use wire_io::{Listener, Sink};
+use wire_io::sink::Sink;
+use wire_io::source::Source;
 
-/// All that `host` begins with.
+/// The end of a run of `host`, and the state in which it leaves the errors' sink.
 #[derive(Drop)]
-pub struct HostParts<'t, R: Wait + Sync> {
-    /// Where memory comes from.
-    pub alloc: Global,
-    /// Makes the hand of each connection.
-    pub crew: SampleCrew<'t, R>,
-    /// The kinds of objects that clients may call.
-    pub book: Book,
-    /// The plan that the server is given before it serves.
-    pub plan: ServePlan,
-    /// The lock round the space.
-    pub lock: TurnLock,
-    /// The lock's root.
-    pub root: Root,
-    /// The address that is listened on.
-    pub address: Address,
-    /// The port that is listened on.
-    pub port: u16,
+pub(crate) struct HostEnd {
+    pub(crate) end: RunEnd,
+    pub(crate) told: SinkState,
 }
 
-/// The outcome of serving links whose reports are dropped.
+/// The outcome of serving links whose reports and events a desk was given.
 type SampleHosted<'t, R, I, O, T> = Hosted<
     I,
     O,
     T,
-    DropsReports<LinkReport<I, O, T, SampleHand<'t, R>>>,
+    Given<LinkReport<I, O, T, SampleHand<'t, R>>>,
     SampleHand<'t, R>,
 >;
 
-/// Returns what `host` begins with, by the seed and the words. The space does not keep its events.
-pub fn host_parts<'t, R: Wait + Sync>(
+/// The outcome of serving links with a desk over the output and the errors' sink.
+type DeskHosted<'s, 't, R, K, E, I, O, T> = Hosted<
+    I,
+    O,
+    T,
+    Desk<'s, K, E, LinkReport<I, O, T, SampleHand<'t, R>>>,
+    SampleHand<'t, R>,
+>;
+
+/// The remains of a host that served links: what was served, and the states of its sinks.
+#[derive(Drop)]
+pub(crate) struct HostLeft<'t, R: Wait + Sync, I, O, T> {
+    pub(crate) hosted: SampleHosted<'t, R, I, O, T>,
+    pub(crate) states: SinkStates,
+}
+
+/// What serving begins with: the runtime, the parts, and the states of the sinks after the first text and line.
+#[derive(Drop)]
+pub(crate) struct HostBegun<'t, R: Wait + Sync> {
+    pub(crate) rt: &'t R,
+    pub(crate) parts: HostParts<'t, R>,
+    pub(crate) first: SinkStates,
+}
+
+/// Listens on the port of the address, serves links until the listener is told to stop, and prints what the words say. Where there was no memory to
+/// begin with, nothing is done.
+pub(crate) fn host_input<
+    't,
+    R: Threads + Wait + Sync,
+    I: Source,
+    O: Sink,
+    E: Sink,
+    T: Clock,
+    L: Listener,
+    D: Dialer,
+>(
     rt: &'t R,
-    alloc: Global,
-    seed: &[u64; 4],
-    words: &HostWords,
-) -> Result<HostParts<'t, R>, AllocError>
-    requires { IsHostInRange words.now }
-    ensures are { IfOk result (ArePartsOf seed.now words.now) }
-    ensures ready { IfOk result AreReady }
-{
-    let address = Address::new(alloc, words.address.as_str())?;
-    let plan = plan_of(alloc, seed, words)?;
-    let crew = SampleCrew::new(rt, alloc)?;
-    let book = sample_book(alloc)?;
-    let (lock, root) = host_lock(alloc, seed, words.options)?;
-    Ok(HostParts {
-        alloc,
-        crew,
-        book,
-        plan,
-        lock,
-        root,
-        address,
-        port: words.port,
-    })
-}
-
-/// Returns the plan of the server.
-fn plan_of(alloc: Global, seed: &[u64; 4], words: &HostWords) -> Result<ServePlan, AllocError>
-    ensures { IfOk result (λ plan. plan ≡ host_plan seed.now words.now) }
-{
-    Ok(ServePlan {
-        count: LAST_NUMBER,
-        host: words.host.copy(alloc)?,
-        port: i32::from(words.port),
-        binding: words.options.binding,
-        seed: *seed,
-    })
-}
-
-/// Returns the sample space in its lock, and the lock's root. The space does not keep its events.
-fn host_lock(
-    alloc: Global,
-    seed: &[u64; 4],
-    options: LeaseOptions,
-) -> Result<(TurnLock, Root), AllocError>
-    requires { IsInRange options }
-    ensures fresh { IfOk result (λ t. IsFresh t.0 t.1) }
-    ensures opening { IfOk result (λ t. opening_of t.0 ≡ hosted_opening seed.now options) }
-{
-    let space = erased_space(alloc, seed, options)?;
-    match TurnLock::around(alloc, space) {
-        Ok(made) => Ok(made),
-        Err(_space) => Err(AllocError),
-    }
-}
-
-/// Listens on the port of the address, serves links until the listener is told to stop, and writes what stands of the space that is left.
-/// Where there was no memory to begin with, nothing is done.
-pub fn host_input<'t, R: Threads + Wait + Sync, L: Listener, T: Clock, K: Sink>(
-    rt: &'t R,
-    listener: &mut L,
-    ticks: &mut T,
-    sink: &mut K,
+    host: &mut Host<I, O, E, T, L, D, SampleHand<'t, R>>,
     parts: Result<HostParts<'t, R>, AllocError>,
-) -> RunEnd
+) -> HostEnd
     requires { IfOk parts AreReady }
-    ensures hosts { (seed : List ℕ) (host : HostWords) → IfOk parts.entry (ArePartsOf seed host)
-        → Hosts R L.In.half L.Out.half L.Ticks.given seed host
-        (host_side (L.listening listener.old) (T.given ticks.old) (K.half sink.old))
-        (host_side (L.listening listener.new) (T.given ticks.new) (K.half sink.new)) result }
-    ensures known { status_of_run result ≢ 1 }
-    ensures fault { status_of_run result ≡ 3
-        → Rose (L.listening listener.old).faults (L.listening listener.new).faults }
-    ensures write_fault { status_of_run result ≡ 4
-        → Rose (K.half sink.old).faults (K.half sink.new).faults }
-    ensures open { (K.half sink.new).shut ≡ (K.half sink.old).shut }
+    ensures hosts { (seed : List ℕ) (asked : HostWords) → IfOk parts.entry (ArePartsOf seed asked)
+        → HostsTelling R L.In.half L.Out.half L.Ticks.given seed asked
+        (host_side (L.listening host.old.listener) (T.given host.old.ticks) (O.half host.old.output))
+        (host_side (L.listening host.new.listener) (T.given host.new.ticks) (O.half host.new.output))
+        (E.half host.old.errors) (E.half host.new.errors) result.told result.end }
+    ensures known { status_of_run result.end ≢ 1 }
+    ensures fault { status_of_run result.end ≡ 3
+        → Rose (L.listening host.old.listener).faults (L.listening host.new.listener).faults }
+    ensures write_fault { status_of_run result.end ≡ 4
+        → Rose (O.half host.old.output).faults (O.half host.new.output).faults }
+    ensures open { (O.half host.new.output).shut ≡ (O.half host.old.output).shut }
+    ensures errors_open { (E.half host.new.errors).shut ≡ (E.half host.old.errors).shut }
+    ensures rest { (host.new.input ≡ host.old.input) × (host.new.dialer ≡ host.old.dialer)
+        × (host.new.talked ≡ host.old.talked) × (host.new.seed ≡ host.old.seed)
+        × (host.new.served ≡ host.old.served) }
 {
     match parts {
-        Ok(parts) => host_on(rt, listener, ticks, sink, parts),
-        Err(_refused) => RunEnd::OutOfMemory,
+        Ok(parts) => host_on(rt, host, parts),
+        Err(_refused) => HostEnd {
+            end: RunEnd::OutOfMemory,
+            told: SinkState::Whole,
+        },
     }
 }
 
-/// Listens on the port, serves the links, and writes what stands.
-fn host_on<'t, R: Threads + Wait + Sync, L: Listener, T: Clock, K: Sink>(
+/// Listens on the port, serves the links, and prints.
+fn host_on<
+    't,
+    R: Threads + Wait + Sync,
+    I: Source,
+    O: Sink,
+    E: Sink,
+    T: Clock,
+    L: Listener,
+    D: Dialer,
+>(
     rt: &'t R,
-    listener: &mut L,
-    ticks: &mut T,
-    sink: &mut K,
+    host: &mut Host<I, O, E, T, L, D, SampleHand<'t, R>>,
     parts: HostParts<'t, R>,
-) -> RunEnd
+) -> HostEnd
     requires { AreReady parts }
-    ensures hosts { (seed : List ℕ) (host : HostWords) → ArePartsOf seed host parts.entry
-        → Hosts R L.In.half L.Out.half L.Ticks.given seed host
-        (host_side (L.listening listener.old) (T.given ticks.old) (K.half sink.old))
-        (host_side (L.listening listener.new) (T.given ticks.new) (K.half sink.new)) result }
-    ensures known { status_of_run result ≢ 1 }
-    ensures fault { status_of_run result ≡ 3
-        → Rose (L.listening listener.old).faults (L.listening listener.new).faults }
-    ensures write_fault { status_of_run result ≡ 4
-        → Rose (K.half sink.old).faults (K.half sink.new).faults }
-    ensures open { (K.half sink.new).shut ≡ (K.half sink.old).shut }
+    ensures hosts { (seed : List ℕ) (asked : HostWords) → ArePartsOf seed asked parts.entry
+        → HostsTelling R L.In.half L.Out.half L.Ticks.given seed asked
+        (host_side (L.listening host.old.listener) (T.given host.old.ticks) (O.half host.old.output))
+        (host_side (L.listening host.new.listener) (T.given host.new.ticks) (O.half host.new.output))
+        (E.half host.old.errors) (E.half host.new.errors) result.told result.end }
+    ensures known { status_of_run result.end ≢ 1 }
+    ensures fault { status_of_run result.end ≡ 3
+        → Rose (L.listening host.old.listener).faults (L.listening host.new.listener).faults }
+    ensures write_fault { status_of_run result.end ≡ 4
+        → Rose (O.half host.old.output).faults (O.half host.new.output).faults }
+    ensures open { (O.half host.new.output).shut ≡ (O.half host.old.output).shut }
+    ensures errors_open { (E.half host.new.errors).shut ≡ (E.half host.old.errors).shut }
+    ensures rest { (host.new.input ≡ host.old.input) × (host.new.dialer ≡ host.old.dialer)
+        × (host.new.talked ≡ host.old.talked) × (host.new.seed ≡ host.old.seed)
+        × (host.new.served ≡ host.old.served) }
 {
-    if listener.listen(parts.address.as_str(), parts.port).is_err() {
-        return RunEnd::ListenFault;
+    if host
+        .listener
+        .listen(parts.address.as_str(), parts.port)
+        .is_err()
+    {
+        return HostEnd {
+            end: RunEnd::ListenFault,
+            told: SinkState::Whole,
+        };
     }
     let alloc = parts.alloc;
-    let hosted = host_links(rt, listener, ticks, parts);
-    print_end(alloc, sink, hosted)
+    let recording = parts.recording;
+    let first = open_sinks(&mut host.output, &mut host.errors, &parts);
+    let HostLeft { hosted, states } = host_links(rt, host, first, parts);
+    close_output(alloc, &mut host.output, recording, states, hosted)
 }
 
-/// Writes what stands of the space that is left, and answers how the run ends.
-fn print_end<K: Sink, I: Drop, O: Drop, T: Drop, C: Drop, H: Drop>(
-    alloc: Global,
-    sink: &mut K,
-    hosted: Hosted<I, O, T, C, H>,
-) -> RunEnd
-    ensures ends { HostEnds (K.half sink.old) (K.half sink.new) (Some hosted) result }
-    ensures open { (K.half sink.new).shut ≡ (K.half sink.old).shut }
+/// Writes the line that tells where the server listens, and the text that the output begins with.
+fn open_sinks<'t, R: Wait + Sync, K: Sink, E: Sink>(
+    output: &mut K,
+    errors: &mut E,
+    parts: &HostParts<'t, R>,
+) -> SinkStates
+    ensures told { Goes (E.half errors.old) (E.half errors.new)
+        (listening_line parts.now.address parts.now.port ∷ []) Whole result.told }
+    ensures printed { (pieces : List (List ℕ)) → parts.now.first ≡ joined pieces
+        → Goes (K.half output.old) (K.half output.new) pieces Whole result.printed }
 {
-    let printed = print_standing(alloc, sink, &hosted.space);
-    end_after(hosted.stop, printed)
+    let line = listening_line(parts.alloc, parts.address.as_str(), parts.port);
+    let told = write_made(errors, SinkState::Whole, line);
+    let printed = write_text(output, SinkState::Whole, parts.first.as_slice());
+    SinkStates { printed, told }
 }
 
-/// Serves the links that the listener gives.
-fn host_links<'t, R: Threads + Wait + Sync, L: Listener, T: Clock>(
+/// Serves the links that the listener gives, and writes the lines of events and of links that have ended.
+fn host_links<
+    't,
+    R: Threads + Wait + Sync,
+    I: Source,
+    O: Sink,
+    E: Sink,
+    T: Clock,
+    L: Listener,
+    D: Dialer,
+>(
     rt: &'t R,
+    host: &mut Host<I, O, E, T, L, D, SampleHand<'t, R>>,
+    first: SinkStates,
+    parts: HostParts<'t, R>,
+) -> HostLeft<'t, R, L::In, L::Out, L::Ticks>
+    requires { AreReady parts }
+    ensures links { (seed : List ℕ) (asked : HostWords) → ArePartsOf seed asked parts.entry
+        → HostsFrom L.In.half L.Out.half L.Ticks.given seed asked
+        (L.listening host.old.listener) (L.listening host.new.listener)
+        (T.given host.old.ticks) (T.given host.new.ticks) result.hosted }
+    ensures printed { Goes (O.half host.old.output) (O.half host.new.output)
+        (recorded_lines parts.entry.recording parts.entry.space result.hosted.collector.events)
+        first.printed result.states.printed }
+    ensures told { Goes (E.half host.old.errors) (E.half host.new.errors)
+        (told_lines result.hosted.collector.reports) first.told result.states.told }
+    ensures ports { (L.listening host.new.listener).ports ≡ (L.listening host.old.listener).ports }
+    ensures fault { result.hosted.stop ≡ Stop.AcceptFault
+        → Rose (L.listening host.old.listener).faults (L.listening host.new.listener).faults }
+    ensures faults { (L.listening host.old.listener).faults ≤ (L.listening host.new.listener).faults }
+    ensures rest { (host.new.input ≡ host.old.input) × (host.new.dialer ≡ host.old.dialer)
+        × (host.new.talked ≡ host.old.talked) × (host.new.seed ≡ host.old.seed)
+        × (host.new.served ≡ host.old.served) }
+{
+    let begun = HostBegun { rt, parts, first };
+    let (output, errors, left) = serve_at_desk(
+        &mut host.listener,
+        &mut host.ticks,
+        &mut host.output,
+        &mut host.errors,
+        begun,
+    );
+    let _ = output;
+    let _ = errors;
+    left
+}
+
+/// Serves the links that the listener gives. A desk over the output and the errors' sink, which are handed back, writes the lines of events and of links
+/// that have ended.
+fn serve_at_desk<'s, 't, R: Threads + Wait + Sync, K: Sink, E: Sink, T: Clock, L: Listener>(
     listener: &mut L,
     ticks: &mut T,
-    parts: HostParts<'t, R>,
-) -> SampleHosted<'t, R, L::In, L::Out, L::Ticks>
-    requires { AreReady parts }
-    ensures links { (seed : List ℕ) (host : HostWords) → ArePartsOf seed host parts.entry
-        → HostsFrom L.In.half L.Out.half L.Ticks.given seed host
+    output: &'s mut K,
+    errors: &'s mut E,
+    begun: HostBegun<'t, R>,
+) -> (
+    &'s mut K,
+    &'s mut E,
+    HostLeft<'t, R, L::In, L::Out, L::Ticks>,
+)
+    requires { AreReady begun.parts }
+    ensures same_output { result.0.ghost_name ≡ output.entry.ghost_name }
+    ensures same_errors { result.1.ghost_name ≡ errors.entry.ghost_name }
+    ensures printed { Goes (K.half output.old) (K.half result.0.now)
+        (recorded_lines begun.entry.parts.recording begun.entry.parts.space result.2.hosted.collector.events)
+        begun.entry.first.printed result.2.states.printed }
+    ensures told { Goes (E.half errors.old) (E.half result.1.now)
+        (told_lines result.2.hosted.collector.reports) begun.entry.first.told result.2.states.told }
+    ensures links { (seed : List ℕ) (asked : HostWords) → ArePartsOf seed asked begun.entry.parts
+        → HostsFrom L.In.half L.Out.half L.Ticks.given seed asked
         (L.listening listener.old) (L.listening listener.new)
-        (T.given ticks.old) (T.given ticks.new) result }
+        (T.given ticks.old) (T.given ticks.new) result.2.hosted }
     ensures ports { (L.listening listener.new).ports ≡ (L.listening listener.old).ports }
-    ensures fault { result.stop ≡ Stop.AcceptFault
+    ensures fault { result.2.hosted.stop ≡ Stop.AcceptFault
         → Rose (L.listening listener.old).faults (L.listening listener.new).faults }
     ensures faults { (L.listening listener.old).faults ≤ (L.listening listener.new).faults }
 {
+    let HostBegun {
+        rt,
+        parts,
+        first: states,
+    } = begun;
     let HostParts {
         alloc,
         crew,
@@ -209,19 +270,106 @@ fn host_links<'t, R: Threads + Wait + Sync, L: Listener, T: Clock>(
         root,
         address,
         port: _,
+        recording,
+        space,
+        first,
     } = parts;
     drop(address);
+    drop(first);
+    let sinks = DeskSinks {
+        output,
+        errors,
+        states,
+    };
     let server = Server {
         rt,
         alloc,
         crew: &crew,
         book: &book,
     };
-    let begin = Begin {
+    let begin = HostBegin {
         root,
-        collector: DropsReports::new(),
+        collector: sinks.into_desk(alloc, recording, space),
+        record: recording == Record::Journal,
     };
-    server.host(listener, ticks, lock, begin, &plan)
+    let served = server.host(listener, ticks, lock, begin, &plan);
+    take_apart(served)
+}
+
+/// Takes the desk of a host apart. Returns its sinks, and what is left of the host.
+fn take_apart<'s, 't, R: Wait + Sync, K, E, I, O, T>(
+    served: DeskHosted<'s, 't, R, K, E, I, O, T>,
+) -> (&'s mut K, &'s mut E, HostLeft<'t, R, I, O, T>)
+    ensures same_output { result.0.ghost_name ≡ served.entry.collector.output.ghost_name }
+    ensures same_errors { result.1.ghost_name ≡ served.entry.collector.errors.ghost_name }
+    ensures output { result.0.now ≡ served.entry.collector.output.now }
+    ensures errors { result.1.now ≡ served.entry.collector.errors.now }
+    ensures printed { result.2.states.printed ≡ served.entry.collector.printed }
+    ensures told { result.2.states.told ≡ served.entry.collector.told }
+    ensures given { result.2.hosted.collector ≡ served.entry.collector.given }
+    ensures rest { (result.2.hosted.stop ≡ served.entry.stop) × (result.2.hosted.lost ≡ served.entry.lost)
+        × (result.2.hosted.space ≡ served.entry.space) × (result.2.hosted.whole ≡ served.entry.whole)
+        × (result.2.hosted.hand ≡ served.entry.hand) × (result.2.hosted.tick_missed ≡ served.entry.tick_missed) }
+{
+    let Hosted {
+        collector,
+        stop,
+        lost,
+        space,
+        whole,
+        hand,
+        tick_missed,
+    } = served;
+    let (output, errors, DeskLeft { given, states }) = collector.into_parts();
+    let hosted = Hosted {
+        collector: given,
+        stop,
+        lost,
+        space,
+        whole,
+        hand,
+        tick_missed,
+    };
+    (output, errors, HostLeft { hosted, states })
+}
+
+/// Prints what stands of the space that is left, where events were not recorded, and answers how the run ends.
+fn close_output<K: Sink, I: Drop, O: Drop, T: Drop, G, H: Drop>(
+    alloc: Global,
+    sink: &mut K,
+    recording: Record,
+    states: SinkStates,
+    hosted: Hosted<I, O, T, Given<G>, H>,
+) -> HostEnd
+    ensures ends { IsClosed recording (K.half sink.old) (K.half sink.new) states.printed hosted result.end }
+    ensures told { result.told ≡ states.told }
+    ensures open { (K.half sink.new).shut ≡ (K.half sink.old).shut }
+{
+    let printed = match recording {
+        Record::Silent => print_standing(alloc, sink, &hosted.space),
+        Record::Journal => end_of_record(states.printed, hosted.whole),
+    };
+    HostEnd {
+        end: end_after(hosted.stop, printed),
+        told: states.told,
+    }
+}
+
+/// Returns the end of a run whose output has this state, where all events were recorded or not.
+fn end_of_record(state: SinkState, whole: bool) -> RunEnd
+    ensures { result ≡ end_of_record state whole }
+{
+    match state {
+        SinkState::Whole => {
+            if whole {
+                RunEnd::Done
+            } else {
+                RunEnd::OutOfMemory
+            }
+        }
+        SinkState::Failed => RunEnd::WriteFault,
+        SinkState::Lost => RunEnd::OutOfMemory,
+    }
 }
 
 /// Writes what stands of the space that is left, and answers how that ended.

@@ -28,8 +28,10 @@
 //!   of `conn_server`. The reports are left in `served`, and the outline of the one history was
 //!   written (`serves`).
 //! - `host`: the same of its port of its address, over a space that keeps no events (`hosts`,
-//!   `HostsLinks`). Reports are dropped. What is exported at the end was written. The host's own
-//!   input is not read (`host_unread`).
+//!   `HostsLinks`). With `silent`, what is exported at the end was written; with `journal`, the
+//!   first line and a line for each event. The errors' sink took a line when it listened and one
+//!   for each ended link. If memory lacked for one of these lines, those before it were written,
+//!   and the status is 5. The host's own input is not read (`host_unread`).
 //! - `list`, `lookup`, `bind`, `unbind`: one talk by the command's script, the only one if the link
 //!   tells its bytes. The answer was printed if the talk ended well, and nothing otherwise. The
 //!   halves are left in `talked`, shut (`asks`).
@@ -69,9 +71,12 @@ mod class_output;
 mod client_output;
 mod drill_output;
 mod end;
+mod event_lines;
 mod help_output;
 mod host;
+mod host_desk;
 mod host_input;
+mod host_parts;
 mod journal_input;
 mod limits;
 mod link_line;
@@ -80,6 +85,7 @@ mod opening;
 mod outlines;
 mod program;
 mod serve_input;
+mod sink_state;
 mod stream_input;
 mod talk_end;
 mod talk_text;
@@ -95,6 +101,6 @@ pub use outlines::{ReplayFault, replay};
 pub use program::run;
 pub use rmi_words::{
     Address, Argument, ArgumentList, CallWords, ClassOutput, ClientCommand, Command, DrillText,
-    HelpTopic, HostWords, LeaseOptions, ServeWords, ServerAddress, Words, WordsFault,
+    HelpTopic, HostWords, LeaseOptions, Record, ServeWords, ServerAddress, Words, WordsFault,
 };
 pub use stream_input::STREAM_BYTES;

@@ -21,7 +21,8 @@ pub struct EndedLink {
     pub end: ConnEnd,
     /// The number of calls that began on it.
     pub calls: u64,
-    /// The time from its start to its end, in milliseconds.
+    /// The time from the moment of the turn before it to the moment at which its report was handed on, in milliseconds. That is up to a second after its
+    /// end.
     pub milliseconds: u64,
 }
 

@@ -1,6 +1,6 @@
 //! The sample space that connections are served over.
 ghost use Rattle.std.specs.Prelude.{◌≡◌, IfOk};
-ghost use Rattle.rmi_cli.specs.Opening.{served_space, served_opening, hosted_opening};
+ghost use Rattle.rmi_cli.specs.Opening.{served_space, served_opening, hosted_space, hosted_opening};
 ghost use Rattle.rmi_words.specs.Options.{IsInRange};
 
 use conn_server::plan::{low_half, moment_of};
@@ -40,6 +40,13 @@ pub(crate) fn erased_space(
         Ok(space) => Ok(space),
         Err(_refused) => Err(AllocError),
     }
+}
+
+/// Returns the identifier of the space.
+pub(crate) fn space_uid(seed: &[u64; 4], options: LeaseOptions) -> Uid
+    ensures { result ≡ (hosted_space seed.now options).uid }
+{
+    config_of(seed, options).uid
 }
 
 /// Returns the configuration of the space.

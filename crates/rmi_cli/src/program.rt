@@ -1,11 +1,11 @@
 //! All that the program does.
 ghost use Rattle.std.specs.Prelude.{◌≡◌, ◌≢◌, ◌⊎◌, ◌++◌, ◌∷◌, [], ℕ, List, Option, None, IfOk, map, string_bytes};
-ghost use Rattle.wire_io.specs.Wire.{Rose, wires};
+ghost use Rattle.wire_io.specs.Wire.{Rose, WriteHalf, wires};
 ghost use Rattle.rmi_cli.specs.Answer.{Answers, AnswersExactly};
 ghost use Rattle.rmi_words.specs.Command.{AskFor};
 ghost use Rattle.rmi_cli.specs.Drilled.{Drills, DrillsExactly};
 ghost use Rattle.rmi_cli.specs.Helped.{Helps};
-ghost use Rattle.rmi_cli.specs.Hosted.{Hosting, host_side};
+ghost use Rattle.rmi_cli.specs.Hosted.{Hosting, TellsHost, host_side};
 ghost use Rattle.rmi_cli.specs.Limits.{IsInLimits};
 ghost use Rattle.rmi_cli.specs.Line.{line_of, status_of_run};
 ghost use Rattle.rmi_cli.specs.Printing.{PrintsClass, PrintsExactly};
@@ -13,10 +13,11 @@ ghost use Rattle.rmi_cli.specs.Replayed.{ReplaysInput, ReplaysExactly};
 ghost use Rattle.conn_server.specs.Stops.{IsLostLink};
 ghost use Rattle.rmi_cli.specs.ServedLinks.{IsSampleLink, Serving, serve_plan};
 ghost use Rattle.rmi_cli.specs.Shown.{ShowsInput, ShowsExactly};
+ghost use Rattle.rmi_cli.specs.Sinks.{Goes};
 ghost use Rattle.rmi_cli.specs.Called.{AsksAServer, AsksTheClock, CallsObject};
 ghost use Rattle.client_talk.specs.Sessions.{ended_as};
 ghost use Rattle.rmi_cli.specs.Talked.{AsksServer, LinkFailed, SinkFailed, side};
-ghost use Rattle.rmi_cli.specs.Told.{told_by, failures, StayOpen, end_of_words, TellsExactly, TellsEnd, TellsNoCommand};
+ghost use Rattle.rmi_cli.specs.Told.{told_by, told_of_halves, failures, StayOpen, end_of_words, TellsExactly, TellsEnd, TellsNoCommand};
 ghost use Rattle.rmi_cli.specs.Worlds.{MakesWorld, MakesWorldExactly, PrintsKeptWorld};
 ghost use Rattle.rmi_words.specs.declared.call_words.CallWords.{CallWords};
 ghost use Rattle.rmi_words.specs.declared.client.ClientCommand.{ClientCommand as ClientCommands};
@@ -34,9 +35,11 @@ use crate::drill_output::write_drill;
 use crate::end::RunEnd;
 use crate::help_output::write_help;
 use crate::host::Host;
-use crate::host_input::{host_input, host_parts};
+use crate::host_input::{HostEnd, host_input};
+use crate::host_parts::host_parts;
 use crate::journal_input::replay_input;
 use crate::serve_input::serve_input;
+use crate::sink_state::SinkState;
 use crate::stream_input::show_input;
 use crate::world_input::print_world;
 use rmi_words::{Command, HostWords, LeaseOptions, ServeWords, Words, WordsFault};
@@ -64,7 +67,8 @@ use wire_io::source::Source;
 /// | 6 | at a limit |
 /// | 7 | an object or a method is not there, or a server answers an exception |
 ///
-/// One line on the errors' sink tells the end, but that all was done, which no line tells. That it could not be written changes nothing.
+/// One line on the errors' sink tells the end, but that all was done, which no line tells. Lines of `host` on links that have ended stand before it.
+/// That it could not be written changes nothing.
 /// Where there is no memory for the line, the status is 5, and the line is that of want of memory.
 #[tactic(auto, using(crate::proofs::Telling::took))]
 pub fn run<
@@ -118,9 +122,10 @@ pub fn run<
         (O.half host.old.output).faults (O.half host.new.output).faults
         (told_by E.half host.old.errors host.new.errors result) }
 
-    // `host` serves the links that are accepted at its port of its address, and at no other, over one space of its own that does not keep its events,
-    // until the listener is told to stop. It is as with `serve`, but that each link's report is dropped as the link has ended, and that the program's
-    // clock gives the moments of further Ticks. What stands of the space that is left is written, and the end is told. Nothing is read.
+    // `host` serves the links that are accepted at its port of its address, and at no other, over one space of its own, until the listener is told to
+    // stop. The space does not keep its events. It is as with `serve`, but that each link's report is told in a line and dropped once the link has ended,
+    // and that the program's clock gives the moments of further Ticks. Printed is what stands of the space that is left, or a journal of all events as
+    // they are made. The errors' sink gets a line where the port is listened on, one for each link that has ended, and the end's. Nothing is read.
     ensures hosts { (asked : HostWords) → AskFor words.now (Command.Host asked)
         → Hosting R L.In.half L.Out.half L.Ticks.given host.old.seed asked
         (host_side (L.listening host.old.listener) (T.given host.old.ticks)
@@ -228,8 +233,8 @@ pub fn run<
         (O.half host.old.output).faults (O.half host.new.output).faults
         (told_by E.half host.old.errors host.new.errors result) }
 
-    // None but `answer`, `call` and `host` asks the clock; none but `serve` and `host` asks the listener, and none but `serve` leaves anything as served; none but a command that asks a server
-    // dials, or leaves halves of links, and these take nothing of the input; and none changes the seed.
+    // None but `answer`, `call` and `host` asks the clock. None but `serve` and `host` asks the listener, and none but `serve` leaves anything as served.
+    // None but a command that asks a server dials, or leaves halves of links, and these take nothing of the input. None changes the seed.
     ensures clock { ((command : Commands) → AskFor words.now command → AsksTheClock command → ⊥)
         → T.given host.new.ticks ≡ T.given host.old.ticks }
     ensures network { ((serve : ServeWords) → AskFor words.now (Command.Serve serve) → ⊥)
@@ -291,11 +296,19 @@ fn report_words<E: Sink>(errors: &mut E, fault: WordsFault) -> u8
             let _ = put_all(errors, b"usage\n");
             RunEnd::Usage.status()
         }
-        WordsFault::OutOfMemory => {
-            let _ = put_all(errors, b"out of memory\n");
-            RunEnd::OutOfMemory.status()
-        }
+        WordsFault::OutOfMemory => report_memory(errors),
     }
+}
+
+/// Writes the line that tells want of memory, and answers the status. It takes no memory.
+#[tactic(auto, using(crate::proofs::Telling::took))]
+fn report_memory<E: Sink>(errors: &mut E) -> u8
+    ensures told { TellsExactly (told_by E.half errors.old errors.new result) RunEnd.OutOfMemory }
+    ensures status { result ≡ 5 }
+    ensures open { (E.half errors.new).shut ≡ (E.half errors.old).shut }
+{
+    let _ = put_all(errors, b"out of memory\n");
+    RunEnd::OutOfMemory.status()
 }
 
 /// Does what a command says, and answers the status of the process, with the clauses of `run`.
@@ -482,14 +495,8 @@ fn obey<
         }
         Command::Host(asked) => {
             let parts = host_parts(rt, alloc, &host.seed, &asked);
-            let end = host_input(
-                rt,
-                &mut host.listener,
-                &mut host.ticks,
-                &mut host.output,
-                parts,
-            );
-            report_end(alloc, &mut host.errors, end)
+            let ended = host_input(rt, host, parts);
+            report_host(alloc, &mut host.errors, ended)
         }
         Command::Client(asked) => {
             let end = ask_server(
@@ -555,10 +562,23 @@ fn report_end<E: Sink>(alloc: Global, errors: &mut E, end: RunEnd) -> u8
             let _ = put_all(errors, line.as_bytes());
             end.status()
         }
-        Err(_) => {
-            let _ = put_all(errors, b"out of memory\n");
-            RunEnd::OutOfMemory.status()
-        }
+        Err(_) => report_memory(errors),
+    }
+}
+
+/// Writes the line that tells the end of `host` behind the lines before it, and answers the status. Where the errors' sink has failed, it is not written.
+/// Where there was no memory for one of the lines, it and the status are those of want of memory.
+fn report_host<E: Sink>(alloc: Global, errors: &mut E, ended: HostEnd) -> u8
+    ensures told { (first : WriteHalf) (lines : List (List ℕ))
+        → Goes first (E.half errors.old) lines SinkState.Whole ended.told
+        → TellsHost (told_of_halves first (E.half errors.new) result) lines ended.end }
+    ensures status { (result ≡ status_of_run ended.end) ⊎ (result ≡ 5) }
+    ensures open { (E.half errors.new).shut ≡ (E.half errors.old).shut }
+{
+    match ended.told {
+        SinkState::Whole => report_end(alloc, errors, ended.end),
+        SinkState::Failed => ended.end.status(),
+        SinkState::Lost => report_memory(errors),
     }
 }
 

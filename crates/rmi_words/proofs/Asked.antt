@@ -1,5 +1,5 @@
 -- What holds wherever words ask for a command.
-use Rattle.std.proofs.Common.{◌≡◌, ℕ, ◌≤◌, ◌<◌, ◌^◌, List, [], ◌∷◌, get_or, drop, length, Bool, true, false, Option, Some, None, codes, refl, ap, ap₂, sym, subst, ◌∙◌, arith}
+use Rattle.std.proofs.Common.{◌≡◌, ℕ, ◌≤◌, ◌<◌, ◌^◌, List, [], ◌∷◌, get_or, drop, take, length, Bool, true, false, Option, Some, None, codes, refl, ap, ap₂, sym, subst, ◌∙◌, arith}
 use Rattle.std.specs.Prelude.{slice_get}
 use Rattle.std.proofs.lemmas.Fmt.{decimal_injective}
 use Rattle.history.specs.declared.limits.TheConstants.{MAX_DURATION_MS}
@@ -13,7 +13,7 @@ use Rattle.rmi_words.proofs.Naming.{IsOf, named_by, topic_in}
 use Rattle.rmi_words.specs.CallWords.{AreArguments, IsCall, IsMethodOf}
 use Rattle.rmi_words.specs.Clients.{ClientWords, IsAddressIn, IsClient, IsNamedIn, IsTextIn, IsToldBy, placed_words}
 use Rattle.rmi_words.specs.Command.{AskFor, IsAnswer, IsServe, IsWordOfDrill, word_of_text, words_of_topic}
-use Rattle.rmi_words.specs.HostWords.{IsAddress, IsHost, IsHostIn, IsHostInRange, IsOwnHost}
+use Rattle.rmi_words.specs.HostWords.{IsAddress, IsHost, IsHostIn, IsHostInRange, IsOwnHost, IsRecordOf}
 use Rattle.rmi_words.specs.Options.{AreGivenBy, IsInRange, IsServeInRange, IsBindingOf, IsDurationOf, IsSmallOf, SpellsUpTo}
 use Rattle.rmi_words.specs.Values.{name_of}
 use Rattle.rmi_words.specs.declared.call_words.Argument.{Argument}
@@ -22,6 +22,8 @@ use Rattle.rmi_words.specs.declared.client.ClientCommand.{ClientCommand}
 use Rattle.rmi_words.specs.declared.client.ClientCommand.TheVariants.{List as ListNames, Lookup, Bind, Unbind}
 use Rattle.rmi_words.specs.declared.client.ServerAddress.{ServerAddress}
 use Rattle.rmi_words.specs.declared.host_words.HostWords.{HostWords}
+use Rattle.rmi_words.specs.declared.host_words.Record.{Record}
+use Rattle.rmi_words.specs.declared.host_words.Record.TheVariants as prints
 use Rattle.rmi_words.specs.declared.options.ServeWords.{ServeWords}
 use Rattle.rmi_words.specs.declared.options.LeaseOptions.{LeaseOptions}
 use Rattle.rmi_words.specs.declared.command.Command.{Command}
@@ -73,7 +75,7 @@ host_in_range words host asked =
       port = port.0;
       port_fits = port.1;
       short = short_host host.host (slice_get asked.rest 1) asked.told.host_is;
-      options = options_in_range host.options (drop 3 asked.rest) asked.told.options_are;
+      options = options_in_range host.options (take 3 (drop 3 asked.rest)) asked.told.options_are;
     }
 
 -- ---- one command
@@ -176,19 +178,29 @@ same_own_host : (a b : List ℕ) (word : Option (List ℕ)) → IsOwnHost a word
 same_own_host a b (Some word) x y = x.0 ∙ sym y.0
 same_own_host a b None x y = absurd x
 
-abbrev host_with : List ℕ → List ℕ → ℕ → LeaseOptions → HostWords
-host_with address host port options = record { address = address; host = host; port = port; options = options }
+same_output : (a b : Record) (word : Option (List ℕ)) → IsRecordOf a word → IsRecordOf b word → a ≡ b
+same_output prints.Silent prints.Silent word x y = refl
+same_output prints.Journal prints.Journal word x y = refl
+same_output prints.Silent prints.Journal (Some word) x y = let both : codes "silent" ≡ codes "journal" = sym x ∙ y in absurd cc
+same_output prints.Journal prints.Silent (Some word) x y = let both : codes "journal" ≡ codes "silent" = sym x ∙ y in absurd cc
+same_output prints.Silent prints.Journal None x y = sym y
+same_output prints.Journal prints.Silent None x y = x
+
+abbrev host_with : List ℕ → List ℕ → ℕ → LeaseOptions → Record → HostWords
+host_with address host port options output = record { address = address; host = host; port = port; options = options; output = output }
 
 same_host_in : (words : List (List ℕ)) (a b : HostWords) → IsHostIn a words → IsHostIn b words → a ≡ b
 same_host_in words a b x y =
     let address = same_address a.address b.address (slice_get words 0) x.address_is y.address_is in
     let host = same_own_host a.host b.host (slice_get words 1) x.host_is y.host_is in
     let port = same_small a.port b.port (slice_get words 2) x.port_is y.port_is in
-    let options = same_options (drop 3 words) a.options b.options x.options_are y.options_are in
-    ap (λ (t : List ℕ). host_with t a.host a.port a.options) address
-    ∙ ap (λ (t : List ℕ). host_with b.address t a.port a.options) host
-    ∙ ap (λ (n : ℕ). host_with b.address b.host n a.options) port
-    ∙ ap (λ (o : LeaseOptions). host_with b.address b.host b.port o) options
+    let options = same_options (take 3 (drop 3 words)) a.options b.options x.options_are y.options_are in
+    let output = same_output a.output b.output (slice_get words 6) x.output_is y.output_is in
+    ap (λ (t : List ℕ). host_with t a.host a.port a.options a.output) address
+    ∙ ap (λ (t : List ℕ). host_with b.address t a.port a.options a.output) host
+    ∙ ap (λ (n : ℕ). host_with b.address b.host n a.options a.output) port
+    ∙ ap (λ (o : LeaseOptions). host_with b.address b.host b.port o a.output) options
+    ∙ ap (λ (r : Record). host_with b.address b.host b.port b.options r) output
 
 same_host : (words : List (List ℕ)) (a b : HostWords) → IsHost a words → IsHost b words → a ≡ b
 same_host words a b x y =

@@ -10,7 +10,7 @@ use Rattle.clap.specs.Walk.{Row, Text, first_of}
 use Rattle.history.specs.declared.limits.TheConstants.{MAX_DURATION_MS}
 use Rattle.rmi_words.proofs.CallPlaces.{call_from, call_passes, call_to, four_words}
 use Rattle.rmi_words.proofs.Found.{AreRead, Takes, answer_takes, bind_takes, call_enters, describe_takes, drill_takes, entered_found, entered_wrong, first_is, found, help_takes, host_takes, journal_takes, list_takes, lookup_takes, read, read_call, replay_takes, serve_takes, show_takes, suid_takes, suidtext_takes, unbind_takes, world_takes, wrong}
-use Rattle.rmi_words.proofs.HostPlaces.{host_from, host_passes, host_to, six_words, three_words}
+use Rattle.rmi_words.proofs.HostPlaces.{host_from, host_passes, host_to, seven_words, three_words}
 use Rattle.rmi_words.proofs.Places.{answer_ack, answer_binding, answer_lease, answer_passes, bare, bare_passes, bind_passes, bind_words, drill_n, drill_passes, drill_seed, help_command, help_passes, journal_n, journal_passes, journal_seed, level_of, list_passes, list_words, lookup_passes, lookup_words, rows_of, serve_ack, serve_binding, serve_count, serve_lease, serve_passes, serve_port, unbind_passes, unbind_words}
 use Rattle.rmi_words.proofs.Walking.{ArePlain}
 use Rattle.rmi_words.specs.Clients.{IsClient, IsToldBy, Reads, count_of_client, named_words, placed_words, word_of_client}
@@ -190,8 +190,8 @@ asked_right words (Serve serve) a =
     ap faults_in a.words_are ∙ wrong serve_entry 2 5 serve_takes ws (plain_serve serve a.port a.count a.rest a.told.port_is a.told.count_is a.told.options_are)
     ∙ serve_passes ws (omega arith) (omega (arith, a.told.options_are.no_more))
 asked_right words (Host host) a =
-    ap faults_in a.words_are ∙ wrong host_entry 3 6 host_takes a.rest (plain_any a.rest a.plain)
-    ∙ host_passes a.rest (three_words host a.rest a.told) (six_words host a.rest a.told)
+    ap faults_in a.words_are ∙ wrong host_entry 3 7 host_takes a.rest (plain_any a.rest a.plain)
+    ∙ host_passes a.rest (three_words host a.rest a.told) (seven_words host a.rest a.told)
 asked_right words (Client c) a = client_right words c a
 asked_right words (Call call) a =
     ap faults_in a.words_are ∙ entered_wrong call_entry call_enters a.rest (plain_any a.rest a.plain) ∙ call_passes a.rest (four_words call.method a.rest a.method_is)
@@ -309,7 +309,7 @@ module _ (words : List (List ℕ)) (plain : ArePlain words) (right : faults_in w
   found_asked (Serve serve) g = let h = named _ g.0 in serve_to serve words h.0 p.1 h.1 (read serve_entry 2 5 serve_takes words h.0 p plain right is h.1) g.1
   found_asked (Host host) g =
       let h = named _ g.0 in
-      let r = read host_entry 3 6 host_takes words h.0 p plain right is h.1 in record {
+      let r = read host_entry 3 7 host_takes words h.0 p plain right is h.1 in record {
         rest = h.0;
         words_are = h.1;
         plain = any_plain h.0 r.plain;
@@ -376,7 +376,7 @@ asked_found words (Serve serve) a =
     }
 asked_found words (Host host) a = record {
   rows = rows_of host_entry a.rest;
-  is = ap found_in a.words_are ∙ found host_entry 3 6 host_takes a.rest (plain_any a.rest a.plain);
+  is = ap found_in a.words_are ∙ found host_entry 3 7 host_takes a.rest (plain_any a.rest a.plain);
   told = host_from host a.rest a.told;
 }
 asked_found words (Client c) a =

@@ -37,7 +37,7 @@ pub serve_takes : Takes serve_entry 2 5
 unfolding walked
 serve_takes = record { enters = record { met = refl; turn = refl; is_there = λ ws. refl; fault = λ ws. refl; rows = λ ws. refl }; fits = serve_fits }
 
-pub host_takes : Takes host_entry 3 6
+pub host_takes : Takes host_entry 3 7
 unfolding walked
 host_takes = record { enters = record { met = refl; turn = refl; is_there = λ ws. refl; fault = λ ws. refl; rows = λ ws. refl }; fits = host_fits }
 

@@ -49,6 +49,9 @@ lease_word = free (codes "LEASE") (codes "the longest lease that is granted, in 
 abbrev pub ack_word : Word
 ack_word = free (codes "ACK") (codes "how long a returned reference waits for its acknowledgement, in milliseconds: 1 to 1099511627776 (300000)")
 
+abbrev pub record_word : Word
+record_word = free (codes "RECORD") (codes "what is printed: silent, what is exported at the end, or journal, all events as they are made (silent)")
+
 abbrev pub port_word : Word
 port_word = needed (codes "PORT") (codes "the port to listen on: 1 to 65535")
 
@@ -83,7 +86,7 @@ abbrev pub method_word : Word
 method_word = needed (codes "METHOD") (codes "the method's name, the types of its parameters and of its result: add(J)J")
 
 abbrev pub arg_word : Word
-arg_word = repeated (codes "ARG") (codes "an argument for each parameter: Z true or false, B S I J C a number (~5 is minus 5), L a string")
+arg_word = repeated (codes "ARG") (codes "an argument for each parameter: Z true or false, B S I J a number (~5 is minus 5), C a number (65 is A), L a string")
 
 abbrev pub command_word : Word
 command_word = free (codes "COMMAND") (codes "the command to explain (all commands)")
@@ -109,8 +112,8 @@ serve_entry = record {
 abbrev pub host_entry : Entry
 host_entry = record {
   name = codes "host";
-  words = address_word ∷ own_host_word ∷ port_word ∷ binding_word ∷ lease_word ∷ ack_word ∷ [];
-  does = codes "listens on ADDRESS:PORT, serves connections over one object table until the standard input ends, and prints what is exported then";
+  words = address_word ∷ own_host_word ∷ port_word ∷ binding_word ∷ lease_word ∷ ack_word ∷ record_word ∷ [];
+  does = codes "listens on ADDRESS:PORT and serves connections over one object table until the standard input ends";
   example = codes "rmi host 0.0.0.0 localhost 1099 open";
 }
 

@@ -5,7 +5,7 @@ use Rattle.clap.specs.declared.ArgMatches.{ArgMatches}
 use Rattle.rmi_words.specs.CallWords.{AreArguments, IsMethodOf}
 use Rattle.rmi_words.specs.Clients.{IsNamedIn, IsToldBy, named_words, word_of_client}
 use Rattle.rmi_words.specs.Command.{AreInRange, word_of_output, word_of_text, words_of_topic}
-use Rattle.rmi_words.specs.HostWords.{IsAddress, IsOwnHost}
+use Rattle.rmi_words.specs.HostWords.{IsAddress, IsOwnHost, IsRecordOf}
 use Rattle.rmi_words.specs.Options.{IsBindingOf, IsDurationOf, IsSmallOf, default_options}
 use Rattle.rmi_words.specs.declared.call_words.CallWords.{CallWords}
 use Rattle.rmi_words.specs.declared.host_words.HostWords.{HostWords}
@@ -58,6 +58,7 @@ pub record IsHostOf (host : HostWords) (value : Values) : Type 0 where
   pub host_is : IsOwnHost host.host (value (codes "HOST"))
   pub port_is : IsSmallOf host.port (value (codes "PORT"))
   pub options_are : AreOptionsOf host.options value
+  pub output_is : IsRecordOf host.output (value (codes "RECORD"))
 
 -- The numbers of a drill.
 pub record IsDrillOf (seed rounds : ℕ) (value : Values) : Type 0 where

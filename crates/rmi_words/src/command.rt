@@ -11,7 +11,7 @@ pub enum Command {
     Answer(LeaseOptions),
     /// `serve PORT COUNT [BINDING] [LEASE] [ACK]`: serve this many links at this port, on these options.
     Serve(ServeWords),
-    /// `host ADDRESS HOST PORT [BINDING] [LEASE] [ACK]`: serve links at this address and port until the input ends, on these options.
+    /// `host ADDRESS HOST PORT [BINDING] [LEASE] [ACK] [RECORD]`: serve links at this address and port until the input ends, on these options.
     Host(HostWords),
     /// `list`, `lookup`, `bind` or `unbind`: ask this of a server.
     Client(ClientCommand),

@@ -1,7 +1,8 @@
 //! The words of `host`.
 ghost use Rattle.std.specs.Prelude.{◌≡◌, codes, option_map, IfOk};
+ghost use Rattle.journal.specs.Reading.{Finds};
 ghost use Rattle.rmi_words.specs.Clients.{Reads};
-ghost use Rattle.rmi_words.specs.HostWords.{IsAddress, IsOwnHost};
+ghost use Rattle.rmi_words.specs.HostWords.{IsAddress, IsOwnHost, IsRecordOf};
 ghost use Rattle.rmi_words.specs.Values.{IsCommandOf, given_of};
 
 use crate::command::{Command, WordsFault};
@@ -46,6 +47,15 @@ impl Address {
     }
 }
 
+/// What `host` prints.
+#[derive(Clone, Copy, Debug, PartialEq, Eq)]
+pub enum Record {
+    /// `silent`: what is exported at the end.
+    Silent,
+    /// `journal`: a journal of all events, as they are made.
+    Journal,
+}
+
 /// The words of `host`.
 #[derive(Debug)]
 pub struct HostWords {
@@ -57,6 +67,8 @@ pub struct HostWords {
     pub port: u16,
     /// The options on which links are served.
     pub options: LeaseOptions,
+    /// What is printed.
+    pub output: Record,
 }
 
 // Written out, so that whoever owns one has one call at each exit, and not the drop of each field.
@@ -67,6 +79,7 @@ impl Drop for HostWords {
             host,
             port: _,
             options: _,
+            output: _,
         } = self;
         drop(address);
         drop(host);
@@ -85,6 +98,10 @@ pub(crate) fn read_host(alloc: Global, values: &ArgMatches) -> Result<Command, W
         Some(options) => options,
         None => return Err(WordsFault::Usage),
     };
+    let output = match read_record(values.get_str("RECORD")) {
+        Some(output) => output,
+        None => return Err(WordsFault::Usage),
+    };
     let address = read_address(alloc, values.get_str("ADDRESS"))?;
     let host = read_own_host(alloc, values.get_str("HOST"))?;
     Ok(Command::Host(HostWords {
@@ -92,7 +109,19 @@ pub(crate) fn read_host(alloc: Global, values: &ArgMatches) -> Result<Command, W
         host,
         port,
         options,
+        output,
     }))
+}
+
+/// Returns what is printed, as the word `silent` or `journal` says. Where there is no word, it is `silent`. Any other word gives None.
+fn read_record(word: Option<&str>) -> Option<Record>
+    ensures { Finds IsRecordOf result (option_map (λ text. text.now) word.entry) }
+{
+    match word {
+        Some("journal") => Some(Record::Journal),
+        Some("silent") | None => Some(Record::Silent),
+        Some(_) => None,
+    }
 }
 
 /// Returns the address that a word is. The fault is Usage only where it is too long or left out.

@@ -39,7 +39,7 @@ pub use call_words::{Argument, ArgumentList, CallWords};
 pub use client::{ClientCommand, ServerAddress};
 pub use command::{ClassOutput, Command, DrillText, HelpTopic, WordsFault};
 pub use help::help_text;
-pub use host_words::{Address, HostWords};
+pub use host_words::{Address, HostWords, Record};
 pub use numbers::MAX_ROUNDS;
 pub use options::{LeaseOptions, ServeWords};
 pub use table::{CommandEntry, WordEntry, commands, commands_of};

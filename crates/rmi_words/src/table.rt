@@ -55,6 +55,14 @@ const ACK: WordEntry = WordEntry {
     says: "how long a returned reference waits for its acknowledgement, in milliseconds: 1 to 1099511627776 (300000)",
 };
 
+/// The word that says what `host` prints.
+const RECORD: WordEntry = WordEntry {
+    name: "RECORD",
+    required: false,
+    several: false,
+    says: "what is printed: silent, what is exported at the end, or journal, all events as they are made (silent)",
+};
+
 /// The seed of a drill.
 const SEED: WordEntry = WordEntry {
     name: "SEED",
@@ -148,7 +156,7 @@ const ARG: WordEntry = WordEntry {
     name: "ARG",
     required: false,
     several: true,
-    says: "an argument for each parameter: Z true or false, B S I J C a number (~5 is minus 5), L a string",
+    says: "an argument for each parameter: Z true or false, B S I J a number (~5 is minus 5), C a number (65 is A), L a string",
 };
 
 /// The command that is explained.
@@ -175,8 +183,8 @@ static COMMANDS: [CommandEntry; 17] = [
     },
     CommandEntry {
         name: "host",
-        words: &[ADDRESS, OWN_HOST, PORT, BINDING, LEASE, ACK],
-        does: "listens on ADDRESS:PORT, serves connections over one object table until the standard input ends, and prints what is exported then",
+        words: &[ADDRESS, OWN_HOST, PORT, BINDING, LEASE, ACK, RECORD],
+        does: "listens on ADDRESS:PORT and serves connections over one object table until the standard input ends",
         example: "rmi host 0.0.0.0 localhost 1099 open",
     },
     CommandEntry {

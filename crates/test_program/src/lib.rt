@@ -40,6 +40,8 @@ mod object_calls;
 #[cfg(test)]
 mod promptness;
 #[cfg(test)]
+mod recording;
+#[cfg(test)]
 mod replays;
 #[cfg(test)]
 mod served;

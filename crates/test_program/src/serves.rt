@@ -3,9 +3,9 @@ ghost use Rattle.std.specs.Prelude.{◌≤◌, length, IsTrue};
 ghost use Rattle.mod_utf.specs.Utf.{utf};
 
 use crate::hosts::{MemHost, Runs, cut_by, host_of, is_line, must, put, run_line, sink_of};
-use crate::texts::{bytes_of, cut, number_of, numbers_of};
+use crate::texts::{bytes_of, cut, moments_of, number_of, numbers_of};
 use mod_utf::utf::{encoded_len, units_of_ascii};
-use sequence::{ByteList, Kinds, MomentList, Units};
+use sequence::{ByteList, Kinds, Units};
 use std::alloc::Global;
 use std::marker::Model;
 use std::process::Abort;
@@ -65,6 +65,15 @@ fn is_short(host: &Units) -> bool
     encoded_len(host) <= 255
 }
 
+/// What a connection sends, which of its reads and writes fail, and the moments of its clock.
+#[derive(Clone, Copy)]
+struct Sent<'a> {
+    words: &'a str,
+    failing_reads: &'a str,
+    failing_writes: &'a str,
+    moments: &'a str,
+}
+
 /// Connections of which no half failed yet.
 #[derive(Drop)]
 pub(crate) struct Network {
@@ -95,6 +104,17 @@ impl Network {
         self.add_failing(rt, alloc, words, "", "");
     }
 
+    /// Adds a connection that sends these bytes, and whose clock gives these moments.
+    pub(crate) fn add_at(&mut self, rt: &impl Abort, alloc: Global, words: &str, moments: &str) {
+        let sent = Sent {
+            words,
+            failing_reads: "",
+            failing_writes: "",
+            moments,
+        };
+        self.add_sent(rt, alloc, sent);
+    }
+
     /// Adds a connection that sends these bytes, of which the reads and the writes of these indices fail.
     pub(crate) fn add_failing(
         &mut self,
@@ -104,21 +124,31 @@ impl Network {
         failing_reads: &str,
         failing_writes: &str,
     ) {
+        let sent = Sent {
+            words,
+            failing_reads,
+            failing_writes,
+            moments: "",
+        };
+        self.add_sent(rt, alloc, sent);
+    }
+
+    /// Adds a connection.
+    fn add_sent(&mut self, rt: &impl Abort, alloc: Global, sent: Sent) {
         let Ok(host) = units_of_ascii(alloc, b"127.0.0.1") else {
             return must(rt, false, "memory");
         };
         if !is_short(&host) {
             return;
         }
-        let bytes = bytes_of(rt, alloc, words);
         let added = self.links.push(Link {
             source: MemSource::new(
-                bytes,
+                bytes_of(rt, alloc, sent.words),
                 Kinds::new(alloc),
-                numbers_of(rt, alloc, failing_reads),
+                numbers_of(rt, alloc, sent.failing_reads),
             ),
-            sink: MemSink::new(alloc, numbers_of(rt, alloc, failing_writes)),
-            clock: MemClock::new(MomentList::new(alloc)),
+            sink: MemSink::new(alloc, numbers_of(rt, alloc, sent.failing_writes)),
+            clock: MemClock::new(moments_of(rt, alloc, sent.moments)),
             host,
             port: 1234,
         });

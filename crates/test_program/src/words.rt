@@ -2,7 +2,7 @@
 use crate::hosts::{must, words_of};
 use history::Name;
 use rmi_cli::{
-    ClassOutput, ClientCommand, Command, HelpTopic, HostWords, LeaseOptions, ServerAddress,
+    ClassOutput, ClientCommand, Command, HelpTopic, HostWords, LeaseOptions, Record, ServerAddress,
     WordsFault,
 };
 use sequence::Units;
@@ -55,7 +55,12 @@ host 0.0.0.0 h 65536|none
 host 0.0.0.0 h 01|none
 host 0.0.0.0 h 1 open 0|none
 host 0.0.0.0 h 1 silent|none
-host 0.0.0.0 h 1 open 7 8 silent|none
+host 0.0.0.0 h 1 open 7 8 silent|host 0.0.0.0 h 1 true 7 8
+host 0.0.0.0 h 1 closed 7 8 journal|journal of host 0.0.0.0 h 1 false 7 8
+host 0.0.0.0 h 1 open 7 8 Journal|none
+host 0.0.0.0 h 1 open 7 8 loud|none
+host 0.0.0.0 h 1 open 7 8 journal silent|none
+host 0.0.0.0 h 1 journal|none
 host -1 h 1|none
 host 0.0.0.0 -h 1|none
 Host 0.0.0.0 h 1|none
@@ -294,7 +299,11 @@ fn is_host(rt: &impl Abort, alloc: Global, asked: &HostWords, wanted: &str) {
     let address = asked.address.as_str();
     let host = text_of(rt, alloc, &asked.host);
     let port = asked.port;
-    match format!(in alloc; "host {address} {host} {port}") {
+    let word = match asked.output {
+        Record::Silent => "host",
+        Record::Journal => "journal of host",
+    };
+    match format!(in alloc; "{word} {address} {host} {port}") {
         Ok(front) => are_terms(rt, alloc, front.as_str(), &asked.options, wanted),
         Err(_) => must(rt, false, "memory"),
     }

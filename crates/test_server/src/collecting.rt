@@ -1,5 +1,5 @@
 //! The reports of links go to a collector, each when its link has ended.
-ghost use Rattle.std.specs.Prelude.{◌≡◌, ◌≤◌, []};
+ghost use Rattle.std.specs.Prelude.{◌≡◌, ◌≤◌, ◌++◌, []};
 ghost use Rattle.conn_server.specs.Collects.{IsEmpty};
 
 use crate::gates::{Gated, GatedSink, GatedSource};
@@ -7,6 +7,7 @@ use crate::histories::begins_so;
 use crate::servers::{CONFIG, is_short, listener_of, plan_of};
 use crate::texts::must;
 use conn_server::{Begin, Collector, DropsReports, LinkReport, Served, Server, Stop};
+use history::Event;
 use past::Past;
 use sample_app::{SampleCrew, SampleHand, sample_book, sample_space};
 use sequence::Kinds;
@@ -18,12 +19,22 @@ use std::thread::Threads;
 use turn_lock::TurnLock;
 use wire_io::MemClock;
 
+/// Appends the events of a part to a list that exists in proofs alone.
+fn note_part(events: &mut Past<Event>, part: &[Event])
+    ensures { events.new ≡ events.old ++ part.now }
+{
+    for event in part {
+        events.push(event);
+    }
+}
+
 /// Notes the numbers of links in the order in which their reports come, and drops the reports.
 #[derive(Drop)]
 struct NotesNumbers<R> {
     numbers: Kinds,
     reports: Past<R>,
     ticks: Past<Asked>,
+    events: Past<Event>,
 }
 
 impl<I: Drop, O: Drop, T: Drop, H: Drop> Collector<LinkReport<I, O, T, H>>
@@ -33,15 +44,24 @@ impl<I: Drop, O: Drop, T: Drop, H: Drop> Collector<LinkReport<I, O, T, H>>
     ghost collected = { λ n. record {
       reports = n.reports;
       ticks = n.ticks;
+      events = n.events;
       report_limit = length n.reports + 2 ^ 64;
       tick_limit = length n.ticks + 2 ^ 64;
     } };
 
     ghost expects = { λ n report. Unit {0} };
 
+    ghost holds = { λ n. Unit {0} };
+
+    ghost Stays = { Unit {0} };
+
+    ghost stays = { λ n. tt };
+
     fn reserve(&mut self, _reports: usize) -> bool {
         true
     }
+
+    fn began(&mut self, _by: u32) {}
 
     fn ended(&mut self, report: LinkReport<I, O, T, H>) {
         let _noted = self.numbers.push(report.by);
@@ -52,6 +72,10 @@ impl<I: Drop, O: Drop, T: Drop, H: Drop> Collector<LinkReport<I, O, T, H>>
     fn ticked(&mut self, entry: Asked) {
         self.ticks.push(&entry);
         drop(entry);
+    }
+
+    fn record(&mut self, part: &[Event]) {
+        note_part(&mut self.events, part);
     }
 }
 
@@ -106,6 +130,7 @@ fn reports_come_as_links_end(rt: HostRuntime) {
         numbers: Kinds::new(rt.alloc()),
         reports: Past::new(),
         ticks: Past::new(),
+        events: Past::new(),
     };
     match serve_both(&rt, rt.alloc(), notes) {
         Some(served) => {

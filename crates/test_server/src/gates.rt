@@ -34,6 +34,11 @@ pub(crate) fn are_ended(ended: &Ended, wanted: u64) -> bool {
     false
 }
 
+/// Returns whether the listener was told to stop.
+pub(crate) fn is_told_to_stop(ended: &Ended) -> bool {
+    ended.load(Ordering::SeqCst) >= TOLD
+}
+
 /// A source that gives its bytes once so many halves of other links were shut, and notes when it is shut. It waits for at most `LOOKS` looks, and then
 /// gives none.
 #[derive(Drop)]

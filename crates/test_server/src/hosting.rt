@@ -2,15 +2,16 @@
 ghost use Rattle.std.specs.Prelude.{◌≡◌};
 
 use crate::gates::{Gated, GatedSink, GatedSource};
-use crate::holding::Holding;
+use crate::holding::{Holding, HoldingHand};
+use crate::recording::Noting;
 use crate::servers::{CONFIG, Cases, check_all, is_short, plan_of};
 use crate::telling::{MADE, Recorders, space_with_made};
-use crate::texts::{moments_of, must};
+use crate::texts::{moments_of, must, this_host};
 use call_dispatch::{Crew, Recorded};
-use conn_server::{Begin, DropsReports, Hosted, KeepsReports, Server, Stop};
+use conn_server::{DropsReports, HostBegin, Hosted, KeepsReports, LinkReport, Server, Stop};
 use sample_app::{sample_book, sample_space};
 use sequence::Kinds;
-use space::Space;
+use space::{Space, journal};
 use std::alloc::Global;
 use std::process::Abort;
 use std::sync::Wait;
@@ -18,14 +19,14 @@ use std::thread::Threads;
 use turn_lock::TurnLock;
 use wire_io::MemClock;
 
-/// The reports of links that were kept.
-type Kept<H> = KeepsReports<GatedSource, GatedSink, MemClock, H>;
+/// The reports of links that were kept, and the lines of the events that were handed on.
+type Kept<H> = Noting<KeepsReports<GatedSource, GatedSink, MemClock, H>>;
 
-/// The result of a host whose reports were kept.
+/// The result of a host whose reports were kept, and whose events were noted.
 type HostedBy<H> = Hosted<GatedSource, GatedSink, MemClock, Kept<H>, H>;
 
 /// The moments of the quiet seconds.
-const SECONDS: &str = "300000 300001";
+const SECONDS: &str = "299999 300000 300001";
 
 /// Serves the links over a space until the listener is told to stop; None where there is no memory.
 fn host_over<R: Threads + Wait + Abort + Sync, G: Crew>(
@@ -40,8 +41,9 @@ fn host_over<R: Threads + Wait + Abort + Sync, G: Crew>(
         return None;
     }
     let book = sample_book(alloc).ok()?;
+    let ended = listener.ended()?;
     let mut ticks = MemClock::new(moments_of(rt, alloc, SECONDS));
-    match TurnLock::around(alloc, space) {
+    match TurnLock::recording(alloc, space) {
         Ok((lock, root)) => {
             let server = Server {
                 rt,
@@ -49,9 +51,10 @@ fn host_over<R: Threads + Wait + Abort + Sync, G: Crew>(
                 crew,
                 book: &book,
             };
-            let begin = Begin {
+            let begin = HostBegin {
                 root,
-                collector: KeepsReports::new(alloc),
+                collector: Noting::new(alloc, KeepsReports::new(alloc), ended),
+                record: true,
             };
             Some(server.host(listener, &mut ticks, lock, begin, &plan))
         }
@@ -77,11 +80,53 @@ fn check_live<R: Threads + Wait + Abort + Sync>(rt: &R, alloc: Global) -> Option
     };
     let space = sample_space(alloc, &CONFIG).ok()?;
     let hosted = host_over(rt, alloc, &mut listener, &crew, space)?;
-    let (links, ticks) = hosted.collector.in_order();
-    check_all(rt, alloc, links.as_slice(), LIVE);
     must(rt, hosted.stop == Stop::Told, "stop");
+    check_noted(rt, alloc, &hosted, &sample_space(alloc, &CONFIG).ok()?);
+    let links = hosted.collector.links.as_slice();
+    must(
+        rt,
+        links.starts_with(&[1, 2, 3]) && links.len() == 6,
+        "each begins and ends",
+    );
+    let collector = hosted.collector;
+    let inner = collector.inner;
+    let (links, ticks) = inner.in_order();
+    check_all(rt, alloc, links.as_slice(), LIVE);
     must(rt, ticks.len() == 3, "a tick each");
+    check_calls(rt, alloc, links.as_slice());
     Some(())
+}
+
+/// Looks whether the reports have the peer of each link, and the number of calls that it began: one of the first link, and none of the others.
+fn check_calls(
+    rt: &impl Abort,
+    alloc: Global,
+    links: &[LinkReport<GatedSource, GatedSink, MemClock, HoldingHand>],
+) {
+    let host = this_host(rt, alloc);
+    for link in links {
+        let calls = if link.by == 1 { 1 } else { 0 };
+        must(rt, link.calls == calls, "calls");
+        must(rt, link.peer_host.as_slice() == host.as_slice(), "peer");
+        must(rt, link.peer_port == 1234, "port");
+        must(rt, link.asked.kept().is_none(), "no entries");
+    }
+}
+
+/// Looks whether the events that were handed on are those of the space after the opening's.
+fn check_noted<H>(rt: &impl Abort, alloc: Global, hosted: &HostedBy<H>, opening: &Space) {
+    must(rt, hosted.whole && hosted.collector.whole, "all events");
+    if !opening.is_stored() || !hosted.space.is_stored() {
+        must(rt, false, "stored events");
+        return;
+    }
+    match (journal(alloc, opening), journal(alloc, &hosted.space)) {
+        (Ok(first), Ok(all)) => {
+            let rest = all.as_slice().strip_prefix(first.as_slice());
+            must(rt, rest == Some(hosted.collector.text.as_slice()), "events");
+        }
+        _ => must(rt, false, "memory"),
+    }
 }
 
 #[test]
@@ -89,22 +134,31 @@ fn live_links_are_served_to_their_ends(rt: HostRuntime) {
     must(&rt, check_live(&rt, rt.alloc()).is_some(), "memory");
 }
 
-/// Hosts no client for two seconds, over a space in which a counter was made that awaits its acknowledgement until the moment 300,000; None where there
-/// is no memory.
+/// Hosts no client for three seconds, over a space in which a counter was made that awaits its acknowledgement until the moment 300,000. So a Tick is made
+/// in the second of these seconds alone. None where there is no memory.
 fn check_quiet<R: Threads + Wait + Abort + Sync>(rt: &R, alloc: Global) -> Option<()> {
     let mut quiet = Kinds::new(alloc);
     quiet.push(0).ok()?;
     quiet.push(1).ok()?;
-    let mut listener = Cases::new(alloc).hosted(alloc, quiet, 2)?;
+    quiet.push(2).ok()?;
+    let mut listener = Cases::new(alloc).hosted(alloc, quiet, 3)?;
     let space = space_with_made(alloc)?;
     let hosted = host_over(rt, alloc, &mut listener, &Recorders { alloc }, space)?;
-    let (links, ticks) = hosted.collector.in_order();
     must(rt, hosted.stop == Stop::Told, "stop");
-    must(rt, links.is_empty() && ticks.len() == 2, "two ticks");
+    check_noted(rt, alloc, &hosted, &space_with_made(alloc)?);
+    must(
+        rt,
+        hosted.collector.early && !hosted.tick_missed,
+        "an event before the stop",
+    );
     match &hosted.hand {
         Some(hand) => must(rt, is_told_once(hand.records()), "told once"),
         None => must(rt, false, "a hand"),
     }
+    let collector = hosted.collector;
+    let inner = collector.inner;
+    let (links, ticks) = inner.in_order();
+    must(rt, links.is_empty() && ticks.len() == 1, "one tick");
     Some(())
 }
 
@@ -119,6 +173,22 @@ fn is_told_once(recorded: &[Recorded]) -> bool {
 #[test]
 fn a_lease_ends_in_a_quiet_second(rt: HostRuntime) {
     must(&rt, check_quiet(&rt, rt.alloc()).is_some(), "memory");
+}
+
+/// Hosts no client until the listener is told to stop at once: no event is handed on. None where there is no memory.
+fn check_idle<R: Threads + Wait + Abort + Sync>(rt: &R, alloc: Global) -> Option<()> {
+    let mut listener = Cases::new(alloc).hosted(alloc, Kinds::new(alloc), 0)?;
+    let space = sample_space(alloc, &CONFIG).ok()?;
+    let hosted = host_over(rt, alloc, &mut listener, &Recorders { alloc }, space)?;
+    must(rt, hosted.stop == Stop::Told, "stop");
+    must(rt, hosted.collector.text.is_empty(), "no event");
+    check_noted(rt, alloc, &hosted, &sample_space(alloc, &CONFIG).ok()?);
+    Some(())
+}
+
+#[test]
+fn nothing_happened(rt: HostRuntime) {
+    must(&rt, check_idle(&rt, rt.alloc()).is_some(), "memory");
 }
 
 /// Hosts no client, with reports that are dropped, until the listener is told to stop at once; None where there is no memory.
@@ -140,13 +210,18 @@ fn check_none<R: Threads + Wait + Abort + Sync>(rt: &R, alloc: Global) -> Option
                 crew: &crew,
                 book: &book,
             };
-            let begin = Begin {
+            let begin = HostBegin {
                 root,
                 collector: DropsReports::new(),
+                record: false,
             };
             let hosted = server.host(&mut listener, &mut ticks, lock, begin, &plan);
             must(rt, hosted.stop == Stop::Told, "stop");
-            must(rt, hosted.hand.is_none(), "no hand");
+            must(
+                rt,
+                hosted.hand.is_none() && !hosted.whole,
+                "no hand, no events",
+            );
             Some(())
         }
         Err(_space) => None,

@@ -27,6 +27,8 @@ mod promptly;
 #[cfg(test)]
 mod recorded;
 #[cfg(test)]
+mod recording;
+#[cfg(test)]
 mod replies;
 #[cfg(test)]
 mod rows;

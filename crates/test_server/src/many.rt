@@ -68,7 +68,10 @@ fn check_link<'t, R: Wait + Sync>(
     let front = bytes_of(rt, alloc, "ack number", link.by);
     must(rt, link.sink.bytes().len() > front.len(), "written");
     must(rt, is_told(alloc, link.end, "Ended"), "ended");
-    check_own(rt, alloc, link.by, &link.asked, text);
+    match link.asked.kept() {
+        Some(entries) => check_own(rt, alloc, link.by, entries, text),
+        None => must(rt, false, "kept entries"),
+    }
 }
 
 /// Looks at all links, and whether the space is the one that the events of the history make, one after another.
@@ -87,7 +90,10 @@ fn check_all<'t, R: Wait + Sync>(
 /// Looks whether each link, and the server's own Ticks, were answered so.
 fn check_turns<'t, R: Wait + Sync>(rt: &impl Abort, report: &ReportOf<'t, R>, turns: &[Turn]) {
     for link in report.links.as_slice() {
-        check_answers(rt, &link.asked, turns);
+        match link.asked.kept() {
+            Some(entries) => check_answers(rt, entries, turns),
+            None => must(rt, false, "kept entries"),
+        }
     }
     for tick in report.ticks.as_slice() {
         must(rt, is_defined(tick, turns), "a tick");

@@ -95,8 +95,13 @@ fn check_links<I, O, T, H>(
     text: &str,
 ) {
     for link in links {
-        check_entries(rt, alloc, link.by, &link.asked, lines);
-        check_own(rt, alloc, link.by, &link.asked, text);
+        match link.asked.kept() {
+            Some(entries) => {
+                check_entries(rt, alloc, link.by, entries, lines);
+                check_own(rt, alloc, link.by, entries, text);
+            }
+            None => must(rt, false, "kept entries"),
+        }
     }
 }
 

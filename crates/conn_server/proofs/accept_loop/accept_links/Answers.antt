@@ -25,14 +25,15 @@ admit-requires-clause-few g c κs within =
     let freed = c.join_ended.ensures in
     let count = was.count in
     let count2 = freed.begun in
+    let count3 = c.next_link.ensures.begun in
     let test = c.loop-test.true in
     let few = c.requires.few in
-    omega (arith, count, count2, test, few)
+    omega (arith, count, count2, count3, test, few)
 
 pub returns-in-Some-clause-tied : goal.returns-in-Some-clause-tied
 returns-in-Some-clause-tied g c =
     let same = rw c.in-Some.is at c.admit.ensures.tied in
-    same.0 ∙ (c.join_ended.ensures.ticks ∙ (c.loop.invariant.tied ∙ (ap (λ l. ticks_of l) (sym c.join_ended.ensures.links) ∙ sym same.1)))
+    same.0 ∙ (c.join_ended.ensures.ticks ∙ (c.next_link.ensures.ticks ∙ (c.loop.invariant.tied ∙ (ap (λ l. ticks_of l) (sym (c.join_ended.ensures.links ∙ c.next_link.ensures.links)) ∙ sym same.1))))
 
 pub returns-in-Some-clause-links : goal.returns-in-Some-clause-links
 returns-in-Some-clause-links g c =
@@ -44,14 +45,15 @@ returns-in-Some-clause-links g c =
     let link = accepted_as read_half write_half given c.in-Ok.link in
     let freed = c.join_ended.new.self in
     let here : links_of (shown_all read_half write_half given next.all) ≡ links_of (shown_all read_half write_half given freed.all) = rw c.in-Some.is at c.admit.ensures.links in
-    let same : links_of (shown_all read_half write_half given next.all) ≡ before = here ∙ ap (λ l. links_of l) c.join_ended.ensures.links in
+    let same : links_of (shown_all read_half write_half given next.all) ≡ before = here ∙ ap (λ l. links_of l) (c.join_ended.ensures.links ∙ c.next_link.ensures.links) in
     let count : next.begun ≡ freed.begun = rw c.in-Some.is at c.admit.ensures.count in
     let count2 = c.join_ended.ensures.begun in
+    let count3 = c.next_link.ensures.begun in
     let counter = was.count in
     let test = c.loop-test.true in (
       link ∷ [],
       one_more told (g.L.Listener.listening c.loop.listener).accepted (g.L.Listener.listening c.next_link.new.listener).accepted before link was.links c.in-Ok.ensures.accepts.0 ∙ ap (λ l. with_all told (l ++ link ∷ [])) (sym same),
-      (omega (arith, count, count2, counter, test), refl),
+      (omega (arith, count, count2, count3, counter, test), refl),
       rw c.in-Some.is at c.admit.ensures.lost,
     )
 
@@ -65,16 +67,17 @@ loop-preserved g c =
     let link = accepted_as read_half write_half given c.in-Ok.link in
     let freed = c.join_ended.new.self in
     let here : links_of (shown_all read_half write_half given next.all) ≡ links_of (shown_all read_half write_half given freed.all) ++ link ∷ [] = rw c.in-None.is at c.admit.ensures.links in
-    let longer : links_of (shown_all read_half write_half given next.all) ≡ before ++ link ∷ [] = here ∙ ap (λ l. links_of l ++ link ∷ []) c.join_ended.ensures.links in
+    let longer : links_of (shown_all read_half write_half given next.all) ≡ before ++ link ∷ [] = here ∙ ap (λ l. links_of l ++ link ∷ []) (c.join_ended.ensures.links ∙ c.next_link.ensures.links) in
     let count : next.begun ≡ freed.begun + 1 = rw c.in-None.is at c.admit.ensures.count in
     let count2 = c.join_ended.ensures.begun in
+    let count3 = c.next_link.ensures.begun in
     let counter = was.count in
     let faults = was.faults in
     let faults2 = c.in-Ok.ensures.accepts.1 in
     record {
       is = c.admit.ensures.accepting;
-      count = omega (arith, count, count2, counter);
-      tied = ticks_same _ _ _ _ (c.join_ended.ensures.ticks ∙ (was.tied ∙ ap (λ l. ticks_of l) (sym c.join_ended.ensures.links))) (rw c.in-None.is at c.admit.ensures.tied);
+      count = omega (arith, count, count2, count3, counter);
+      tied = ticks_same _ _ _ _ (c.join_ended.ensures.ticks ∙ (c.next_link.ensures.ticks ∙ (was.tied ∙ ap (λ l. ticks_of l) (sym (c.join_ended.ensures.links ∙ c.next_link.ensures.links))))) (rw c.in-None.is at c.admit.ensures.tied);
       links = one_more told (g.L.Listener.listening c.loop.listener).accepted (g.L.Listener.listening c.next_link.new.listener).accepted before link was.links c.in-Ok.ensures.accepts.0 ∙ ap (with_all told) (sym longer);
       faults = omega (arith, faults, faults2);
       ports = c.in-Ok.ensures.ports ∙ was.ports;

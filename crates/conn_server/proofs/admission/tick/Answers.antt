@@ -5,9 +5,9 @@ use Rattle.wire_io.specs.Wire.{Gave}
 use Rattle.space.specs.declared.asked.Asked.{Asked}
 use Rattle.turn_lock.specs.Handles.{view_of}
 use Rattle.turn_lock.specs.PassPorts.{PassWent}
-use Rattle.call_dispatch.specs.Acts.{Call, TellsMore, LeadsStates}
+use Rattle.call_dispatch.specs.Acts.{TellsMore, LeadsStates}
 use Rattle.conn_server.specs.Made.{told_of}
-use Rattle.conn_server.proofs.Ticks.{end_there, entry_there, place_there, told_there}
+use Rattle.conn_server.proofs.Ticks.{end_there, entry_there, place_there}
 use Rattle.conn_server.proofs.admission.tick.Goals as goal
 
 pub returns-clause-went : goal.returns-clause-went
@@ -43,18 +43,3 @@ returns-clause-state g c =
 
 pub returns-clause-moment : goal.returns-clause-moment
 returns-clause-moment g c = (c.now-moment.result, c.now-moment.ensures.given)
-
-pub returns-clause-once : goal.returns-clause-once
-returns-clause-once g c =
-    let moment = c.now-moment.result in
-    (moment, c.now-moment.ensures.given, entry_there (λ entry. entry.moment ≡ moment) moment Tick c.turn-answer.result.0 c.tick_entry.result c.tick_entry.ensures refl)
-
-pub returns-clause-all_seen : goal.returns-clause-all_seen
-returns-clause-all_seen g c =
-    let same = told_there c.now-moment.result c.turn-answer.result.0 c.tick_entry.result c.tick_entry.ensures in
-    subst (λ (l : List Call). TellsMore (g.H.Worker.shown c.args.hand.now).seen l (g.H.Worker.shown c.tell_answer.new.hand).seen) (sym same) c.tell_answer.ensures.seen
-
-pub returns-clause-all_state : goal.returns-clause-all_state
-returns-clause-all_state g c =
-    let same = told_there c.now-moment.result c.turn-answer.result.0 c.tick_entry.result c.tick_entry.ensures in
-    subst (λ (l : List Call). LeadsStates g.H.Worker.moves (g.H.Worker.shown c.args.hand.now).state l (g.H.Worker.shown c.tell_answer.new.hand).state) (sym same) c.tell_answer.ensures.state

@@ -1,5 +1,6 @@
-use Rattle.std.proofs.Common.{◌≡◌, ◌∙◌, ap, subst, sym, ℕ, ◌++◌, length}
-use Rattle.turn_lock.specs.Handles.{IsFresh}
+use Rattle.std.proofs.Common.{◌≡◌, ◌∙◌, ap, subst, sym, ℕ, ◌++◌, length, true≢false}
+use Rattle.std.specs.Prelude.{Option, IfSome}
+use Rattle.turn_lock.specs.Handles.{IsFresh, opening_of}
 use Rattle.turn_lock.specs.declared.handles.Root.{Root}
 use Rattle.conn_server.specs.Accepts.{links_of, reports_of, shown_all, ticks_of, with_all}
 use Rattle.conn_server.specs.Made.{shown_admitted}
@@ -20,8 +21,9 @@ accept_links-stop-requires-clause-accepting g c κs within =
     let link = link_of read_half write_half given shown may moves shared.book.now shared.plan.now in
     first_accepting _ _ _ _ _ shared.lock.now shared.book.now _
     (subst (λ (r : Root). IsFresh shared.lock.now r) (sym made.root) c.requires.fresh) made.begun made.live made.all
-    (rw made.collector c.requires.empty)
+    (rw made.collector c.requires.empty) (λ host. absurd (true≢false (sym made.keeps ∙ host)))
     (λ k admitted report for_it talked by. rw made.collector (c.requires.expects k (shown_admitted read_half write_half given admitted) report (link k admitted report for_it talked by)))
+    (subst (λ (next : Option ℕ). IfSome next (λ n. n ≡ length (opening_of shared.lock.now).events)) (sym made.handed) tt)
 
 pub returns-clause-served : goal.returns-clause-served
 returns-clause-served g c =

@@ -113,4 +113,4 @@ returns-in-Class-clause-class_exact g c output is =
 
 pub returns-in-Host-clause-hosts : goal.returns-in-Host-clause-hosts
 returns-in-Host-clause-hosts g c asked is =
-    hosts_named _ _ _ _ _ _ c.in-Host.asked asked _ _ _ _ c.in-Host.is is (c.host_input-end.ensures.hosts _ c.in-Host.asked c.host_parts-parts.ensures.are) c.report_end-in-Host.ensures.told
+    hosts_named _ _ _ _ _ _ c.in-Host.asked asked _ _ (g.E.Sink.half c.args.host.now.errors) (g.E.Sink.half c.host_input-ended.new.host.errors) (g.E.Sink.half c.report_host.new.errors) _ _ _ c.in-Host.is is (c.host_input-ended.ensures.hosts _ c.in-Host.asked c.host_parts-parts.ensures.are) (c.report_host.ensures.told _)

@@ -1,6 +1,6 @@
-use Rattle.std.proofs.Common.{true≢false, sym, ◌∙◌}
+use Rattle.std.proofs.Common.{true≢false, inr, sym, ◌∙◌}
 use Rattle.rmi_cli.specs.Told.{told_by}
-use Rattle.rmi_cli.proofs.Telling.{took, told_so, told_wanting}
+use Rattle.rmi_cli.proofs.Telling.{took, told_so}
 use Rattle.rmi_cli.proofs.program.report_end.Goals as goal
 
 pub returns-in-Ok-clause-told : goal.returns-in-Ok-clause-told
@@ -9,6 +9,4 @@ returns-in-Ok-clause-told g c =
     (took c.put_all.result (told_by g.E.Sink.half c.args.errors.now c.put_all.new.sink c.status-in-Ok.result) c.as_bytes.result.now c.put_all.ensures.ok c.put_all.ensures.sent c.put_all.ensures.fault)
 
 pub returns-clause-told : goal.returns-clause-told
-returns-clause-told g c =
-    told_wanting (told_by g.E.Sink.half c.args.errors.now c.put_all-in-Err.new.sink c.status-in-Err.result) c.args.end (λ same. true≢false (sym (c.if-is_silent.ensures.1 same))) c.status-in-Err.ensures
-    (took c.put_all-in-Err.result (told_by g.E.Sink.half c.args.errors.now c.put_all-in-Err.new.sink c.status-in-Err.result) _ c.put_all-in-Err.ensures.ok c.put_all-in-Err.ensures.sent c.put_all-in-Err.ensures.fault)
+returns-clause-told g c = inr (λ same. true≢false (sym (c.if-is_silent.ensures.1 same)), c.report_memory.ensures.told)

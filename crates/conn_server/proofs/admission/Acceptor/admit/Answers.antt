@@ -3,7 +3,7 @@ use Rattle.wire_io.specs.Links.{accepted_as}
 use Rattle.conn_server.specs.Accepts.{shown_all, links_of, ticks_of}
 use Rattle.conn_server.specs.Made.{IsHandFor, shown_admitted}
 use Rattle.conn_server.proofs.Listening.{links_on, ticks_on}
-use Rattle.conn_server.proofs.Taking.{same_accepting}
+use Rattle.conn_server.proofs.Taking.{follows_on, follows_same, same_accepting}
 use Rattle.conn_server.proofs.admission.Acceptor.admit.Goals as goal
 
 pub returns-in_default-clause-accepting : goal.returns-in_default-clause-accepting
@@ -76,3 +76,13 @@ returns-in-Ok-clause-links g c =
 
 pub returns-in-Ok-clause-count : goal.returns-in-Ok-clause-count
 returns-in-Ok-clause-count g c = c.start_link.ensures.count ∙ ap (λ n. n + 1) (c.prepare_link.ensures.links.begun ∙ c.reserve_link-ready.ensures.same.begun)
+
+pub returns-in_default-clause-follows : goal.returns-in_default-clause-follows
+returns-in_default-clause-follows g c = follows_same _ _ _ _ c.reserve_link-ready.ensures.same
+
+pub returns-in-Err-clause-follows : goal.returns-in-Err-clause-follows
+returns-in-Err-clause-follows g c = follows_on c.args.self.now c.reserve_link-ready.new.self c.prepare_link.new.self (follows_same _ _ _ _ c.reserve_link-ready.ensures.same) c.prepare_link.ensures.follows
+
+pub returns-in-Ok-clause-follows : goal.returns-in-Ok-clause-follows
+returns-in-Ok-clause-follows g c =
+    follows_on c.args.self.now c.prepare_link.new.self c.start_link.new.self (follows_on c.args.self.now c.reserve_link-ready.new.self c.prepare_link.new.self (follows_same _ _ _ _ c.reserve_link-ready.ensures.same) c.prepare_link.ensures.follows) c.start_link.ensures.follows

@@ -1,5 +1,6 @@
 use Rattle.std.specs.Prelude.{◌≡◌}
-use Rattle.conn_server.specs.Accepts.{IsAccepting, shown_all}
+use Rattle.conn_server.specs.Accepts.{Follows, IsAccepting, shown_all}
+use Rattle.conn_server.specs.Collects.{Keeps}
 use Rattle.conn_server.specs.Made.{IsMadeFor}
 use Rattle.conn_server.specs.Talks.{TalksOver}
 use Rattle.conn_server.proofs.admission.Acceptor.join_ended.Given as goal
@@ -13,4 +14,6 @@ invariant-loop g l = record {
   ticks : (g.C.Collector.collected l.self.collector).ticks ≡ (g.C.Collector.collected l.fn.self.collector).ticks;
   links : shown_all g.I.Source.half g.O.Sink.half g.T.Clock.given l.self.all ≡ shown_all g.I.Source.half g.O.Sink.half g.T.Clock.given l.fn.self.all;
   begun : l.self.begun ≡ l.fn.self.begun;
+  follows : Follows l.fn.self l.self;
+  keeps : Keeps g.C.Collector.holds g.C.Collector.stays l.fn.self.collector l.self.collector;
 }

@@ -1,5 +1,7 @@
-use Rattle.std.proofs.Common.{◌∙◌, ◌+◌, ◌∷◌, [], ap, subst, sym, refl, arith, length}
-use Rattle.std.specs.Prelude.{vec_len, vec_capacity}
+use Rattle.std.proofs.Common.{◌∙◌, ◌+◌, ◌∷◌, [], ap, subst, sym, refl, arith, length, rules}
+use Rattle.std.specs.Prelude.{FitsSigned, vec_len, vec_capacity}
+use Rattle.std.specs.Int.{w32}
+use Rattle.std.proofs.lemmas.Int.{to_z-of_z}
 use Rattle.wire_io.specs.Wire.{Gave}
 use Rattle.conn_server.proofs.Losing.{lost_link}
 use Rattle.conn_server.proofs.Making.{made_for}
@@ -18,12 +20,13 @@ returns-clause-next g c =
     let few = c.requires.few in
     let room = c.requires.room.live_room in
     let room2 = c.requires.room.reports in
+    let fits : FitsSigned w32 c.args.link.port = search rules in
     record {
       accepting = t.accepting;
       few = omega (arith, count, few);
       can = record { told = t.calls ∙ ready.told; peer_host = ready.peer_host; host = ready.host; time = ready.time; drawn = ready.drawn };
       made = made_for g.I.Source.half g.O.Sink.half g.T.Clock.given g.H.Worker.shown g.H.Worker.moves c.args.shared.now.plan.now _ _ c.args.link _ c.of-first.ensures
-          (ap (λ n. n + 1) (sym count)) refl refl c.requires.halves ready.terms
+          (ap (λ n. n + 1) (sym count)) refl refl c.requires.halves refl (to_z-of_z w32 c.args.link.port fits) ready.terms
           (rw c.in-Some.is at t.asked) (rw c.in-Some.is at t.end) (rw c.in-Some.is at t.given)
           (t.number ∙ ready.hand)
           ((g.H.Worker.shown hand).seen, (g.H.Worker.shown hand).state, ready.untold, ready.uncounted, rw c.in-Some.is at t.seen, rw c.in-Some.is at t.state);

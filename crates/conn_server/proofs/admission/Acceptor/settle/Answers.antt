@@ -4,6 +4,7 @@ use Rattle.conn_server.specs.Made.{shown_admitted}
 use Rattle.conn_server.specs.Starts.{IsEndOf, task_of}
 use Rattle.conn_server.specs.Talks.{TalksOver}
 use Rattle.conn_server.specs.declared.link_thread.LinkState.TheVariants.{Ended}
+use Rattle.conn_server.proofs.Ending.{begins_later}
 use Rattle.conn_server.proofs.Taking.{found_live, number_left, settled_accepting, settled_tasks}
 use Rattle.conn_server.proofs.admission.Acceptor.settle.Goals as goal
 
@@ -53,7 +54,7 @@ returns-clause-accepting g c =
     settled_accepting _ _ _ _ _ shared.lock.now shared.book.now c.args.self.now _ c.args.place (c.from.result - 1) x (Ended c.of.result) c.finish-report.result f
     c.requires.accepting done.root.0 done.root.1 done.root.2 done.grown
     (subst (λ r. IsEndOf talked (view_of c.finish-report.new.root.pass) (task_of x) r) (sym c.of.ensures) done.ended) refl (ap (λ r. r ∷ []) c.of.ensures)
-    (omega (arith, number, from)) c.remove-by.ensures.items c.put.ensures refl given.reports given.ticks given.room given.expects
+    (omega (arith, number, from)) c.remove-by.ensures.items c.put.ensures refl given.reports given.ticks given.room given.expects given.events refl refl
 
 pub returns-clause-links : goal.returns-clause-links
 returns-clause-links g c =
@@ -64,3 +65,6 @@ returns-clause-links g c =
     let from = c.from.ensures in
     settled_tasks _ _ _ g.C.Collector.collected g.C.Collector.expects shared.lock.now shared.book.now (λ s. shown_admitted g.I.Source.half g.O.Sink.half g.T.Clock.given (task_of s).admitted) c.args.self.now c.args.place (c.from.result - 1) x (Ended c.of.result) c.put.new.self f
     (omega (arith, number, from)) c.put.ensures refl
+
+pub returns-clause-follows : goal.returns-clause-follows
+returns-clause-follows g c = (begins_later (view_of c.args.self.now.root.pass) (view_of c.finish-report.new.root.pass) c.finish-report.ensures.grown.seen, refl)

@@ -1,38 +1,64 @@
 use Rattle.std.proofs.Common.{arith, refl}
 use Rattle.wire_io.specs.Links.{accepted_as}
-use Rattle.conn_server.proofs.Hosting.{halted_lost, hosting_joined, hosting_link}
+use Rattle.conn_server.proofs.Hosting.{halted_lost, halted_told, hosting_joined, hosting_link, hosting_quiet}
+use Rattle.conn_server.proofs.Keeping.{keeps_on}
 use Rattle.conn_server.proofs.host_loop.Host.take_waited.Goals as goal
 
 pub admit-requires-clause-few : goal.admit-requires-clause-few
 admit-requires-clause-few g c κs within =
     let numbered = c.requires.numbered in
-    let begun = c.join_ended.ensures.begun in
+    let begun = c.catch_up.ensures.begun in
     omega (arith, numbered, begun)
 
 pub returns-in-Some : goal.returns-in-Some
 returns-in-Some g c = record {
+  keeps = keeps_on g.C.Collector.holds g.C.Collector.stays _ _ _ c.catch_up.ensures.keeps c.admit.ensures.keeps;
   goes_on = λ l0 l1 l2 gave_first h w ports.
-      let joined = c.join_ended.ensures in
+      let joined = c.catch_up.ensures in
       let few = c.requires.few in
       let begun = joined.begun in
       let came = rw c.in-Came.is at w in
       let same = came.1 in
       let lost = c.in-Some.ensures in
-      halted_lost _ _ _ _ _ _ _ _ _ _ _ l0 gave_first l1 l2 (accepted_as g.I.Source.half g.O.Sink.half g.T.Clock.given c.in-Came.link) _ c.join_ended.new.self _ _ c.in-Some.lost
-      (hosting_joined _ _ _ _ _ _ _ _ _ _ _ l0 gave_first l1 l1 _ _ _ _ h joined.accepting joined.ticks joined.links joined.begun refl (omega arith) refl)
-      (omega (arith, few, begun)) came.0 (omega (arith, same)) ports lost.accepting lost.tied.0 lost.tied.1 lost.links lost.count lost.lost;
+      halted_lost _ _ _ _ _ _ _ _ _ _ _ l0 gave_first l1 l2 (accepted_as g.I.Source.half g.O.Sink.half g.T.Clock.given c.in-Came.link) _ c.catch_up.new.self _ _ c.in-Some.lost
+      (hosting_joined _ _ _ _ _ _ _ _ _ _ _ l0 gave_first l1 l1 _ _ _ _ h joined.accepting joined.follows joined.ticks joined.links joined.begun refl (omega arith) refl refl)
+      (omega (arith, few, begun)) came.0 (omega (arith, same)) ports came.2 lost.accepting lost.follows lost.tied.0 lost.tied.1 lost.links lost.count lost.lost;
 }
 
 pub returns-in-None : goal.returns-in-None
 returns-in-None g c = record {
+  keeps = keeps_on g.C.Collector.holds g.C.Collector.stays _ _ _ c.catch_up.ensures.keeps c.admit.ensures.keeps;
   goes_on = λ l0 l1 l2 gave_first h w ports.
-      let joined = c.join_ended.ensures in
+      let joined = c.catch_up.ensures in
       let few = c.requires.few in
       let begun = joined.begun in
       let came = rw c.in-Came.is at w in
       let same = came.1 in
       let admitted = c.in-None.ensures in
-      hosting_link _ _ _ _ _ _ _ _ _ _ _ l0 gave_first l1 l2 (accepted_as g.I.Source.half g.O.Sink.half g.T.Clock.given c.in-Came.link) _ c.join_ended.new.self _ _
-      (hosting_joined _ _ _ _ _ _ _ _ _ _ _ l0 gave_first l1 l1 _ _ _ _ h joined.accepting joined.ticks joined.links joined.begun refl (omega arith) refl)
-      (omega (arith, few, begun)) came.0 (omega (arith, same)) ports admitted.accepting admitted.tied admitted.links admitted.count;
+      hosting_link _ _ _ _ _ _ _ _ _ _ _ l0 gave_first l1 l2 (accepted_as g.I.Source.half g.O.Sink.half g.T.Clock.given c.in-Came.link) _ c.catch_up.new.self _ _
+      (hosting_joined _ _ _ _ _ _ _ _ _ _ _ l0 gave_first l1 l1 _ _ _ _ h joined.accepting joined.follows joined.ticks joined.links joined.begun refl (omega arith) refl refl)
+      (omega (arith, few, begun)) came.0 (omega (arith, same)) ports came.2 admitted.accepting admitted.follows admitted.tied admitted.links admitted.count;
+}
+
+pub returns-in-Quiet : goal.returns-in-Quiet
+returns-in-Quiet g c = record {
+  keeps = keeps_on g.C.Collector.holds g.C.Collector.stays _ _ _ c.catch_up.ensures.keeps c.tick_quietly.ensures.keeps;
+  goes_on = λ l0 l1 l2 gave_first h w ports.
+      let joined = c.catch_up.ensures in
+      let quiet = c.tick_quietly.ensures in
+      let none = rw c.in-Quiet.is at w in
+      let same = none.1 in
+      hosting_quiet _ _ _ _ _ _ _ _ _ _ _ l0 gave_first l2 _ _ c.catch_up.new.self _ _ _
+      (hosting_joined _ _ _ _ _ _ _ _ _ _ _ l0 gave_first l1 l2 _ _ _ _ h joined.accepting joined.follows joined.ticks joined.links joined.begun none.0 (omega (arith, same)) ports none.2)
+      quiet.accepting quiet.follows quiet.all quiet.begun (λ t. quiet.quiet gave_first _ t);
+}
+
+pub returns-in-Told : goal.returns-in-Told
+returns-in-Told g c = record {
+  keeps = c.catch_up.ensures.keeps;
+  goes_on = λ l0 l1 l2 gave_first h w ports.
+      let joined = c.catch_up.ensures in
+      let told = rw c.in-Told.is at w in
+      let same = told.1 in
+      halted_told _ _ _ _ _ _ _ _ _ _ _ l0 gave_first l1 l2 _ _ _ _ h joined.accepting joined.follows joined.ticks joined.links joined.begun told.0 (omega (arith, same)) told.2 ports;
 }

@@ -1,18 +1,24 @@
-use Rattle.std.proofs.Common.{rules, subst, sym}
+use Rattle.std.proofs.Common.{◌∙◌, List, refl, rules, subst, sym}
+use Rattle.std.specs.List.Sorted.{IsPermutation}
 use Rattle.history.specs.Steps.{IsLegal}
 use Rattle.history.specs.declared.asks.SpaceConfig.{SpaceConfig}
 use Rattle.space.proofs.CollectLaws.{collects-all}
+use Rattle.space.specs.declared.asked.Asked.{Asked}
+use Rattle.turn_lock.specs.Handles.{opening_of, view_of}
+use Rattle.conn_server.specs.Reports.{AreTurnsOf}
 use Rattle.conn_server.proofs.Closing.{links_reported, no_others, ticks_reported}
+use Rattle.conn_server.proofs.Quiet.{quiet_closed}
 use Rattle.conn_server.proofs.Stopping.{host_without_fault}
 use Rattle.conn_server.proofs.server.Server.host.Goals as goal
 
 pub returns-clause-hosts : goal.returns-clause-hosts
 returns-clause-hosts g c =
-    let s = c.scoped-left.ensures.1.1.0 in
+    let s = c.scoped-left.ensures.1.1.1.0 in
     let o = c.scoped-left.result.2 in
+    let closed = c.close_host in
     let ticks = (g.C.Collector.collected o.collector).ticks in
-    let h = c.close.result in
-    let settled = c.close.ensures.settled in
+    let h = closed.result.space in
+    let settled = closed.ensures.settled in
     record {
       config = settled.same;
       legal = subst (λ (config : SpaceConfig). IsLegal config h.events) (sym settled.same) settled.legal;
@@ -23,16 +29,26 @@ returns-clause-hosts g c =
       missed = s.missed;
       told_links = search rules;
       reported = links_reported _ c.args.lock s.served o.root s.links ticks s.joined h settled;
-      reports = s.reports;
-      ticks = ticks_reported _ c.args.lock s.served o.root s.links ticks s.joined h settled;
-      quiet = search rules;
+      reports = subst (λ l. IsPermutation s.links l) (sym closed.ensures.reports.reports) s.reports;
+      ticks = subst (λ (l : List Asked). AreTurnsOf (opening_of c.args.lock) 0 l h) (sym closed.ensures.ticks) (ticks_reported _ c.args.lock s.served o.root s.links ticks s.joined h settled);
+      quiet = quiet_closed g.G.Hand.Worker.shown g.G.Hand.Worker.moves (opening_of c.args.lock) (view_of o.root.pass).seen h.events o.own.missed closed.result.tick_missed _ _ _ ticks _ o.own.hand _
+          settled.seen closed.ensures.missed closed.ensures.ticks closed.ensures.hand (search rules);
       others = no_others _ c.args.lock s.served o.root s.links ticks s.joined h settled;
-      stopped = search rules;
-      back = s.back;
+      stopped = rw closed.ensures.stop (search rules);
+      back = rw closed.ensures.lost s.back;
+      untold = rw closed.ensures.stop (search rules);
+      handed = closed.ensures.handed;
+      all_handed = closed.ensures.whole;
     }
 
 pub returns-clause-fault : goal.returns-clause-fault
-returns-clause-fault g c = search rules
+returns-clause-fault g c = rw c.close_host.ensures.stop (search rules)
 
 pub returns-clause-all : goal.returns-clause-all
 returns-clause-all g c none = host_without_fault _ (λ is. none (returns-clause-fault g c is))
+
+pub returns-clause-keeps : goal.returns-clause-keeps
+returns-clause-keeps g c =
+    let first = c.scoped-left.ensures.1.1.0 in
+    let then = c.close_host.ensures.keeps in
+    (λ held. then.0 (first.0 held), then.1 ∙ first.1)

@@ -1,0 +1,7 @@
+mod Colons
+mod Fitting
+mod Lending
+mod Putting
+mod Spelling
+mod Taking
+mod Telling

@@ -1,0 +1,10 @@
+use Rattle.std.proofs.Common.{refl}
+use Rattle.rmi_caller.specs.Arguments.{IsTextItem}
+use Rattle.rmi_caller.specs.Texts.{units_of}
+use Rattle.rmi_caller.proofs.Putting.{add_ref}
+use Rattle.rmi_caller.proofs.arguments.Draft.add_text.Goals as goal
+
+pub returns-clause-added : goal.returns-clause-added
+returns-clause-added c =
+    add_ref c.args.self.now c.add_slot.new.self c.in_ok-slot.slot (IsTextItem c.add_slot.new.self.builder (units_of c.args.text.now))
+    (c.in_ok-slot.slot, refl, rw (c.add_slot.ensures.builder) c.in_ok-slot.ensures.put) c.in_ok-add_slot.ensures.items

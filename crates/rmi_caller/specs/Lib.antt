@@ -1,0 +1,8 @@
+pub mod Answers
+pub mod Arguments
+pub mod Calls
+pub mod Errors
+pub mod Exceptions
+pub mod Finding
+pub mod Leasing
+pub mod Texts
