@@ -31,8 +31,7 @@ impl Model for ToldWithdrawals {
 
     ghost view = { λ t. flat_map batch_withdrawals t.batches.items };
 
-    ghost invariant = { λ t. (t.count ≡ length (flat_map batch_withdrawals t.batches.items))
-        × (t.count ≤ 2 ^ 62) };
+    ghost invariant = { λ t. (t.count ≡ length (flat_map batch_withdrawals t.batches.items)) × (t.count ≤ 2 ^ 62) };
 }
 
 impl ToldWithdrawals {

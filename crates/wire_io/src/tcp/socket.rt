@@ -21,7 +21,6 @@ pub(crate) enum Handle {
 }
 
 impl Handle {
-    /// Returns the socket.
     pub(crate) fn stream(&self) -> &TcpStream {
         match self {
             Handle::Own(stream) => stream,
