@@ -77,7 +77,8 @@ pub(crate) fn crew<R: Threads + Wait + Sync>(
     let (mut root, pass) = join(
         rt,
         move || -> Root
-            requires { IsSync R.row × IsRootOf lock.now root × (root.out ≡ out + 1) × (turns ≤ 100000) }
+            requires { IsSync R.row × IsRootOf lock.now root × (root.out ≡ out + 1)
+                × (turns ≤ 100000) }
             ensures { IsRootOf lock.entry.now result × (result.out ≡ out + 1) }
         {
             let _out = out;

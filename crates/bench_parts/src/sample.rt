@@ -88,7 +88,8 @@ fn put_objects(alloc: Global, builder: &mut Builder, nodes: u32) -> Result<(), B
 
 /// The loose nodes of a graph of these sizes, and at least the four before the objects.
 pub fn sample_nodes(alloc: Global, sizes: Sizes) -> Result<Builder, BuildFault>
-    ensures { IfOk result (λ builder. builder ≡ fixed_nodes sizes.bytes ++ objects (sizes.nodes - 4)) }
+    ensures { IfOk result
+        (λ builder. builder ≡ fixed_nodes sizes.bytes ++ objects (sizes.nodes - 4)) }
 {
     let mut builder = fixed_nodes(alloc, sizes.bytes)?;
     put_objects(alloc, &mut builder, sizes.nodes)?;

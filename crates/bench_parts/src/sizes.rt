@@ -25,8 +25,10 @@ fn number_of(word: &str) -> Option<u32>
 
 /// The sizes that a word of nodes and a word of bytes spell; none exactly where one spells none.
 pub fn sizes_of(nodes: &str, bytes: &str) -> Option<Sizes>
-    ensures found { IfSome result (λ sizes. Spells nodes.now sizes.nodes × Spells bytes.now sizes.bytes) }
-    ensures none { IfNone result ((sizes : Asked) → ¬ (Spells nodes.now sizes.nodes × Spells bytes.now sizes.bytes)) }
+    ensures found { IfSome result
+        (λ sizes. Spells nodes.now sizes.nodes × Spells bytes.now sizes.bytes) }
+    ensures none { IfNone result
+        ((sizes : Asked) → ¬ (Spells nodes.now sizes.nodes × Spells bytes.now sizes.bytes)) }
 {
     match number_of(nodes) {
         None => None,

@@ -14,10 +14,10 @@ ghost use Rattle.call_dispatch.specs.declared.messages.TheConstants.{MAX_MESSAGE
 
 use crate::answer::write_answer;
 use crate::connection::Connection;
+use crate::dispatch::dispatch_call;
 use crate::end::{ConnEnd, end_of};
 use crate::opening::Opened;
 use crate::returns::Answer;
-use crate::system_calls::dispatch_call;
 use crate::turns::take_turn;
 use crate::worker::Worker;
 use history::{Ask, Refused};

@@ -98,11 +98,14 @@ impl RecordingWorker {
     /// keep both, it returns `OutOfMemory`. In either case the outcome is used up.
     pub fn answer(&mut self, call: Invocation) -> Outcome
         requires few { self.old.calls < 2 ^ 62 }
-        ensures next { (result ≡ head_or Outcome.Void self.old.outcomes.items) ⊎ ((result ≡ Outcome.OutOfMemory) × (self.new.whole ≡ false)) }
+        ensures next { (result ≡ head_or Outcome.Void self.old.outcomes.items)
+            ⊎ ((result ≡ Outcome.OutOfMemory) × (self.new.whole ≡ false)) }
         ensures rest { self.new.outcomes.items ≡ drop 1 self.old.outcomes.items }
         ensures calls { self.new.calls ≡ self.old.calls + 1 }
         ensures number { self.new.number ≡ self.old.number }
-        ensures kept { TellsMore (if self.old.whole then Some (map call_of self.old.recorded.items) else None) (invokes call result ∷ [])
+        ensures kept { TellsMore
+            (if self.old.whole then Some (map call_of self.old.recorded.items) else None)
+            (invokes call result ∷ [])
             (if self.new.whole then Some (map call_of self.new.recorded.items) else None) }
     {
         self.calls += 1;
@@ -127,7 +130,12 @@ impl RecordingWorker {
 }
 
 impl Worker for RecordingWorker {
-    ghost shown = { λ w. record { calls = w.calls; seen = if w.whole then Some (map call_of w.recorded.items) else None; state = None; number = w.number } };
+    ghost shown = { λ w. record {
+      calls = w.calls;
+      seen = if w.whole then Some (map call_of w.recorded.items) else None;
+      state = None;
+      number = w.number;
+    } };
 
     ghost may = { λ call outcome. Unit {0} };
 

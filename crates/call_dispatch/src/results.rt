@@ -35,7 +35,8 @@ pub struct Pending {
 
 /// The interface of a kind's objects, where a method with this result can return one of them.
 pub fn interface_for(book: &Book, result_type: Option<TypeCode>, kind: u32) -> Option<&Units>
-    ensures some { IfSome result (λ interface. (returns_place book.now result_type kind ≡ true) × (interface.now ≡ interface_of book.now kind)) }
+    ensures some { IfSome result (λ interface. (returns_place book.now result_type kind ≡ true)
+        × (interface.now ≡ interface_of book.now kind)) }
     ensures none { IfNone result (returns_place book.now result_type kind ≡ false) }
 {
     let code = result_type?;

@@ -55,8 +55,10 @@ pub enum Prepared {
 pub fn next_uid(setup: &mut Setup) -> Uid
     requires time { setup.old.draw.time <ℤ pos DRAWS_BEGIN_BELOW }
     requires drawn { setup.old.draw.drawn < 2 ^ 65 }
-    ensures uid { result ≡ uid_drawn setup.old.draw.unique setup.old.draw.time setup.old.draw.drawn }
-    ensures drawn { setup.new ≡ record setup.old { draw = record setup.old.draw { drawn = setup.old.draw.drawn + 1 } } }
+    ensures uid { result ≡ uid_drawn setup.old.draw.unique setup.old.draw.time
+        setup.old.draw.drawn }
+    ensures drawn { setup.new
+        ≡ record setup.old { draw = record setup.old.draw { drawn = setup.old.draw.drawn + 1 } } }
 {
     match setup.draw.next() {
         Some(uid) => uid,
@@ -66,7 +68,8 @@ pub fn next_uid(setup: &mut Setup) -> Uid
 
 /// The exceptional Return where an outcome is none of its method.
 fn wrong_outcome(alloc: Global, uid: Uid) -> Result<Prepared, AllocError>
-    ensures prepared { IfOk result (λ prepared. prepared ≡ Prepared.Exceptional (fault_return uid (codes "java.rmi.ServerException: wrong outcome"))) }
+    ensures prepared { IfOk result (λ prepared. prepared ≡ Prepared.Exceptional
+        (fault_return uid (codes "java.rmi.ServerException: wrong outcome"))) }
     ensures ready { IfOk result IsReadyReturn }
 {
     let bytes = exceptional_ascii(alloc, uid, WRONG_OUTCOME)?;
@@ -118,7 +121,8 @@ fn prepare_value(
     result_type: Option<TypeCode>,
     value: Value,
 ) -> Result<Prepared, AllocError>
-    ensures prepares { (terms : Terms) → Prepares terms uid result_type (Outcome.Prim value) result }
+    ensures prepares { (terms : Terms)
+        → Prepares terms uid result_type (Outcome.Prim value) result }
     ensures ready { IfOk result IsReadyReturn }
 {
     let suits = returns_value(result_type, value);
@@ -154,7 +158,8 @@ fn prepare_tree(
     result_type: Option<TypeCode>,
     graph: Graph,
 ) -> Result<Prepared, AllocError>
-    ensures prepares { (kinds : List Kind) → Prepares (terms_of kinds setup.now) uid result_type (Outcome.Tree graph) result }
+    ensures prepares { (kinds : List Kind)
+        → Prepares (terms_of kinds setup.now) uid result_type (Outcome.Tree graph) result }
     ensures ready { IfOk result IsReadyReturn }
 {
     if !returns_graph(result_type, &graph) {
@@ -172,7 +177,8 @@ fn prepare_new(
     result_type: Option<TypeCode>,
     kind: u32,
 ) -> Result<Prepared, AllocError>
-    ensures prepares { (setup : Setup) → Prepares (terms_of book.now setup) uid result_type (Outcome.NewRemote kind) result }
+    ensures prepares { (setup : Setup)
+        → Prepares (terms_of book.now setup) uid result_type (Outcome.NewRemote kind) result }
     ensures ready { IfOk result IsReadyReturn }
 {
     let Some(interface) = interface_for(book, result_type, kind) else {
@@ -196,7 +202,8 @@ fn prepare_old(
     object: ObjId,
     kind: u32,
 ) -> Result<Prepared, AllocError>
-    ensures prepares { Prepares (terms_of book.now setup.now) uid result_type (Outcome.OldRemote object kind) result }
+    ensures prepares { Prepares (terms_of book.now setup.now) uid result_type
+        (Outcome.OldRemote object kind) result }
     ensures ready { IfOk result IsReadyReturn }
 {
     let Some(interface) = interface_for(book, result_type, kind) else {
@@ -212,7 +219,8 @@ fn prepare_old(
 
 /// The exceptional Return of a worker's own message, where it can be sent.
 fn prepare_fault(alloc: Global, uid: Uid, message: &Units) -> Result<Prepared, AllocError>
-    ensures prepares { (terms : Terms) (result_type : Option TypeCode) → Prepares terms uid result_type (Outcome.Fault message.now) result }
+    ensures prepares { (terms : Terms) (result_type : Option TypeCode)
+        → Prepares terms uid result_type (Outcome.Fault message.now) result }
     ensures ready { IfOk result IsReadyReturn }
 {
     let bytes = exceptional(alloc, uid, message)?;

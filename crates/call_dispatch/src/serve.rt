@@ -83,16 +83,17 @@ pub fn serve_connection<S: Source, K: Sink, C: Clock, P: Port, W: Worker>(
     ensures sink_shut { (K.half sink.new).shut ≡ (K.half sink.old).shut }
 
     // Where neither half failed, the end is one that the bytes and the outside's answers show, or there was no memory.
-    ensures settled { NoFault (S.half source.old) (S.half source.new) (K.half sink.old) (K.half sink.new)
-        → IsSettled result ⊎ (result ≡ ConnEnd.OutOfMemory) }
+    ensures settled { NoFault (S.half source.old) (S.half source.new) (K.half sink.old)
+        (K.half sink.new) → IsSettled result ⊎ (result ≡ ConnEnd.OutOfMemory) }
 
     // Where neither half failed, an input of whole messages whose calls all found their objects is answered to its end, or there was no memory.
-    ensures complete { NoFault (S.half source.old) (S.half source.new) (K.half sink.old) (K.half sink.new)
+    ensures complete { NoFault (S.half source.old) (S.half source.new) (K.half sink.old)
+        (K.half sink.new)
         → Completes W.may W.moves (terms_of book.now setup.old)
-        (state_of (S.half source.old) (K.half sink.old) (C.given clock.old)
-        (P.shown port.old) (W.shown worker.old) setup.old)
-        (state_of (S.half source.new) (K.half sink.new) (C.given clock.new)
-        (P.shown port.new) (W.shown worker.new) setup.new) result }
+        (state_of (S.half source.old) (K.half sink.old) (C.given clock.old) (P.shown port.old)
+        (W.shown worker.old) setup.old)
+        (state_of (S.half source.new) (K.half sink.new) (C.given clock.new) (P.shown port.new)
+        (W.shown worker.new) setup.new) result }
 {
     let pull = Pull::new(source);
     let mut connection = Connection {

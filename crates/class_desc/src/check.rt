@@ -118,7 +118,8 @@ pub fn check_desc(desc: &ClassDesc) -> Result<(), DescFault>
 /// Checks that a text names a type of a reference field's code; a primitive code has no type text.
 pub fn check_type_text(code: TypeCode, text: &Units) -> Result<(), DescFault>
     ensures ok { OnOk result (HasTypeText code text.now) }
-    ensures err { IfErr result (λ fault. (fault ≡ DescFault.BadTypeText) × ¬ HasTypeText code text.now) }
+    ensures err { IfErr result
+        (λ fault. (fault ≡ DescFault.BadTypeText) × ¬ HasTypeText code text.now) }
     ensures tested { is_ok result ≡ fits_text code text.now }
 {
     if fits_text(code, text.as_slice()) {

@@ -83,7 +83,8 @@ fn put_field(
     name: &str,
     type_text: &str,
 ) -> Result<(), AllocError>
-    ensures { OnOk result (fields.new ≡ fields.old ++ typed_field code name.now type_text.now ∷ []) }
+    ensures { OnOk result
+        (fields.new ≡ fields.old ++ typed_field code name.now type_text.now ∷ []) }
 {
     fields.push(PartField {
         code,
@@ -163,7 +164,8 @@ fn put_object(
     name: &str,
     type_text: &str,
 ) -> Result<(), AllocError>
-    ensures { OnOk result (fields.new ≡ fields.old ++ typed_field TypeCode.Object name.now type_text.now ∷ []) }
+    ensures { OnOk result
+        (fields.new ≡ fields.old ++ typed_field TypeCode.Object name.now type_text.now ∷ []) }
 {
     put_field(alloc, fields, TypeCode::Object, name, type_text)
 }

@@ -50,11 +50,12 @@ fn bind_on<I: Source, O: Sink>(
     binding: &Binding,
 ) -> Result<(), CommandEnd>
     requires { session.old.is_over ≡ false }
-    ensures talks { (s : Script rmi (Unit {0})) (k : ℕ) (links : List Linked) (given given2 : Option (List ℕ))
+    ensures talks { (s : Script rmi (Unit {0})) (k : ℕ) (links : List Linked)
+        (given given2 : Option (List ℕ))
         → IsAt k links (seen_of (link_of I.half O.half session.old))
         → Stands s links given given2 (binds k binding.now.name binding.now.from)
-        → Talks s (with_seen k (seen_of (link_of I.half O.half session.new)) links)
-        given given2 result }
+        → Talks s (with_seen k (seen_of (link_of I.half O.half session.new)) links) given given2
+        result }
     ensures apart { result ≢ Err CommandEnds.DialFault }
 {
     match session.lookup(&binding.from) {
@@ -70,12 +71,14 @@ fn bind_found<I: Source, O: Sink>(
     name: &Name,
 ) -> Result<(), CommandEnd>
     requires { session.old.is_over ≡ false }
-    ensures talks { (s : Script rmi (Unit {0})) (k : ℕ) (links : List Linked) (given given2 : Option (List ℕ))
+    ensures talks { (s : Script rmi (Unit {0})) (k : ℕ) (links : List Linked)
+        (given given2 : Option (List ℕ))
         → IsAt k links (seen_of (link_of I.half O.half session.old))
-        → Stands s links given given2 (acks k (bytes_of_uid found.0) found.1
+        → Stands s links given given2
+        (acks k (bytes_of_uid found.0) found.1
         (asks k (Bind name.now found.1) (λ finished. done tt)))
-        → Talks s (with_seen k (seen_of (link_of I.half O.half session.new)) links)
-        given given2 result }
+        → Talks s (with_seen k (seen_of (link_of I.half O.half session.new)) links) given given2
+        result }
     ensures apart { result ≢ Err CommandEnds.DialFault }
 {
     let (uid, reference) = found;
@@ -90,12 +93,14 @@ fn bind_acknowledged<I: Source, O: Sink>(
     name: &Name,
 ) -> Result<(), CommandEnd>
     requires { session.old.is_over ≡ false }
-    ensures talks { (s : Script rmi (Unit {0})) (k : ℕ) (links : List Linked) (given given2 : Option (List ℕ))
+    ensures talks { (s : Script rmi (Unit {0})) (k : ℕ) (links : List Linked)
+        (given given2 : Option (List ℕ))
         → IsAt k links (seen_of (link_of I.half O.half session.old))
-        → Stands s links given given2 (acks k (bytes_of_uid uid) reference.now
+        → Stands s links given given2
+        (acks k (bytes_of_uid uid) reference.now
         (asks k (Bind name.now reference.now) (λ finished. done tt)))
-        → Talks s (with_seen k (seen_of (link_of I.half O.half session.new)) links)
-        given given2 result }
+        → Talks s (with_seen k (seen_of (link_of I.half O.half session.new)) links) given given2
+        result }
     ensures apart { result ≢ Err CommandEnds.DialFault }
 {
     match acknowledge(session, uid, reference.result) {
@@ -111,11 +116,12 @@ fn bind_to<I: Source, O: Sink>(
     reference: &LiveRef,
 ) -> Result<(), CommandEnd>
     requires { session.old.is_over ≡ false }
-    ensures talks { (s : Script rmi (Unit {0})) (k : ℕ) (links : List Linked) (given given2 : Option (List ℕ))
+    ensures talks { (s : Script rmi (Unit {0})) (k : ℕ) (links : List Linked)
+        (given given2 : Option (List ℕ))
         → IsAt k links (seen_of (link_of I.half O.half session.old))
         → Stands s links given given2 (asks k (Bind name.now reference.now) (λ finished. done tt))
-        → Talks s (with_seen k (seen_of (link_of I.half O.half session.new)) links)
-        given given2 result }
+        → Talks s (with_seen k (seen_of (link_of I.half O.half session.new)) links) given given2
+        result }
     ensures apart { result ≢ Err CommandEnds.DialFault }
 {
     if encoded_len(&reference.host) > 65_535 {
@@ -178,7 +184,8 @@ pub fn bind<D: Dialer>(
     place: &Place,
     binding: &Binding,
 ) -> Result<(), CommandEnd>
-    ensures spoke { (given : Option (List ℕ)) → Spoke (bind_script place.now binding.now.name binding.now.from)
+    ensures spoke { (given : Option (List ℕ))
+        → Spoke (bind_script place.now binding.now.name binding.now.from)
         (D.dialing dialer.old).dialed (D.dialing dialer.new).dialed
         (map (ended_as D.In.half D.Out.half) talked.old.items)
         (map (ended_as D.In.half D.Out.half) talked.new.items) given given result }

@@ -22,9 +22,10 @@ use wire_io::{Clock, Sink, Source};
 
 /// The references that a client holds at a server.
 pub(crate) struct Leases {
+    /// Where they take memory.
     pub(crate) alloc: Global,
     table: ClientTable,
-    /// For how many milliseconds a lease is asked for.
+    /// The duration that a dirty call asks for, in milliseconds.
     asked: i64,
 }
 

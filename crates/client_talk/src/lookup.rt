@@ -31,11 +31,12 @@ fn look_up_on<I: Source, O: Sink>(
     name: &Name,
 ) -> Result<LiveRef, CommandEnd>
     requires { session.old.is_over ≡ false }
-    ensures talks { (s : Script rmi LiveRefs) (k : ℕ) (links : List Linked) (given given2 : Option (List ℕ))
+    ensures talks { (s : Script rmi LiveRefs) (k : ℕ) (links : List Linked)
+        (given given2 : Option (List ℕ))
         → IsAt k links (seen_of (link_of I.half O.half session.old))
         → Stands s links given given2 (lookups k name.now)
-        → Talks s (with_seen k (seen_of (link_of I.half O.half session.new)) links)
-        given given2 result }
+        → Talks s (with_seen k (seen_of (link_of I.half O.half session.new)) links) given given2
+        result }
     ensures apart { result ≢ Err CommandEnds.DialFault }
 {
     match session.lookup(name) {
@@ -50,11 +51,12 @@ fn keep<I: Source, O: Sink>(
     found: (Uid, LiveRef),
 ) -> Result<LiveRef, CommandEnd>
     requires { session.old.is_over ≡ false }
-    ensures talks { (s : Script rmi LiveRefs) (k : ℕ) (links : List Linked) (given given2 : Option (List ℕ))
+    ensures talks { (s : Script rmi LiveRefs) (k : ℕ) (links : List Linked)
+        (given given2 : Option (List ℕ))
         → IsAt k links (seen_of (link_of I.half O.half session.old))
         → Stands s links given given2 (acks k (bytes_of_uid found.0) found.1 (done found.1))
-        → Talks s (with_seen k (seen_of (link_of I.half O.half session.new)) links)
-        given given2 result }
+        → Talks s (with_seen k (seen_of (link_of I.half O.half session.new)) links) given given2
+        result }
     ensures apart { result ≢ Err CommandEnds.DialFault }
 {
     let (uid, reference) = found;

@@ -49,7 +49,8 @@ pub(crate) fn begin<I: Source + Drop, O: Sink + Drop, T: Drop>(
     link: Link<I, O, T>,
 ) -> Result<Session<I, O>, Refusal<I, O>>
     ensures begins { IfOk result (λ session. Begins {A = Unit {0}} link.host
-        (link_at (I.half link.source) (O.half link.sink) 0) (link_of I.half O.half session) (Ok tt)) }
+        (link_at (I.half link.source) (O.half link.sink) 0) (link_of I.half O.half session)
+        (Ok tt)) }
     ensures open { IfOk result (λ session. session.is_over ≡ false) }
     ensures refuses { IfErr result (λ refusal. (at : ℕ) × Begins {A = Unit {0}} link.host
         (link_at (I.half link.source) (O.half link.sink) 0)

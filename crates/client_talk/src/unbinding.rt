@@ -22,11 +22,12 @@ use wire_io::{Dialer, Halves, Link, Sink, Source};
 /// Unbinds a name of the registry over a session.
 fn unbind_on<I: Source, O: Sink>(session: &mut Session<I, O>, name: &Name) -> Result<(), CommandEnd>
     requires { session.old.is_over ≡ false }
-    ensures talks { (s : Script rmi (Unit {0})) (k : ℕ) (links : List Linked) (given given2 : Option (List ℕ))
+    ensures talks { (s : Script rmi (Unit {0})) (k : ℕ) (links : List Linked)
+        (given given2 : Option (List ℕ))
         → IsAt k links (seen_of (link_of I.half O.half session.old))
         → Stands s links given given2 (unbinds k name.now)
-        → Talks s (with_seen k (seen_of (link_of I.half O.half session.new)) links)
-        given given2 result }
+        → Talks s (with_seen k (seen_of (link_of I.half O.half session.new)) links) given given2
+        result }
     ensures apart { result ≢ Err CommandEnds.DialFault }
 {
     match session.unbind(name) {

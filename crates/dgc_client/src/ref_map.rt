@@ -65,7 +65,8 @@ pub fn append(refs: &mut RefMap, object: &ObjId, since: &i64) -> Result<(), Allo
     ensures ok { OnOk result (refs_in refs.new.entries
         ≡ refs_in refs.old.entries ++ new_ref object.now since.now ∷ []) }
     ensures err { OnErr result (refs_in refs.new.entries ≡ refs_in refs.old.entries) }
-    ensures settled { (n : ℕ) → AreSettled n refs.old.entries → AreSettled (n - 1) refs.new.entries }
+    ensures settled { (n : ℕ) → AreSettled n refs.old.entries
+        → AreSettled (n - 1) refs.new.entries }
 {
     refs.shift_remove(object);
     refs.insert(*object, new_kept(since))?;

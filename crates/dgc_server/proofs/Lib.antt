@@ -20,7 +20,7 @@ pub mod Search
 pub mod HolderLaws
 pub mod IndexLaws
 pub mod SumLaws
-pub mod Board
+pub mod BoardLaws
 pub mod Chunked
 pub mod Moving
 pub mod Passing
@@ -36,3 +36,4 @@ pub mod Purging
 pub mod Forgetting
 pub mod OneByOne
 pub mod Together
+pub mod Skipping

@@ -1,10 +1,9 @@
 -- A loop over the clients as time passes: the counts, the sums, and the least end of a lease.
-use Rattle.std.proofs.Common.{◌≡◌, ℕ, ◌+◌, ◌≤◌, ◌<◌, ◌^◌, List, [], ◌∷◌, refl, ap, sym, ◌∙◌, arith, cond, length, map, take, drop, get_or}
+use Rattle.std.proofs.Common.{◌≡◌, ℕ, ◌+◌, ◌≤◌, ◌<◌, ◌^◌, List, [], ◌∷◌, ◌++◌, refl, ap, sym, ◌∙◌, arith, cond, length, map, take, drop, get_or}
 use Rattle.std.specs.Prelude.{min, Bool, true, false, ◌||◌, not, filter, nat_lt, nat_le, sum_by, if◌then◌else◌}
 use Rattle.std.specs.List.{list_all}
 use Rattle.std.proofs.lemmas.Bool.{and_parts, and_from, le-leb, ltb-true}
 use Rattle.std.proofs.lemmas.List.{take-append-drop}
-use Rattle.std.proofs.lemmas.List.Folds.{list_all-append}
 use Rattle.std.proofs.lemmas.List.Sums.{sum_by-cons, sum_by-append, sum_by-take-drop, sum_by-drop_more}
 use Rattle.object_ids.specs.declared.ids.ObjId.{ObjId}
 use Rattle.indexmap.specs.IndexMap.{IndexMap}
@@ -22,7 +21,7 @@ use Rattle.dgc_server.proofs.Kept.{fewer-lapsed}
 use Rattle.dgc_server.proofs.Shares.{still-step}
 use Rattle.dgc_server.proofs.SumLaws.{sums-are}
 use Rattle.dgc_server.proofs.HolderLaws.{drop-gone}
-use Rattle.dgc_server.proofs.IndexLaws.{Bounds, bounds-step, bounds-last, all-earlier}
+use Rattle.dgc_server.proofs.IndexLaws.{Bounds, bounds-step, bounds-last}
 use Rattle.dgc_server.proofs.Chunked.{all-append}
 use Rattle.dgc_server.proofs.Moving.{drop-chunk, drop-end}
 
@@ -179,7 +178,28 @@ passed-ends from to es first tally next n long inv = bounds-last to es next n lo
 
 -- ---- the loop over the chunks
 
-module _ (from to : ℕ) (cs : List Chunk) (first tally : Tally → ℕ) (next i : ℕ) (d : Chunk) (within : i < length cs) (inv : Passing from to (all_of cs) first tally next (all_of (drop i cs))) where
+-- What holds in a loop over the chunks: the clients to come are counted and summed as of the first moment, the others as of the second.
+pub record Tallying (from to : ℕ) (es : List Entry) (first tally : Tally → ℕ) (rest : List Entry) : Type 0 where
+  pub tallies : (k : Tally) → Adds (tally_of k from) (passed_of to k) es (first k) (tally k) rest
+  pub few : (tally Leased ≤ 2 ^ 17) × (tally Pairs ≤ 2 ^ 65)
+
+pub tallying-first : (from to : ℕ) (es : List Entry) (first : Tally → ℕ) → (first Leased ≤ 2 ^ 17) × (first Pairs ≤ 2 ^ 65) → Tallying from to es first first es
+tallying-first from to es first small =
+    let start = passing-first from to es first (to + 1) small (omega arith) in record { tallies = start.tallies; few = small }
+
+-- Clients are passed over, of which nothing is due.
+pub tallying-skipped : (from to : ℕ) (all : List Entry) (first tally : Tally → ℕ) (es rest later : List Entry) → ((k : Tally) → tally_in k from es ≡ tally_in k to (map (entry_after_lapse to) es)) → rest ≡ es ++ later →
+    Tallying from to all first tally rest → Tallying from to all first tally later
+tallying-skipped from to all first tally es rest later same split inv = record {
+  tallies = λ k. adds-part (tally_of k from) (passed_of to k) all (first k) (tally k) (tally k) (tally_in k from es) (sum_by (passed_of to k) es) rest later
+      (inv.tallies k) (parted (tally_of k from)) (parted (passed_of to k)) (ap (λ n. tally k + n) (same k ∙ sym (sum-mapped (tally_of k to) (entry_after_lapse to) es)));
+  few = inv.few;
+}
+  where
+    parted : (f : Entry → ℕ) → sum_by f rest ≡ sum_by f es + sum_by f later
+    parted f = ap (sum_by f) split ∙ sum_by-append f es later
+
+module _ (from to : ℕ) (cs : List Chunk) (first tally : Tally → ℕ) (i : ℕ) (d : Chunk) (within : i < length cs) (inv : Tallying from to (all_of cs) first tally (all_of (drop i cs))) where
   -- The clients of the next chunk.
   abbrev own : List Entry
   own = (get_or cs i d).entries.items
@@ -198,27 +218,20 @@ module _ (from to : ℕ) (cs : List Chunk) (first tally : Tally → ℕ) (next i
       (sym (sum_by-append (passed_of to k) (all_of (take i cs)) (all_of (drop i cs))) ∙ ap (sum_by (passed_of to k)) (sym (all-append (take i cs) (drop i cs)) ∙ ap all_of (take-append-drop i cs)))
 
   -- A chunk whose clients are passed.
-  pub chunk-passed : (result : Tally → ℕ) (least : ℕ) → ((k : Tally) → result k + tally_in k from own ≡ tally k + tally_in k to (map (entry_after_lapse to) own)) →
-      (result Leased ≤ 2 ^ 17) × (result Pairs ≤ 2 ^ 65) → least ≤ next → list_all (ends_later to least) own ≡ true → to < least → Passing from to (all_of cs) first result least later
-  chunk-passed result least moved few lower ends late = record {
+  pub chunk-passed : (result : Tally → ℕ) → ((k : Tally) → result k + tally_in k from own ≡ tally k + tally_in k to (map (entry_after_lapse to) own)) →
+      (result Leased ≤ 2 ^ 17) × (result Pairs ≤ 2 ^ 65) → Tallying from to (all_of cs) first result later
+  chunk-passed result moved few = record {
     tallies = λ k. adds-part (tally_of k from) (passed_of to k) (all_of cs) (first k) (tally k) (result k) (tally_in k from own) (sum_by (passed_of to k) own) (all_of (drop i cs)) later
         (inv.tallies k) (parted (tally_of k from)) (parted (passed_of to k)) (moved k ∙ ap (λ n. tally k + n) (sym (sum-mapped (tally_of k to) (entry_after_lapse to) own)));
     few = few;
-    bounds = λ n le rest. inv.bounds n (omega arith) (ap (list_all (ends_later to n)) (drop-chunk cs i d within) ∙ list_all-append (ends_later to n) own later
-        ∙ and_from (list_all (ends_later to n) own) (list_all (ends_later to n) later) (all-earlier to n least own le ends) rest);
-    later = late;
   }
 
-pub chunks-tallies : (from to : ℕ) (cs : List Chunk) (first tally : Tally → ℕ) (next n : ℕ) → length cs ≤ n → Passing from to (all_of cs) first tally next (all_of (drop n cs)) →
+pub chunks-tallies : (from to : ℕ) (cs : List Chunk) (first tally : Tally → ℕ) (n : ℕ) → length cs ≤ n → Tallying from to (all_of cs) first tally (all_of (drop n cs)) →
     ((k : Tally) → first k ≡ tally_in k from (all_of cs)) → (k : Tally) → tally k ≡ tally_in k to (map (entry_after_lapse to) (all_of cs))
-chunks-tallies from to cs first tally next n long inv exact k =
+chunks-tallies from to cs first tally n long inv exact k =
     let all = exact k in
     let last = adds-last (tally_of k from) (passed_of to k) (all_of cs) (first k) (tally k) (all_of (drop n cs)) (drop-end cs n long) (inv.tallies k) in
     let same = sum-mapped (tally_of k to) (entry_after_lapse to) (all_of cs) in omega arith
-
-pub chunks-ends : (from to : ℕ) (cs : List Chunk) (first tally : Tally → ℕ) (next n : ℕ) → length cs ≤ n → Passing from to (all_of cs) first tally next (all_of (drop n cs)) →
-    list_all (ends_later to next) (all_of cs) ≡ true
-chunks-ends from to cs first tally next n long inv = inv.bounds next (omega arith) (ap (list_all (ends_later to next)) (drop-end cs n long))
 
 -- ---- what an index says of the tallies
 

@@ -1,7 +1,9 @@
 -- The list of clients in chunks: some clients each, that stand together in it.
-use Rattle.std.specs.Prelude.{◌≡◌, ◌<◌, ◌≤◌, ℕ, Bool, IsTrue, List, [], ◌∷◌, ◌++◌, length, nat_lt, slice_set, slice_index_or}
-use Rattle.std.specs.List.{list_all, AllByRecursion}
+use Rattle.std.specs.Prelude.{◌≡◌, ◌<◌, ◌≤◌, ◌+◌, ℕ, Bool, not, IsTrue, List, [], ◌∷◌, ◌++◌, length, map, drop, min, nat_lt, slice_set, slice_index_or}
+use Rattle.std.specs.List.{list_all, prefix_len, AllByRecursion}
 use Rattle.object_ids.specs.Client.{Client}
+use Rattle.lane_kernels.specs.Kernels.{is_due}
+use Rattle.dgc_server.specs.declared.board.Board.{Board}
 use Rattle.dgc_server.specs.declared.clients.Chunk.{Chunk}
 use Rattle.dgc_server.specs.Entry.{Entry}
 use Rattle.dgc_server.specs.Table.{with_entry}
@@ -11,6 +13,19 @@ use Rattle.dgc_server.specs.HolderIndex.{IsSettled, IsCalm}
 abbrev pub all_of : List Chunk → List Entry
 all_of [] = []
 all_of (c ∷ cs) = c.entries.items ++ all_of cs
+
+-- The moments of chunks.
+abbrev pub ends_of : List Chunk → List ℕ
+ends_of cs = map (λ (c : Chunk). c.least) cs
+
+-- The index of the first of these moments, from an index on, that is no later than another one; how many there are, if none is.
+abbrev pub next_due : List ℕ → ℕ → ℕ → ℕ
+next_due ends from to = from + prefix_len (λ end. not (is_due to end)) (drop from ends)
+
+-- The least of these moments, and the greatest number of 64 bits where there is none.
+abbrev pub least_end : List ℕ → ℕ
+least_end [] = 0xFFFFFFFFFFFFFFFF
+least_end (end ∷ ends) = min end (least_end ends)
 
 -- There is a client in the chunk.
 abbrev pub is_filled : Chunk → Bool
@@ -32,7 +47,9 @@ pub record IsCalmChunk (m n : ℕ) (c : Chunk) : Type 0 where
   pub calm : m < c.least → AllByRecursion (IsCalm m c.least) c.entries.items
   pub least : n ≤ c.least
 
--- The chunks of a table at the moment m, where no lease of the table that goes on ends before the moment n: in each is a client.
-pub record IsChunked (m n : ℕ) (cs : List Chunk) : Type 0 where
-  pub filled : IsTrue (list_all is_filled cs)
-  pub bounded : AllByRecursion (IsBounded m n) cs
+-- The board of a table at the moment m, where no lease of the table that goes on ends before the moment n: in each chunk is a client, and beside the
+-- chunks are their moments.
+pub record IsBoard (m n : ℕ) (b : Board) : Type 0 where
+  pub filled : IsTrue (list_all is_filled b.chunks.items)
+  pub bounded : AllByRecursion (IsBounded m n) b.chunks.items
+  pub ends : b.ends.items ≡ ends_of b.chunks.items

@@ -10,9 +10,10 @@ ghost use Rattle.dgc_server.specs.Entry.{Entry, each_has_number, entry_without, 
 ghost use Rattle.dgc_server.specs.StandsForCalls.{each_once, is_in_order, entry_after};
 ghost use Rattle.dgc_server.specs.HolderIndex.{Way, counted_at, has_count, is_counted, is_named, one_if, entry_names, with_only, objects_in, sums_at, bound_of, IsIndexed, IsNoted};
 ghost use Rattle.dgc_server.specs.Table.{entry_of, no_entry, with_entry, after_lapse};
-ghost use Rattle.dgc_server.specs.Chunks.{all_of, is_filled, IsChunkOf, IsBounded, IsChunked};
+ghost use Rattle.dgc_server.specs.Chunks.{all_of, ends_of, is_filled, IsChunkOf, IsBounded, IsBoard};
 ghost use Rattle.dgc_server.specs.declared.clients.TheConstants.{CHUNK_LEN};
 
+use crate::board::Board;
 use crate::entry::{ClientEntry, LeaseCall};
 use crate::holders::{ClientHint, Counts, Passed};
 use crate::table::{self, Noted, Sums};
@@ -44,9 +45,9 @@ impl Drop for Chunk {
 }
 
 /// The clients of a moment, in their order. They stand in chunks of at most 256, so that a new client moves few others, and
-/// so that a lease that ends is found by a look at each chunk and at the clients of its own chunk. Contracts see a `ClientTable`, which has the one list.
+/// so that a lease that ends is found by a search of the chunks' moments and a look at the clients of its own chunk. Contracts see a `ClientTable`, which has the one list.
 pub struct Clients {
-    chunks: Vec<Chunk>,
+    board: Board,
     /// The moment as of which the clients are kept.
     moment: u64,
     /// No lease that goes on ends before this moment; 0 where something may have to be forgotten at once.
@@ -57,23 +58,23 @@ pub struct Clients {
 impl Drop for Clients {
     fn drop(self) {
         let Clients {
-            chunks,
+            board,
             moment: _,
             next: _,
         } = self;
-        drop(chunks);
+        drop(board);
     }
 }
 
 impl Model for Clients {
     ghost use Rattle.dgc_server.specs.Table.{ClientTable};
-    ghost use Rattle.dgc_server.specs.Chunks.{all_of, IsChunked};
+    ghost use Rattle.dgc_server.specs.Chunks.{all_of, IsBoard};
 
     ghost Value = { ClientTable };
 
-    ghost view = { λ a. record { moment = a.moment; next = a.next; entries = all_of a.chunks.items } };
+    ghost view = { λ a. record { moment = a.moment; next = a.next; entries = all_of a.board.chunks.items } };
 
-    ghost invariant = { λ a. IsChunked a.moment a.next a.chunks.items };
+    ghost invariant = { λ a. IsBoard a.moment a.next a.board };
 }
 
 impl Clients {
@@ -84,7 +85,7 @@ impl Clients {
         ensures next { 0 < result.next }
     {
         Clients {
-            chunks: Vec::new(alloc),
+            board: Board::new(alloc),
             moment: 0,
             next: u64::MAX,
         }
@@ -104,12 +105,20 @@ impl Clients {
         self.next
     }
 
+    /// The chunks of clients, with their moments.
+    pub fn board(&self) -> &Board
+        ensures all { all_of result.now.chunks.items ≡ self.now.entries }
+        ensures board { IsBoard self.now.moment self.now.next result.now }
+    {
+        &self.board
+    }
+
     /// The chunks of clients.
     pub fn chunks(&self) -> &[Chunk]
         ensures all { all_of result.now ≡ self.now.entries }
-        ensures chunked { IsChunked self.now.moment self.now.next result.now }
+        ensures filled { IsTrue (list_all is_filled result.now) }
     {
-        &self.chunks
+        &self.board.chunks
     }
 
     /// The entry of a client, if it has one.
@@ -153,7 +162,7 @@ impl Clients {
         ensures same { OnErr result (counts.new ≡ counts.old) }
     {
         let from = self.moment;
-        let noted = note_call(alloc, &mut self.chunks, counts, client, call, lease, from)?;
+        let noted = note_call(alloc, &mut self.board, counts, client, call, lease, from)?;
         self.next = table::bound_with(self.next, noted.until, call.time);
         Ok(noted)
     }
@@ -179,8 +188,8 @@ impl Clients {
             return sums;
         }
         let from = self.moment;
-        let passed = lapses::pass_all(&mut self.chunks, counts, sums, from, to);
-        drops::keep_filled(&mut self.chunks);
+        let passed = lapses::pass_all(&mut self.board, counts, sums, from, to);
+        self.board.keep_filled();
         self.moment = to;
         self.next = passed.next;
         passed.sums
@@ -199,7 +208,7 @@ impl Clients {
             return;
         }
         let time = self.moment;
-        drops::drop_object(&mut self.chunks, object, clients, hint, time);
+        drops::drop_object(&mut self.board, object, clients, hint, time);
     }
 
     /// Forgets what is kept of the objects that have no count any more, and the clients of which nothing is left then. So many pairs go. It looks
@@ -216,7 +225,7 @@ impl Clients {
             return;
         }
         let time = self.moment;
-        drops::drop_objects(&mut self.chunks, counts, pairs, hint, time);
+        drops::drop_objects(&mut self.board, counts, pairs, hint, time);
     }
 }
 
@@ -308,33 +317,35 @@ fn move_back(entries: &mut Vec<ClientEntry>, back: &mut Vec<ClientEntry>)
 
 /// Splits the chunk of a client, if it is full, so that there is a place for one more, also where the client is in it. It is refused only for want
 /// of memory.
-fn split_full(alloc: Global, chunks: &mut Vec<Chunk>, client: &Vmid) -> Result<(), AllocError>
-    requires some { 0 < length chunks.old.items }
-    requires ordered { IsTrue (is_in_order (all_of chunks.old.items)) }
-    requires filled { IsTrue (list_all is_filled chunks.old.items) }
-    ensures same { all_of chunks.new.items ≡ all_of chunks.old.items }
-    ensures some { 0 < length chunks.new.items }
-    ensures filled { IsTrue (list_all is_filled chunks.new.items) }
-    ensures bounded { (m n : ℕ) → AllByRecursion (IsBounded m n) chunks.old.items → AllByRecursion (IsBounded m n) chunks.new.items }
+fn split_full(alloc: Global, board: &mut Board, client: &Vmid) -> Result<(), AllocError>
+    requires some { 0 < length board.old.chunks.items }
+    requires ordered { IsTrue (is_in_order (all_of board.old.chunks.items)) }
+    requires filled { IsTrue (list_all is_filled board.old.chunks.items) }
+    requires ends { board.old.ends.items ≡ ends_of board.old.chunks.items }
+    ensures same { all_of board.new.chunks.items ≡ all_of board.old.chunks.items }
+    ensures some { 0 < length board.new.chunks.items }
+    ensures filled { IsTrue (list_all is_filled board.new.chunks.items) }
+    ensures bounded { (m n : ℕ) → AllByRecursion (IsBounded m n) board.old.chunks.items → AllByRecursion (IsBounded m n) board.new.chunks.items }
+    ensures ends { board.new.ends.items ≡ ends_of board.new.chunks.items }
 {
-    let at_chunk = chunk_of(chunks, client);
-    let len = chunks[at_chunk].entries.len();
+    let at_chunk = chunk_of(&board.chunks, client);
+    let len = board.chunks[at_chunk].entries.len();
     if len < CHUNK_LEN {
         return Ok(());
     }
-    chunks.reserve(1)?;
+    board.reserve()?;
     let mut entries = Vec::with_capacity(alloc, len)?;
-    let chunk = &mut chunks[at_chunk];
+    let chunk = &mut board.chunks[at_chunk];
     split_into(&mut chunk.entries, &mut entries);
     let least = chunk.least;
-    table::insert_within(chunks, at_chunk + 1, Chunk { entries, least });
+    board.insert(at_chunk + 1, Chunk { entries, least });
     Ok(())
 }
 
 /// Notes a call of a client in its chunk, which is split first if it is full. It is refused only for want of memory, and then the list is as it was.
 fn note_call(
     alloc: Global,
-    chunks: &mut Vec<Chunk>,
+    board: &mut Board,
     counts: &mut Counts,
     client: &Vmid,
     call: &LeaseCall<'_>,
@@ -345,120 +356,128 @@ fn note_call(
     requires early { call.now.time < END_OF_TIME }
     requires some { 1 ≤ lease }
     requires short { lease ≤ MAX_DURATION_MS }
-    requires numbered { IsTrue (list_all (λ e. each_has_number e.objects) (all_of chunks.old.items)) }
-    requires ordered { IsTrue (is_in_order (all_of chunks.old.items)) }
-    requires once { IsTrue (list_all (λ e. each_once e.objects) (all_of chunks.old.items)) }
-    requires few { (w : Way) (o : ObjId) → length (filter (is_counted w from o) (all_of chunks.old.items)) ≤ MAX_PAIRS }
+    requires numbered { IsTrue (list_all (λ e. each_has_number e.objects) (all_of board.old.chunks.items)) }
+    requires ordered { IsTrue (is_in_order (all_of board.old.chunks.items)) }
+    requires once { IsTrue (list_all (λ e. each_once e.objects) (all_of board.old.chunks.items)) }
+    requires few { (w : Way) (o : ObjId) → length (filter (is_counted w from o) (all_of board.old.chunks.items)) ≤ MAX_PAIRS }
     requires has { (o : ObjId) → is_in o call.now.objects.now ≡ true → has_count counts.old o ≡ true }
-    requires counted { (w : Way) (o : ObjId) → counted_at w counts.old o ≡ length (filter (is_counted w from o) (all_of chunks.old.items)) }
-    requires filled { IsTrue (list_all is_filled chunks.old.items) }
-    ensures ok { OnOk result (all_of chunks.new.items ≡ with_entry
-        (entry_after lease call.now.kind call.now.number.now call.now.objects.now call.now.time (entry_of (all_of chunks.old.items) client.now)) (all_of chunks.old.items)) }
-    ensures counted { OnOk result ((w : Way) (o : ObjId) → counted_at w counts.new o ≡ length (filter (is_counted w from o) (all_of chunks.new.items))) }
-    ensures noted { IfOk result (λ noted. let own = entry_of (all_of chunks.old.items) client.now in
+    requires counted { (w : Way) (o : ObjId) → counted_at w counts.old o ≡ length (filter (is_counted w from o) (all_of board.old.chunks.items)) }
+    requires filled { IsTrue (list_all is_filled board.old.chunks.items) }
+    requires ends { board.old.ends.items ≡ ends_of board.old.chunks.items }
+    ensures ok { OnOk result (all_of board.new.chunks.items ≡ with_entry
+        (entry_after lease call.now.kind call.now.number.now call.now.objects.now call.now.time (entry_of (all_of board.old.chunks.items) client.now)) (all_of board.old.chunks.items)) }
+    ensures counted { OnOk result ((w : Way) (o : ObjId) → counted_at w counts.new o ≡ length (filter (is_counted w from o) (all_of board.new.chunks.items))) }
+    ensures noted { IfOk result (λ noted. let own = entry_of (all_of board.old.chunks.items) client.now in
         IsNoted from own (entry_after lease call.now.kind call.now.number.now call.now.objects.now call.now.time own) noted) }
-    ensures filled { IsTrue (list_all is_filled chunks.new.items) }
-    ensures bounded { IfOk result (λ noted. (n : ℕ) → n < 2 ^ 64 → AllByRecursion (IsBounded from n) chunks.old.items →
-        AllByRecursion (IsBounded from (bound_of call.now.time n noted.until)) chunks.new.items) }
-    ensures err { OnErr result (all_of chunks.new.items ≡ all_of chunks.old.items) }
-    ensures still { OnErr result ((n : ℕ) → AllByRecursion (IsBounded from n) chunks.old.items → AllByRecursion (IsBounded from n) chunks.new.items) }
+    ensures filled { IsTrue (list_all is_filled board.new.chunks.items) }
+    ensures bounded { IfOk result (λ noted. (n : ℕ) → n < 2 ^ 64 → AllByRecursion (IsBounded from n) board.old.chunks.items →
+        AllByRecursion (IsBounded from (bound_of call.now.time n noted.until)) board.new.chunks.items) }
+    ensures err { OnErr result (all_of board.new.chunks.items ≡ all_of board.old.chunks.items) }
+    ensures still { OnErr result ((n : ℕ) → AllByRecursion (IsBounded from n) board.old.chunks.items → AllByRecursion (IsBounded from n) board.new.chunks.items) }
     ensures same { OnErr result (counts.new ≡ counts.old) }
+    ensures ends { board.new.ends.items ≡ ends_of board.new.chunks.items }
 {
-    if chunks.is_empty() {
-        return note_first(alloc, chunks, counts, client, call, lease, from);
+    if board.chunks.is_empty() {
+        return note_first(alloc, board, counts, client, call, lease, from);
     }
-    split_full(alloc, chunks, client)?;
-    note_own(alloc, chunks, counts, client, call, lease, from)
+    split_full(alloc, board, client)?;
+    note_own(alloc, board, counts, client, call, lease, from)
 }
 
 /// Notes a call in the first chunk of all. It is refused only for want of memory, and then all is as it was.
 fn note_first(
     alloc: Global,
-    chunks: &mut Vec<Chunk>,
+    board: &mut Board,
     counts: &mut Counts,
     client: &Vmid,
     call: &LeaseCall<'_>,
     lease: u64,
     from: u64,
 ) -> Result<Noted, AllocError>
-    requires none { chunks.old.items ≡ [] }
+    requires none { board.old.chunks.items ≡ [] }
     requires later { from ≤ call.now.time }
     requires early { call.now.time < END_OF_TIME }
     requires some { 1 ≤ lease }
     requires short { lease ≤ MAX_DURATION_MS }
     requires has { (o : ObjId) → is_in o call.now.objects.now ≡ true → has_count counts.old o ≡ true }
     requires few { (w : Way) (o : ObjId) → counted_at w counts.old o + 1 < 2 ^ 31 }
-    ensures ok { OnOk result (all_of chunks.new.items ≡ with_entry
-        (entry_after lease call.now.kind call.now.number.now call.now.objects.now call.now.time (entry_of (all_of chunks.old.items) client.now)) (all_of chunks.old.items)) }
-    ensures counts { OnOk result ((w : Way) (o : ObjId) → let own = entry_of (all_of chunks.old.items) client.now in
+    requires ends { board.old.ends.items ≡ ends_of board.old.chunks.items }
+    ensures ok { OnOk result (all_of board.new.chunks.items ≡ with_entry
+        (entry_after lease call.now.kind call.now.number.now call.now.objects.now call.now.time (entry_of (all_of board.old.chunks.items) client.now)) (all_of board.old.chunks.items)) }
+    ensures counts { OnOk result ((w : Way) (o : ObjId) → let own = entry_of (all_of board.old.chunks.items) client.now in
         counted_at w counts.new o + one_if (is_counted w from o own)
         ≡ counted_at w counts.old o
         + one_if (is_counted w from o (entry_after lease call.now.kind call.now.number.now call.now.objects.now call.now.time own))) }
-    ensures noted { IfOk result (λ noted. let own = entry_of (all_of chunks.old.items) client.now in
+    ensures noted { IfOk result (λ noted. let own = entry_of (all_of board.old.chunks.items) client.now in
         IsNoted from own (entry_after lease call.now.kind call.now.number.now call.now.objects.now call.now.time own) noted) }
-    ensures filled { IsTrue (list_all is_filled chunks.new.items) }
-    ensures bounded { IfOk result (λ noted. (n : ℕ) → n < 2 ^ 64 → AllByRecursion (IsBounded from (bound_of call.now.time n noted.until)) chunks.new.items) }
-    ensures err { OnErr result (chunks.new.items ≡ chunks.old.items) }
+    ensures filled { IsTrue (list_all is_filled board.new.chunks.items) }
+    ensures bounded { IfOk result (λ noted. (n : ℕ) → n < 2 ^ 64 → AllByRecursion (IsBounded from (bound_of call.now.time n noted.until)) board.new.chunks.items) }
+    ensures err { OnErr result (board.new.chunks.items ≡ board.old.chunks.items) }
     ensures same { OnErr result (counts.new ≡ counts.old) }
+    ensures ends { board.new.ends.items ≡ ends_of board.new.chunks.items }
 {
-    chunks.reserve(1)?;
+    board.reserve()?;
     let mut chunk = Chunk {
         entries: Vec::new(alloc),
         least: u64::MAX,
     };
     let noted = note_in(alloc, &mut chunk, counts, client, call, lease, from, 0)?;
-    table::insert_within(chunks, 0, chunk);
+    board.insert(0, chunk);
     Ok(noted)
 }
 
 /// Notes a call in the chunk of the client. It is refused only for want of memory, and then all is as it was.
 fn note_own(
     alloc: Global,
-    chunks: &mut Vec<Chunk>,
+    board: &mut Board,
     counts: &mut Counts,
     client: &Vmid,
     call: &LeaseCall<'_>,
     lease: u64,
     from: u64,
 ) -> Result<Noted, AllocError>
-    requires some_chunk { 0 < length chunks.old.items }
+    requires some_chunk { 0 < length board.old.chunks.items }
     requires later { from ≤ call.now.time }
     requires early { call.now.time < END_OF_TIME }
     requires some { 1 ≤ lease }
     requires short { lease ≤ MAX_DURATION_MS }
-    requires numbered { IsTrue (list_all (λ e. each_has_number e.objects) (all_of chunks.old.items)) }
-    requires ordered { IsTrue (is_in_order (all_of chunks.old.items)) }
-    requires once { IsTrue (list_all (λ e. each_once e.objects) (all_of chunks.old.items)) }
+    requires numbered { IsTrue (list_all (λ e. each_has_number e.objects) (all_of board.old.chunks.items)) }
+    requires ordered { IsTrue (is_in_order (all_of board.old.chunks.items)) }
+    requires once { IsTrue (list_all (λ e. each_once e.objects) (all_of board.old.chunks.items)) }
     requires has { (o : ObjId) → is_in o call.now.objects.now ≡ true → has_count counts.old o ≡ true }
-    requires enough { (w : Way) (o : ObjId) → one_if (is_counted w from o (entry_of (all_of chunks.old.items) client.now)) ≤ counted_at w counts.old o }
+    requires enough { (w : Way) (o : ObjId) → one_if (is_counted w from o (entry_of (all_of board.old.chunks.items) client.now)) ≤ counted_at w counts.old o }
     requires few { (w : Way) (o : ObjId) → counted_at w counts.old o + 1 < 2 ^ 31 }
-    requires filled { IsTrue (list_all is_filled chunks.old.items) }
-    ensures ok { OnOk result (all_of chunks.new.items ≡ with_entry
-        (entry_after lease call.now.kind call.now.number.now call.now.objects.now call.now.time (entry_of (all_of chunks.old.items) client.now)) (all_of chunks.old.items)) }
-    ensures counts { OnOk result ((w : Way) (o : ObjId) → let own = entry_of (all_of chunks.old.items) client.now in
+    requires filled { IsTrue (list_all is_filled board.old.chunks.items) }
+    requires ends { board.old.ends.items ≡ ends_of board.old.chunks.items }
+    ensures ok { OnOk result (all_of board.new.chunks.items ≡ with_entry
+        (entry_after lease call.now.kind call.now.number.now call.now.objects.now call.now.time (entry_of (all_of board.old.chunks.items) client.now)) (all_of board.old.chunks.items)) }
+    ensures counts { OnOk result ((w : Way) (o : ObjId) → let own = entry_of (all_of board.old.chunks.items) client.now in
         counted_at w counts.new o + one_if (is_counted w from o own)
         ≡ counted_at w counts.old o
         + one_if (is_counted w from o (entry_after lease call.now.kind call.now.number.now call.now.objects.now call.now.time own))) }
-    ensures noted { IfOk result (λ noted. let own = entry_of (all_of chunks.old.items) client.now in
+    ensures noted { IfOk result (λ noted. let own = entry_of (all_of board.old.chunks.items) client.now in
         IsNoted from own (entry_after lease call.now.kind call.now.number.now call.now.objects.now call.now.time own) noted) }
-    ensures filled { IsTrue (list_all is_filled chunks.new.items) }
-    ensures bounded { IfOk result (λ noted. (n : ℕ) → AllByRecursion (IsBounded from n) chunks.old.items →
-        AllByRecursion (IsBounded from (bound_of call.now.time n noted.until)) chunks.new.items) }
-    ensures err { OnErr result (all_of chunks.new.items ≡ all_of chunks.old.items) }
-    ensures still { OnErr result ((n : ℕ) → AllByRecursion (IsBounded from n) chunks.old.items → AllByRecursion (IsBounded from n) chunks.new.items) }
+    ensures filled { IsTrue (list_all is_filled board.new.chunks.items) }
+    ensures bounded { IfOk result (λ noted. (n : ℕ) → AllByRecursion (IsBounded from n) board.old.chunks.items →
+        AllByRecursion (IsBounded from (bound_of call.now.time n noted.until)) board.new.chunks.items) }
+    ensures err { OnErr result (all_of board.new.chunks.items ≡ all_of board.old.chunks.items) }
+    ensures still { OnErr result ((n : ℕ) → AllByRecursion (IsBounded from n) board.old.chunks.items → AllByRecursion (IsBounded from n) board.new.chunks.items) }
     ensures same { OnErr result (counts.new ≡ counts.old) }
+    ensures ends { board.new.ends.items ≡ ends_of board.new.chunks.items }
 {
-    let at_chunk = chunk_of(chunks, client);
-    note_in(
+    let at_chunk = chunk_of(&board.chunks, client);
+    let noted = note_in(
         alloc,
-        &mut chunks[at_chunk],
+        &mut board.chunks[at_chunk],
         counts,
         client,
         call,
         lease,
         from,
         at_chunk,
-    )
+    );
+    board.note_end(at_chunk);
+    noted
 }
 
 /// Notes a call of a client in the chunk of this index. It is refused only for want of memory, and then all is as it was.

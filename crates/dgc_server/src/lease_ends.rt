@@ -2,11 +2,12 @@
 ghost use Rattle.std.specs.Prelude.{◌≡◌, ◌++◌, ◌∷◌, [], ◌≤◌, flat_map, OnOk, IfOk, if◌then◌else◌};
 ghost use Rattle.dgc_server.specs.Numbers.{is_dirty_highest};
 ghost use Rattle.dgc_server.specs.Entry.{object_entries, dirty_objects};
-ghost use Rattle.std.specs.List.{list_any, AllByRecursion};
+ghost use Rattle.std.specs.List.{list_any};
 ghost use Rattle.dgc_server.specs.HolderIndex.{ends_between, freed_of};
-ghost use Rattle.dgc_server.specs.Chunks.{all_of, IsBounded};
+ghost use Rattle.dgc_server.specs.Chunks.{all_of, IsBoard};
 
-use crate::clients::{Chunk, Clients};
+use crate::board::Board;
+use crate::clients::Clients;
 use crate::entry::ClientEntry;
 use crate::marks::Marks;
 use crate::packed::Packed;
@@ -69,36 +70,29 @@ pub fn freed_objects(alloc: Global, clients: &Clients, to: u64) -> Result<Vec<Ob
     requires { clients.now.moment ≤ to }
     ensures { IfOk result (λ os. os.items ≡ flat_map (freed_of clients.now.moment to) clients.now.entries) }
 {
-    freed_in(
-        alloc,
-        clients.chunks(),
-        clients.next(),
-        clients.moment(),
-        to,
-    )
+    freed_in(alloc, clients.board(), clients.next(), clients.moment(), to)
 }
 
 /// The objects that clients of these chunks hold whose leases end as time passes from one moment to another.
 fn freed_in(
     alloc: Global,
-    chunks: &[Chunk],
+    board: &Board,
     next: u64,
     from: u64,
     to: u64,
 ) -> Result<Vec<ObjId>, AllocError>
     requires later { from ≤ to }
-    requires bounded { AllByRecursion (IsBounded from next) chunks.now }
-    ensures { IfOk result (λ os. os.items ≡ flat_map (freed_of from to) (all_of chunks.now)) }
+    requires board { IsBoard from next board.now }
+    ensures { IfOk result (λ os. os.items ≡ flat_map (freed_of from to) (all_of board.now.chunks.items)) }
 {
     let mut freed = Vec::new(alloc);
     if to < next {
         return Ok(freed);
     }
-    for chunk in chunks {
-        if to < chunk.least {
-            continue;
-        }
-        append_all(&mut freed, &chunk.entries, from, to)?;
+    let mut i = board.next_due(0, to);
+    while i < board.len() {
+        append_all(&mut freed, board.clients(i), from, to)?;
+        i = board.next_due(i + 1, to);
     }
     Ok(freed)
 }
@@ -111,25 +105,24 @@ pub fn has_ended(clients: &Clients, to: u64) -> bool
     requires { clients.now.moment ≤ to }
     ensures { result ≡ list_any (ends_between clients.now.moment to) clients.now.entries }
 {
-    has_ended_in(clients.chunks(), clients.next(), clients.moment(), to)
+    has_ended_in(clients.board(), clients.next(), clients.moment(), to)
 }
 
 /// Returns whether the lease of a client of these chunks ends as time passes from one moment to another.
-fn has_ended_in(chunks: &[Chunk], next: u64, from: u64, to: u64) -> bool
+fn has_ended_in(board: &Board, next: u64, from: u64, to: u64) -> bool
     requires later { from ≤ to }
-    requires bounded { AllByRecursion (IsBounded from next) chunks.now }
-    ensures { result ≡ list_any (ends_between from to) (all_of chunks.now) }
+    requires board { IsBoard from next board.now }
+    ensures { result ≡ list_any (ends_between from to) (all_of board.now.chunks.items) }
 {
     if to < next {
         return false;
     }
-    for chunk in chunks {
-        if to < chunk.least {
-            continue;
-        }
-        if has_ended_among(&chunk.entries, from, to) {
+    let mut i = board.next_due(0, to);
+    while i < board.len() {
+        if has_ended_among(board.clients(i), from, to) {
             return true;
         }
+        i = board.next_due(i + 1, to);
     }
     false
 }

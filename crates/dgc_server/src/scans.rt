@@ -1,15 +1,16 @@
 //! Searches and sums over the clients. Those over all clients go chunk by chunk.
 ghost use Rattle.std.specs.Prelude.{◌≡◌, ◌<◌, ◌≤◌, ◌↔◌, length, filter, map, IfOk, IsTrue};
-ghost use Rattle.std.specs.List.{list_any, list_all, AllByRecursion};
+ghost use Rattle.std.specs.List.{list_any, list_all};
 ghost use Rattle.history.specs.declared.limits.TheConstants.{MAX_CLIENTS, MAX_PAIRS};
 ghost use Rattle.dgc_server.specs.Entry.{each_has_number, entry_holds, has_time_left, row_of};
 ghost use Rattle.dgc_server.specs.StandsForCalls.{is_in_order};
 ghost use Rattle.dgc_server.specs.HolderIndex.{sums_at};
-ghost use Rattle.dgc_server.specs.Chunks.{all_of, IsBounded};
+ghost use Rattle.dgc_server.specs.Chunks.{all_of, IsBoard};
 ghost use Rattle.dgc_server.specs.Table.{entry_of, clients_after, fresh_pairs, pairs_after};
 ghost use Rattle.dgc_server.specs.Table.{remembered_count as remembered_at};
 
-use crate::clients::{Chunk, Clients};
+use crate::board::Board;
+use crate::clients::Clients;
 use crate::marks::{Marks, counts_for, fresh_count};
 use crate::table::{self, Sums};
 use history::limits::{MAX_CLIENTS, MAX_PAIRS};
@@ -63,7 +64,7 @@ pub fn sums_by(clients: &Clients, sums: Sums, time: u64) -> Sums
     ensures { result ≡ sums_at time clients.now.entries }
 {
     sums_in(
-        clients.chunks(),
+        clients.board(),
         sums,
         clients.next(),
         clients.moment(),
@@ -72,22 +73,21 @@ pub fn sums_by(clients: &Clients, sums: Sums, time: u64) -> Sums
 }
 
 /// The sums over the clients of these chunks at the moment `to`, where `sums` are those at `from`. It passes over chunks in which nothing is due.
-fn sums_in(chunks: &[Chunk], sums: Sums, next: u64, from: u64, to: u64) -> Sums
+fn sums_in(board: &Board, sums: Sums, next: u64, from: u64, to: u64) -> Sums
     requires later { from ≤ to }
-    requires numbered { IsTrue (list_all (λ e. each_has_number e.objects) (all_of chunks.now)) }
-    requires sums { sums ≡ sums_at from (all_of chunks.now) }
-    requires bounded { AllByRecursion (IsBounded from next) chunks.now }
-    ensures { result ≡ sums_at to (all_of chunks.now) }
+    requires numbered { IsTrue (list_all (λ e. each_has_number e.objects) (all_of board.now.chunks.items)) }
+    requires sums { sums ≡ sums_at from (all_of board.now.chunks.items) }
+    requires board { IsBoard from next board.now }
+    ensures { result ≡ sums_at to (all_of board.now.chunks.items) }
 {
     if to < next {
         return sums;
     }
     let mut so_far = sums;
-    for chunk in chunks {
-        if to < chunk.least {
-            continue;
-        }
-        so_far = table::sums_after(so_far, &chunk.entries, from, to);
+    let mut i = board.next_due(0, to);
+    while i < board.len() {
+        so_far = table::sums_after(so_far, board.clients(i), from, to);
+        i = board.next_due(i + 1, to);
     }
     so_far
 }

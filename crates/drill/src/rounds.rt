@@ -89,7 +89,8 @@ fn late_by(round: u64, back: u64) -> i64
 
 /// Adds what connection 1 asks at a moment. A refusal, for want of memory, leaves the events as they were.
 fn put(events: &mut Vec<Event>, moment: u64, ask: Ask) -> Result<(), AllocError>
-    ensures put { OnOk result (events.new.items ≡ events.old.items ++ event_asking moment ask ∷ []) }
+    ensures put { OnOk result
+        (events.new.items ≡ events.old.items ++ event_asking moment ask ∷ []) }
 {
     events.push(Event { by: 1, moment, ask })?;
     Ok(())
@@ -103,7 +104,11 @@ fn put_make(
     round: u64,
 ) -> Result<(), AllocError>
     requires { round < 2 ^ 33 }
-    ensures { OnOk result (events.new.items ≡ events.old.items ++ event_asking moment (Begin (object_at 16)) ∷ event_asking moment (Finish (object_at 16) (1 ∷ []) [] (uid_at (pos round))) ∷ []) }
+    ensures { OnOk result
+        (events.new.items
+        ≡ events.old.items
+        ++ event_asking moment (Begin (object_at 16))
+        ∷ event_asking moment (Finish (object_at 16) (1 ∷ []) [] (uid_at (pos round))) ∷ []) }
 {
     let object = object_at(16);
     let made = Kinds::from_slice(alloc, &[1])?;
@@ -129,7 +134,10 @@ fn put_dirty(
 ) -> Result<(), AllocError>
     requires drawn { drawn < 2 ^ 31 }
     requires round { round < 2 ^ 33 }
-    ensures { OnOk result (events.new.items ≡ events.old.items ++ event_asking moment (Dirty (client_in round drawn) number (pos 600000) objects) ∷ []) }
+    ensures { OnOk result
+        (events.new.items
+        ≡ events.old.items
+        ++ event_asking moment (Dirty (client_in round drawn) number (pos 600000) objects) ∷ []) }
 {
     let client = client_in(alloc, round, drawn)?;
     let ask = Ask::Dirty {
@@ -154,7 +162,10 @@ fn put_clean(
 ) -> Result<(), AllocError>
     requires drawn { drawn < 2 ^ 31 }
     requires round { round < 2 ^ 33 }
-    ensures { OnOk result (events.new.items ≡ events.old.items ++ event_asking moment (Clean (client_in round drawn) number objects strong) ∷ []) }
+    ensures { OnOk result
+        (events.new.items
+        ≡ events.old.items
+        ++ event_asking moment (Clean (client_in round drawn) number objects strong) ∷ []) }
 {
     let client = client_in(alloc, round, drawn)?;
     let ask = Ask::Clean {
@@ -179,7 +190,10 @@ fn put_round(
     requires made { made < 2 ^ 34 }
     requires client { draws.now.client < 2 ^ 31 }
     requires late { draws.now.late < 2 ^ 31 }
-    ensures { OnOk result (events.new.items ≡ events.old.items ++ map (event_asking moment) (asks_by round made draws.now draws.now.choice)) }
+    ensures { OnOk result
+        (events.new.items
+        ≡ events.old.items
+        ++ map (event_asking moment) (asks_by round made draws.now draws.now.choice)) }
 {
     let number = round as i64;
     let client = draws.client;
@@ -241,7 +255,8 @@ impl Model for Drill {
 
     ghost Value = { RoundToCome };
 
-    ghost view = { λ d. record { round = d.round; stand = record { state = d.state; moment = d.moment; made = d.made } } };
+    ghost view = { λ d. record
+        { round = d.round; stand = record { state = d.state; moment = d.moment; made = d.made } } };
 
     ghost invariant = { λ d. (d.moment ≤ 5999 * d.round) × (d.made ≤ d.round) };
 }
@@ -277,9 +292,12 @@ impl Drill {
     #[tactic(auto, unfolding(crate::specs::Rounds::events_in))]
     pub fn round(&mut self, alloc: Global) -> Result<Vec<Event>, AllocError>
         requires { self.old.round < 2 ^ 32 }
-        ensures events { IfOk result (λ events. events.items ≡ events_in self.old.round self.old.stand) }
-        ensures moments { IfOk result (λ events. AllByRecursion (λ e. e.moment < END_OF_TIME) events.items) }
-        ensures next { OnOk result (self.new ≡ record { round = self.old.round + 1; stand = after_round self.old.stand }) }
+        ensures events { IfOk result
+            (λ events. events.items ≡ events_in self.old.round self.old.stand) }
+        ensures moments { IfOk result
+            (λ events. AllByRecursion (λ e. e.moment < END_OF_TIME) events.items) }
+        ensures next { OnOk result
+            (self.new ≡ record { round = self.old.round + 1; stand = after_round self.old.stand }) }
     {
         let draws = draws_after(self.state);
         let moment = self.moment + (1 + draws.steps % 5999);

@@ -28,8 +28,10 @@ fn take_all(space: &mut Space, events: Vec<Event>) -> Result<(), Refused>
 /// Takes the events of so many rounds, one after another, up to the first that is refused.
 fn go_on(alloc: Global, space: &mut Space, seed: u64, rounds: u64) -> Result<(), Refused>
     requires { rounds ≤ 2 ^ 32 }
-    ensures ok { OnOk result (space.new.events ≡ space.old.events ++ events_from 0 (start seed) rounds) }
-    ensures err { IfErr result (EndsIn space.old.configuration space.old.events (events_from 0 (start seed) rounds)) }
+    ensures ok { OnOk result
+        (space.new.events ≡ space.old.events ++ events_from 0 (start seed) rounds) }
+    ensures err { IfErr result
+        (EndsIn space.old.configuration space.old.events (events_from 0 (start seed) rounds)) }
     ensures config { space.new.configuration ≡ space.old.configuration }
 {
     let mut drill = Drill::new(seed);

@@ -77,6 +77,25 @@ event_with space clients names by moment (Whole event) = event.value
 abbrev pub event_of : Uid → List Client → List (List ℕ) → Row → Event
 event_of space clients names row = event_with space clients names row.by row.moment row.what
 
+-- It is a call of the collector.
+abbrev pub IsLeaseCall : What → Type 0
+IsLeaseCall (Dirties client number asked object) = Unit {0}
+IsLeaseCall (Renews client number asked) = Unit {0}
+IsLeaseCall (Cleans client strong number object) = Unit {0}
+IsLeaseCall (CleansNothing client strong number) = Unit {0}
+IsLeaseCall _ = ⊥
+
+-- It says its ask by itself, with no client, name or event beside it.
+abbrev pub IsBare : What → Type 0
+IsBare (Opens kind pinned) = Unit {0}
+IsBare (Begins object) = Unit {0}
+IsBare (Finishes number uid) = Unit {0}
+IsBare (Abandons object) = Unit {0}
+IsBare (Acks uid) = Unit {0}
+IsBare ListsNames = Unit {0}
+IsBare Ticks = Unit {0}
+IsBare _ = ⊥
+
 -- The client or the name that it says is one of so many.
 abbrev pub IsAmong : ℕ → ℕ → What → Type 0
 IsAmong clients names (Dirties client number asked object) = client < clients

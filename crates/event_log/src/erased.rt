@@ -24,7 +24,13 @@ impl Model for ErasedLog {
 
     ghost Value = { EventRecord };
 
-    ghost view = { λ l. record { space = l.space; items = map (λ entry. entry.0) l.events.items; capacity = 2 ^ 64 - 1; spare = true; stored = false } };
+    ghost view = { λ l. record {
+      space = l.space;
+      items = map (λ entry. entry.0) l.events.items;
+      capacity = 2 ^ 64 - 1;
+      spare = true;
+      stored = false;
+    } };
 
     ghost invariant = { λ l. l.count ≡ length l.events.items };
 }
@@ -74,7 +80,8 @@ impl ErasedLog {
         ensures grow { self.old.capacity ≤ self.new.capacity }
         ensures kept { self.old.spare ≡ true → self.new.spare ≡ true }
         ensures stored { self.new.stored ≡ self.old.stored }
-        ensures refused { OnErr result ((self.old.stored ≡ true) ⊎ (2 ^ 64 ≤ length self.old.items + more)) }
+        ensures refused { OnErr result
+            ((self.old.stored ≡ true) ⊎ (2 ^ 64 ≤ length self.old.items + more)) }
     {
         if more > usize::MAX - self.count {
             return Err(AllocError);

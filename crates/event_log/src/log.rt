@@ -43,7 +43,8 @@ impl Model for EventLog {
       stored = true;
     } };
 
-    ghost invariant = { λ l. AllByRecursion (IsKnown (length l.clients.list.items) (length l.names.list.items)) l.rows.items
+    ghost invariant = { λ l. AllByRecursion
+        (IsKnown (length l.clients.list.items) (length l.names.list.items)) l.rows.items
         × (is_some l.spare ≡ true → length l.clients.list.items < vec_capacity l.clients.list)
         × (is_some l.spare ≡ true → length l.names.list.items < vec_capacity l.names.list) };
 }
@@ -120,7 +121,8 @@ impl EventLog {
         ensures grow { self.old.capacity ≤ self.new.capacity }
         ensures kept { self.old.spare ≡ true → self.new.spare ≡ true }
         ensures stored { self.new.stored ≡ self.old.stored }
-        ensures refused { OnErr result ((self.old.stored ≡ true) ⊎ (2 ^ 64 ≤ length self.old.items + more)) }
+        ensures refused { OnErr result
+            ((self.old.stored ≡ true) ⊎ (2 ^ 64 ≤ length self.old.items + more)) }
     {
         self.rows.reserve(more)?;
         self.clients.reserve(self.alloc)?;

@@ -2,7 +2,7 @@
 ghost use Rattle.std.specs.Prelude.{◌≡◌, ◌↔◌, ◌<◌, ◌+◌, ℕ, List, [], ◌∷◌, ◌++◌, length, slice_get, Some, is_some, true, option_copied, IsTrue, IsSome, IfSome, IfOk, vec_capacity};
 ghost use Rattle.history.specs.declared.asks.Ask.TheVariants.{Finish as FinishAsk, Dirty as DirtyAsk, Clean as CleanAsk, Lookup as LookupAsk};
 ghost use Rattle.object_ids.specs.Client.{Client};
-ghost use Rattle.event_log.specs.Rows.{IsPlain, IsOfFew, IsAmong, IsKnown, client_at, client_of, event_of, event_with, name_looked_up, name_at, objects_of};
+ghost use Rattle.event_log.specs.Rows.{IsPlain, IsOfFew, IsAmong, IsBare, IsKnown, IsLeaseCall, client_at, client_of, event_of, event_with, name_looked_up, name_at, objects_of};
 ghost use Rattle.event_log.specs.Views.{event_viewed};
 
 use crate::numbered::{Clients, Names};
@@ -119,7 +119,9 @@ pub(crate) fn is_plain(space: &Uid, ask: &Ask) -> bool
 /// Returns the content of the row of a request that is kept in its row alone.
 fn plain_what(space: &Uid, ask: &Ask) -> What
     requires { IsPlain space.now ask.now }
-    ensures row { (clients : List Client) → (names : List (List ℕ)) → (by moment : ℕ) → event_with space.now clients names by moment result ≡ record { by = by; moment = moment; ask = ask.now } }
+    ensures row { (clients : List Client) → (names : List (List ℕ)) → (by moment : ℕ)
+        → event_with space.now clients names by moment result
+        ≡ record { by = by; moment = moment; ask = ask.now } }
     ensures known { (clients names : ℕ) → IsAmong clients names result }
 {
     match ask {
@@ -148,7 +150,8 @@ fn plain_what(space: &Uid, ask: &Ask) -> What
 /// The row of an event that is kept in it alone.
 pub(crate) fn plain_row(space: &Uid, event: Event) -> Row
     requires { IsPlain space.now event.ask }
-    ensures row { (clients : List Client) → (names : List (List ℕ)) → event_of space.now clients names result ≡ event }
+    ensures row { (clients : List Client) → (names : List (List ℕ))
+        → event_of space.now clients names result ≡ event }
     ensures known { (clients names : ℕ) → IsKnown clients names result }
 {
     Row {
@@ -185,7 +188,8 @@ fn none_or_own(space: &Uid, objects: &ObjIds) -> Option<Option<i64>>
 
 /// The number of a list's only object, where it is of the space; None for any other list.
 fn own_object(space: &Uid, objects: &ObjIds) -> Option<i64>
-    ensures { IfSome result (λ object. objects.now ≡ record { number = object; space = space.now } ∷ []) }
+    ensures { IfSome result
+        (λ object. objects.now ≡ record { number = object; space = space.now } ∷ []) }
 {
     if objects.len() == 1 && objects[0].space.is_same(space) {
         Some(objects[0].number)
@@ -218,7 +222,8 @@ fn client_in(ask: Ask) -> Option<Vmid>
 
 /// A number of the client whose call it is, if one is found.
 fn number_of_client(clients: &Clients, ask: &Ask) -> Option<u32>
-    ensures { IfSome result (λ number. slice_get clients.now.list.items number ≡ client_of ask.now) }
+    ensures { IfSome result
+        (λ number. slice_get clients.now.list.items number ≡ client_of ask.now) }
 {
     match client_of(ask) {
         Some(client) => clients.find(client),
@@ -229,8 +234,14 @@ fn number_of_client(clients: &Clients, ask: &Ask) -> Option<u32>
 /// Returns the content of the row of a Dirty. It names the space's object of the number `object`, or none. Its client has
 /// the number `client`.
 fn dirty_what(client: u32, number: i64, asked: i64, object: Option<i64>) -> What
-    ensures row { (space : Uid) → (clients : List Client) → (names : List (List ℕ)) → (by moment : ℕ) →
-        event_with space clients names by moment result ≡ record { by = by; moment = moment; ask = DirtyAsk (client_at clients client) number asked (objects_of space object) } }
+    ensures row { (space : Uid) → (clients : List Client) → (names : List (List ℕ))
+        → (by moment : ℕ)
+        → event_with space clients names by moment result
+        ≡ record {
+          by = by;
+          moment = moment;
+          ask = DirtyAsk (client_at clients client) number asked (objects_of space object);
+        } }
     ensures known { (clients names : ℕ) → client < clients → IsAmong clients names result }
 {
     match object {
@@ -251,8 +262,14 @@ fn dirty_what(client: u32, number: i64, asked: i64, object: Option<i64>) -> What
 /// Returns the content of the row of a Clean. It names the space's object of the number `object`, or none. Its client has
 /// the number `client`.
 fn clean_what(client: u32, number: i64, strong: bool, object: Option<i64>) -> What
-    ensures row { (space : Uid) → (clients : List Client) → (names : List (List ℕ)) → (by moment : ℕ) →
-        event_with space clients names by moment result ≡ record { by = by; moment = moment; ask = CleanAsk (client_at clients client) number (objects_of space object) strong } }
+    ensures row { (space : Uid) → (clients : List Client) → (names : List (List ℕ))
+        → (by moment : ℕ)
+        → event_with space clients names by moment result
+        ≡ record {
+          by = by;
+          moment = moment;
+          ask = CleanAsk (client_at clients client) number (objects_of space object) strong;
+        } }
     ensures known { (clients names : ℕ) → client < clients → IsAmong clients names result }
 {
     match object {
@@ -274,8 +291,10 @@ fn clean_what(client: u32, number: i64, strong: bool, object: Option<i64>) -> Wh
 /// Its client has the number `client`.
 fn call_what(space: &Uid, client: u32, object: Option<i64>, ask: &Ask) -> What
     requires { IsOfFew space.now object ask.now }
-    ensures row { (clients : List Client) → (names : List (List ℕ)) → (by moment : ℕ) → slice_get clients client ≡ client_of ask.now →
-        event_with space.now clients names by moment result ≡ record { by = by; moment = moment; ask = ask.now } }
+    ensures row { (clients : List Client) → (names : List (List ℕ)) → (by moment : ℕ)
+        → slice_get clients client ≡ client_of ask.now
+        → event_with space.now clients names by moment result
+        ≡ record { by = by; moment = moment; ask = ask.now } }
     ensures known { (clients names : ℕ) → client < clients → IsAmong clients names result }
 {
     match ask {
@@ -289,7 +308,9 @@ fn call_what(space: &Uid, client: u32, object: Option<i64>, ask: &Ask) -> What
 /// The row of a call of the collector of the space's object of this number, or of none, where its client has that number.
 fn call_row(space: &Uid, client: u32, object: Option<i64>, event: &Event) -> Row
     requires { IsOfFew space.now object event.now.ask }
-    ensures row { (clients : List Client) → (names : List (List ℕ)) → slice_get clients client ≡ client_of event.now.ask → event_of space.now clients names result ≡ event.now }
+    ensures row { (clients : List Client) → (names : List (List ℕ))
+        → slice_get clients client ≡ client_of event.now.ask
+        → event_of space.now clients names result ≡ event.now }
     ensures known { (clients names : ℕ) → client < clients → IsKnown clients names result }
 {
     Row {
@@ -302,7 +323,8 @@ fn call_row(space: &Uid, client: u32, object: Option<i64>, event: &Event) -> Row
 /// The row of an event that is kept whole, in a box that is there.
 fn whole_row(room: Option<Box<Event>>, event: Event) -> Row
     requires { IsSome room }
-    ensures row { (space : Uid) → (clients : List Client) → (names : List (List ℕ)) → event_of space clients names result ≡ event }
+    ensures row { (space : Uid) → (clients : List Client) → (names : List (List ℕ))
+        → event_of space clients names result ≡ event }
     ensures known { (clients names : ℕ) → IsKnown clients names result }
 {
     let moment = event.moment;
@@ -331,10 +353,13 @@ pub(crate) fn row_of(
     requires name_room { length names.old.list.items < vec_capacity names.old.list }
     ensures row { event_of space.now clients.new.list.items names.new.list.items result ≡ event }
     ensures known { IsKnown (length clients.new.list.items) (length names.new.list.items) result }
-    ensures clients { (more : List Client) × (clients.new.list.items ≡ clients.old.list.items ++ more) }
+    ensures clients { (more : List Client)
+        × (clients.new.list.items ≡ clients.old.list.items ++ more) }
     ensures names { (more : List (List ℕ)) × (names.new.list.items ≡ names.old.list.items ++ more) }
-    ensures room { is_some spare.new ≡ true → length clients.new.list.items < vec_capacity clients.new.list }
-    ensures name_room { is_some spare.new ≡ true → length names.new.list.items < vec_capacity names.new.list }
+    ensures room { is_some spare.new ≡ true
+        → length clients.new.list.items < vec_capacity clients.new.list }
+    ensures name_room { is_some spare.new ≡ true
+        → length names.new.list.items < vec_capacity names.new.list }
 {
     match few_objects(space, &event.ask) {
         Some(object) => caller_row(clients, spare, space, object, event),
@@ -354,10 +379,13 @@ fn caller_row(
     requires caller { IsSome (client_of event.ask) }
     requires spare { is_some spare.old ≡ true }
     requires room { length clients.old.list.items < vec_capacity clients.old.list }
-    ensures row { (names : List (List ℕ)) → event_of space.now clients.new.list.items names result ≡ event }
+    ensures row { (names : List (List ℕ))
+        → event_of space.now clients.new.list.items names result ≡ event }
     ensures known { (names : ℕ) → IsKnown (length clients.new.list.items) names result }
-    ensures clients { (more : List Client) × (clients.new.list.items ≡ clients.old.list.items ++ more) }
-    ensures room { is_some spare.new ≡ true → length clients.new.list.items < vec_capacity clients.new.list }
+    ensures clients { (more : List Client)
+        × (clients.new.list.items ≡ clients.old.list.items ++ more) }
+    ensures room { is_some spare.new ≡ true
+        → length clients.new.list.items < vec_capacity clients.new.list }
 {
     match number_of_client(clients, &event.ask) {
         Some(client) => call_row(space, client, object, &event),
@@ -377,10 +405,13 @@ fn fresh_call(
     requires caller { IsSome (client_of event.ask) }
     requires spare { is_some spare.old ≡ true }
     requires room { length clients.old.list.items < vec_capacity clients.old.list }
-    ensures row { (names : List (List ℕ)) → event_of space.now clients.new.list.items names result ≡ event }
+    ensures row { (names : List (List ℕ))
+        → event_of space.now clients.new.list.items names result ≡ event }
     ensures known { (names : ℕ) → IsKnown (length clients.new.list.items) names result }
-    ensures clients { (more : List Client) × (clients.new.list.items ≡ clients.old.list.items ++ more) }
-    ensures room { is_some spare.new ≡ true → length clients.new.list.items < vec_capacity clients.new.list }
+    ensures clients { (more : List Client)
+        × (clients.new.list.items ≡ clients.old.list.items ++ more) }
+    ensures room { is_some spare.new ≡ true
+        → length clients.new.list.items < vec_capacity clients.new.list }
 {
     let hand = spare.take();
     match clients.next() {
@@ -397,9 +428,11 @@ fn fresh_call(
 fn add_caller(clients: &mut Clients, number: u32, ask: Ask)
     requires caller { IsSome (client_of ask) }
     requires room { length clients.old.list.items < vec_capacity clients.old.list }
-    ensures caller { slice_get clients.new.list.items (length clients.old.list.items) ≡ client_of ask }
+    ensures caller { slice_get clients.new.list.items (length clients.old.list.items)
+        ≡ client_of ask }
     ensures len { length clients.new.list.items ≡ length clients.old.list.items + 1 }
-    ensures clients { (more : List Client) × (clients.new.list.items ≡ clients.old.list.items ++ more) }
+    ensures clients { (more : List Client)
+        × (clients.new.list.items ≡ clients.old.list.items ++ more) }
 {
     if let Some(client) = client_in(ask) {
         clients.add(number, client);
@@ -415,7 +448,8 @@ fn is_lookup(ask: &Ask) -> bool
 
 /// A number of the name that is looked up, if one is found.
 fn number_of_name(names: &Names, ask: &Ask) -> Option<u32>
-    ensures name { IfSome result (λ number. slice_get names.now.list.items number ≡ name_looked_up ask.now) }
+    ensures name { IfSome result
+        (λ number. slice_get names.now.list.items number ≡ name_looked_up ask.now) }
     ensures lookup { IfSome result (λ number. IsSome (name_looked_up ask.now)) }
 {
     match ask {
@@ -437,8 +471,10 @@ fn looked_up_in(ask: Ask) -> Option<Name>
 /// Returns the content of the row of a Lookup, where its name has the number `name`.
 fn lookup_what(name: u32, ask: &Ask) -> What
     requires { IsSome (name_looked_up ask.now) }
-    ensures row { (space : Uid) → (clients : List Client) → (names : List (List ℕ)) → (by moment : ℕ) → slice_get names name ≡ name_looked_up ask.now →
-        event_with space clients names by moment result ≡ record { by = by; moment = moment; ask = ask.now } }
+    ensures row { (space : Uid) → (clients : List Client) → (names : List (List ℕ))
+        → (by moment : ℕ) → slice_get names name ≡ name_looked_up ask.now
+        → event_with space clients names by moment result
+        ≡ record { by = by; moment = moment; ask = ask.now } }
     ensures known { (clients names : ℕ) → name < names → IsAmong clients names result }
 {
     match ask {
@@ -451,7 +487,9 @@ fn lookup_what(name: u32, ask: &Ask) -> What
 /// The row of a Lookup, where its name has that number.
 fn lookup_row(name: u32, event: &Event) -> Row
     requires { IsSome (name_looked_up event.now.ask) }
-    ensures row { (space : Uid) → (clients : List Client) → (names : List (List ℕ)) → slice_get names name ≡ name_looked_up event.now.ask → event_of space clients names result ≡ event.now }
+    ensures row { (space : Uid) → (clients : List Client) → (names : List (List ℕ))
+        → slice_get names name ≡ name_looked_up event.now.ask
+        → event_of space clients names result ≡ event.now }
     ensures known { (clients names : ℕ) → name < names → IsKnown clients names result }
 {
     Row {
@@ -465,10 +503,12 @@ fn lookup_row(name: u32, event: &Event) -> Row
 fn other_row(names: &mut Names, spare: &mut Option<Box<Event>>, event: Event) -> Row
     requires spare { is_some spare.old ≡ true }
     requires room { length names.old.list.items < vec_capacity names.old.list }
-    ensures row { (space : Uid) → (clients : List Client) → event_of space clients names.new.list.items result ≡ event }
+    ensures row { (space : Uid) → (clients : List Client)
+        → event_of space clients names.new.list.items result ≡ event }
     ensures known { (clients : ℕ) → IsKnown clients (length names.new.list.items) result }
     ensures names { (more : List (List ℕ)) × (names.new.list.items ≡ names.old.list.items ++ more) }
-    ensures room { is_some spare.new ≡ true → length names.new.list.items < vec_capacity names.new.list }
+    ensures room { is_some spare.new ≡ true
+        → length names.new.list.items < vec_capacity names.new.list }
 {
     if !is_lookup(&event.ask) {
         return whole_row(spare.take(), event);
@@ -484,10 +524,12 @@ fn fresh_lookup(names: &mut Names, spare: &mut Option<Box<Event>>, event: Event)
     requires lookup { IsSome (name_looked_up event.ask) }
     requires spare { is_some spare.old ≡ true }
     requires room { length names.old.list.items < vec_capacity names.old.list }
-    ensures row { (space : Uid) → (clients : List Client) → event_of space clients names.new.list.items result ≡ event }
+    ensures row { (space : Uid) → (clients : List Client)
+        → event_of space clients names.new.list.items result ≡ event }
     ensures known { (clients : ℕ) → IsKnown clients (length names.new.list.items) result }
     ensures names { (more : List (List ℕ)) × (names.new.list.items ≡ names.old.list.items ++ more) }
-    ensures room { is_some spare.new ≡ true → length names.new.list.items < vec_capacity names.new.list }
+    ensures room { is_some spare.new ≡ true
+        → length names.new.list.items < vec_capacity names.new.list }
 {
     let hand = spare.take();
     match names.next() {
@@ -504,7 +546,8 @@ fn fresh_lookup(names: &mut Names, spare: &mut Option<Box<Event>>, event: Event)
 fn add_name(names: &mut Names, number: u32, ask: Ask)
     requires lookup { IsSome (name_looked_up ask) }
     requires room { length names.old.list.items < vec_capacity names.old.list }
-    ensures name { slice_get names.new.list.items (length names.old.list.items) ≡ name_looked_up ask }
+    ensures name { slice_get names.new.list.items (length names.old.list.items)
+        ≡ name_looked_up ask }
     ensures len { length names.new.list.items ≡ length names.old.list.items + 1 }
     ensures names { (more : List (List ℕ)) × (names.new.list.items ≡ names.old.list.items ++ more) }
 {
@@ -559,7 +602,12 @@ fn dirty<'a>(
     asked: i64,
     objects: ObjIds,
 ) -> Result<EventView<'a>, AllocError>
-    ensures { IfOk result (λ view. event_viewed view ≡ record { by = row.now.by; moment = row.now.moment; ask = DirtyAsk client.now number asked objects }) }
+    ensures { IfOk result (λ view. event_viewed view
+        ≡ record {
+          by = row.now.by;
+          moment = row.now.moment;
+          ask = DirtyAsk client.now number asked objects;
+        }) }
 {
     let client = client.copy(alloc)?;
     let ask = Ask::Dirty {
@@ -584,7 +632,12 @@ fn clean<'a>(
     objects: ObjIds,
     strong: bool,
 ) -> Result<EventView<'a>, AllocError>
-    ensures { IfOk result (λ view. event_viewed view ≡ record { by = row.now.by; moment = row.now.moment; ask = CleanAsk client.now number objects strong }) }
+    ensures { IfOk result (λ view. event_viewed view
+        ≡ record {
+          by = row.now.by;
+          moment = row.now.moment;
+          ask = CleanAsk client.now number objects strong;
+        }) }
 {
     let client = client.copy(alloc)?;
     let ask = Ask::Clean {
@@ -602,7 +655,8 @@ fn clean<'a>(
 
 /// A Lookup of this name.
 fn lookup<'a>(alloc: Global, row: &Row, name: &Name, uid: Uid) -> Result<EventView<'a>, AllocError>
-    ensures { IfOk result (λ view. event_viewed view ≡ record { by = row.now.by; moment = row.now.moment; ask = LookupAsk name.now uid }) }
+    ensures { IfOk result (λ view. event_viewed view
+        ≡ record { by = row.now.by; moment = row.now.moment; ask = LookupAsk name.now uid }) }
 {
     let name = name.copy(alloc)?;
     Ok(EventView::Made(Event {
@@ -612,58 +666,14 @@ fn lookup<'a>(alloc: Global, row: &Row, name: &Name, uid: Uid) -> Result<EventVi
     }))
 }
 
-/// The event of a row. It is refused only for want of memory.
-pub(crate) fn view_of<'a>(
-    alloc: Global,
-    space: Uid,
-    clients: &[Vmid],
-    names: &[Name],
-    row: &'a Row,
-) -> Result<EventView<'a>, AllocError>
-    requires { IsKnown (length clients.now) (length names.now) row.now }
-    ensures { IfOk result (λ view. event_viewed view ≡ event_of space clients.now names.now row.now) }
+/// Returns the ask of a row that says it by itself.
+fn bare_ask(alloc: Global, space: Uid, what: &What) -> Ask
+    requires { IsBare what.now }
+    ensures { (clients : List Client) (names : List (List ℕ)) (by moment : ℕ)
+        → event_with space clients names by moment what.now
+        ≡ record { by = by; moment = moment; ask = result } }
 {
-    let ask = match &row.what {
-        What::Whole(event) => return Ok(EventView::Kept(event)),
-        What::Dirties {
-            client,
-            number,
-            asked,
-            object,
-        } => {
-            let client = client_numbered(clients, *client);
-            let objects = list_of(alloc, space, *object)?;
-            return dirty(alloc, row, client, *number, *asked, objects);
-        }
-        What::Renews {
-            client,
-            number,
-            asked,
-        } => {
-            let client = client_numbered(clients, *client);
-            return dirty(alloc, row, client, *number, *asked, ObjIds::new(alloc));
-        }
-        What::Cleans {
-            client,
-            strong,
-            number,
-            object,
-        } => {
-            let client = client_numbered(clients, *client);
-            let objects = list_of(alloc, space, *object)?;
-            return clean(alloc, row, client, *number, objects, *strong);
-        }
-        What::CleansNothing {
-            client,
-            strong,
-            number,
-        } => {
-            let client = client_numbered(clients, *client);
-            return clean(alloc, row, client, *number, ObjIds::new(alloc), *strong);
-        }
-        What::LooksUp { name, uid } => {
-            return lookup(alloc, row, name_numbered(names, *name), *uid);
-        }
+    match what {
         What::Opens { kind, pinned } => Ask::Open {
             kind: *kind,
             pinned: *pinned,
@@ -673,11 +683,90 @@ pub(crate) fn view_of<'a>(
         What::Abandons { object } => Ask::Abandon { object: *object },
         What::Acks { uid } => Ask::Ack { uid: *uid },
         What::ListsNames => Ask::List,
-        What::Ticks => Ask::Tick,
-    };
-    Ok(EventView::Made(Event {
-        by: row.by,
-        moment: row.moment,
-        ask,
-    }))
+        // no other row says its ask by itself
+        _ => Ask::Tick,
+    }
+}
+
+/// Returns the event of a row that is a call of the collector.
+fn lease_call<'a>(
+    alloc: Global,
+    space: Uid,
+    clients: &[Vmid],
+    row: &Row,
+) -> Result<EventView<'a>, AllocError>
+    requires call { IsLeaseCall row.now.what }
+    requires known { IsKnown (length clients.now) 0 row.now }
+    ensures { IfOk result (λ view. (names : List (List ℕ))
+        → event_viewed view ≡ event_of space clients.now names row.now) }
+{
+    match &row.what {
+        What::Dirties {
+            client,
+            number,
+            asked,
+            object,
+        } => {
+            let client = client_numbered(clients, *client);
+            let objects = list_of(alloc, space, *object)?;
+            dirty(alloc, row, client, *number, *asked, objects)
+        }
+        What::Renews {
+            client,
+            number,
+            asked,
+        } => {
+            let client = client_numbered(clients, *client);
+            dirty(alloc, row, client, *number, *asked, ObjIds::new(alloc))
+        }
+        What::Cleans {
+            client,
+            strong,
+            number,
+            object,
+        } => {
+            let client = client_numbered(clients, *client);
+            let objects = list_of(alloc, space, *object)?;
+            clean(alloc, row, client, *number, objects, *strong)
+        }
+        What::CleansNothing {
+            client,
+            strong,
+            number,
+        } => {
+            let client = client_numbered(clients, *client);
+            clean(alloc, row, client, *number, ObjIds::new(alloc), *strong)
+        }
+        _ => unreachable!(),
+    }
+}
+
+/// Returns the event of a row. It fails only if there is no memory.
+pub(crate) fn view_of<'a>(
+    alloc: Global,
+    space: Uid,
+    clients: &[Vmid],
+    names: &[Name],
+    row: &'a Row,
+) -> Result<EventView<'a>, AllocError>
+    requires { IsKnown (length clients.now) (length names.now) row.now }
+    ensures { IfOk result (λ view.
+        event_viewed view ≡ event_of space clients.now names.now row.now) }
+{
+    match &row.what {
+        What::Whole(event) => Ok(EventView::Kept(event)),
+        What::LooksUp { name, uid } => lookup(alloc, row, name_numbered(names, *name), *uid),
+        What::Dirties { .. } => lease_call(alloc, space, clients, row),
+        What::Renews { .. } => lease_call(alloc, space, clients, row),
+        What::Cleans { .. } => lease_call(alloc, space, clients, row),
+        What::CleansNothing { .. } => lease_call(alloc, space, clients, row),
+        what => {
+            let ask = bare_ask(alloc, space, what);
+            Ok(EventView::Made(Event {
+                by: row.by,
+                moment: row.moment,
+                ask,
+            }))
+        }
+    }
 }

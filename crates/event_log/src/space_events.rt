@@ -106,7 +106,8 @@ impl SpaceEvents {
         ensures grow { self.old.capacity ≤ self.new.capacity }
         ensures kept { self.old.spare ≡ true → self.new.spare ≡ true }
         ensures stored { self.new.stored ≡ self.old.stored }
-        ensures refused { OnErr result ((self.old.stored ≡ true) ⊎ (2 ^ 64 ≤ length self.old.items + more)) }
+        ensures refused { OnErr result
+            ((self.old.stored ≡ true) ⊎ (2 ^ 64 ≤ length self.old.items + more)) }
     {
         match &mut self.kept {
             Kept::Stored(log) => log.reserve(more),

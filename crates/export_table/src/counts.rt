@@ -37,7 +37,8 @@ pub fn count_of(counts: &Counts, object: &ObjId) -> u32
 pub fn raise(counts: &mut Counts, object: &ObjId)
     requires room { 0 < spare counts.old }
     requires few { count_at counts.old object.now < 2 ^ 31 }
-    ensures counts { (o : ObjId) → count_at counts.new o ≡ count_at counts.old o + one_if (same_id object.now o) }
+    ensures counts { (o : ObjId)
+        → count_at counts.new o ≡ count_at counts.old o + one_if (same_id object.now o) }
     ensures room { spare counts.old ≤ spare counts.new + 1 }
 {
     let count = count_of(counts, object);
@@ -50,7 +51,8 @@ pub fn raise(counts: &mut Counts, object: &ObjId)
 /// Counts one reference fewer to an object. It takes no memory.
 pub fn lower(counts: &mut Counts, object: &ObjId)
     requires { 1 ≤ count_at counts.old object.now }
-    ensures counts { (o : ObjId) → count_at counts.new o + one_if (same_id object.now o) ≡ count_at counts.old o }
+    ensures counts { (o : ObjId)
+        → count_at counts.new o + one_if (same_id object.now o) ≡ count_at counts.old o }
     ensures room { spare counts.old ≤ spare counts.new }
 {
     let count = count_of(counts, object);
@@ -64,7 +66,8 @@ pub fn lower(counts: &mut Counts, object: &ObjId)
 /// Sets the count of an object that has one. It takes no memory.
 fn set(counts: &mut Counts, object: &ObjId, count: u32)
     requires { 1 ≤ count_at counts.old object.now }
-    ensures counts { (o : ObjId) → count_at counts.new o ≡ (if same_id object.now o then count else count_at counts.old o) }
+    ensures counts { (o : ObjId)
+        → count_at counts.new o ≡ (if same_id object.now o then count else count_at counts.old o) }
     ensures room { spare counts.old ≤ spare counts.new }
 {
     if let Some(slot) = counts.get_mut(object) {
@@ -74,7 +77,8 @@ fn set(counts: &mut Counts, object: &ObjId, count: u32)
 
 /// Forgets the count of an object. It takes no memory.
 fn forget(counts: &mut Counts, object: &ObjId)
-    ensures counts { (o : ObjId) → count_at counts.new o ≡ (if same_id object.now o then 0 else count_at counts.old o) }
+    ensures counts { (o : ObjId)
+        → count_at counts.new o ≡ (if same_id object.now o then 0 else count_at counts.old o) }
     ensures room { spare counts.old ≤ spare counts.new }
 {
     counts.swap_remove(object);
@@ -93,8 +97,9 @@ pub fn has(references: &References, object: &ObjId, uid: &Uid) -> bool
 /// Notes that a reference is listed. There is room for it.
 pub fn note(references: &mut References, object: &ObjId, uid: &Uid)
     requires { 0 < places references.old }
-    ensures references { (o : ObjId) (u : Uid) →
-        has_reference references.new o u ≡ (is_reference object.now uid.now o u || has_reference references.old o u) }
+    ensures references { (o : ObjId) (u : Uid)
+        → has_reference references.new o u
+        ≡ (is_reference object.now uid.now o u || has_reference references.old o u) }
     ensures room { places references.old ≤ places references.new + 1 }
 {
     let reference = Reference {
@@ -109,8 +114,10 @@ pub fn note(references: &mut References, object: &ObjId, uid: &Uid)
 
 /// Notes that a reference is listed no more. It takes no memory.
 pub fn unnote(references: &mut References, object: &ObjId, uid: &Uid)
-    ensures references { (o : ObjId) (u : Uid) →
-        has_reference references.new o u ≡ (if is_reference object.now uid.now o u then false else has_reference references.old o u) }
+    ensures references { (o : ObjId) (u : Uid)
+        → has_reference references.new o u
+        ≡ (if is_reference object.now uid.now o u then false else has_reference references.old o
+        u) }
     ensures room { places references.old ≤ places references.new }
 {
     references.swap_remove(&Reference {

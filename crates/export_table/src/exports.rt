@@ -97,7 +97,8 @@ impl Exports {
     pub fn fresh(alloc: Global, uid: Uid, ack_ms: u64) -> Exports
         requires some { 1 ≤ ack_ms }
         requires short { ack_ms ≤ MAX_DURATION_MS }
-        ensures { result ≡ record { space = uid; ack = ack_ms; added = 0; rows = []; waits = []; room = no_room } }
+        ensures { result ≡ record
+            { space = uid; ack = ack_ms; added = 0; rows = []; waits = []; room = no_room } }
     {
         Exports {
             space: uid,
@@ -112,11 +113,16 @@ impl Exports {
     pub fn add(&mut self, kind: u32, pinned: bool) -> Result<ObjId, ExportFault>
         requires { self.old.added < END_OF_OBJECT_COUNT }
         ensures id { IfOk result (λ id. id ≡ id_at self.old.space self.old.added) }
-        ensures ok { OnOk result (let rows = self.old.rows ++ new_row (id_at self.old.space self.old.added) kind pinned ∷ [] in
-            self.new ≡ record self.old { added = self.old.added + 1; rows = rows; room = self.new.room }) }
-        ensures full { (result ≡ Err (ExportFault.Full FullExports)) ↔ (MAX_EXPORTS ≤ length self.old.rows) }
+        ensures ok { OnOk result
+            (let rows = self.old.rows
+            ++ new_row (id_at self.old.space self.old.added) kind pinned ∷ [] in
+            self.new ≡ record self.old
+            { added = self.old.added + 1; rows = rows; room = self.new.room }) }
+        ensures full { (result ≡ Err (ExportFault.Full FullExports))
+            ↔ (MAX_EXPORTS ≤ length self.old.rows) }
         ensures memory { 0 < self.old.room.exports → result ≢ Err ExportFault.OutOfMemory }
-        ensures faults { IfErr result (λ fault. (fault ≡ ExportFault.Full FullExports) ⊎ (fault ≡ ExportFault.OutOfMemory)) }
+        ensures faults { IfErr result
+            (λ fault. (fault ≡ ExportFault.Full FullExports) ⊎ (fault ≡ ExportFault.OutOfMemory)) }
         ensures err { OnErr result (self.new ≡ self.old) }
 
         // It takes at most one place of the room.
@@ -196,7 +202,8 @@ impl Exports {
     /// The number of exported objects.
     pub fn count(&self) -> u32
         ensures value { result ≡ length self.now.rows }
-        ensures sound { IsSound self.now.space self.now.ack self.now.added self.now.rows self.now.waits }
+        ensures sound { IsSound self.now.space self.now.ack self.now.added self.now.rows
+            self.now.waits }
     {
         self.rows.count() as u32
     }
@@ -213,7 +220,8 @@ impl Exports {
     pub fn begin(&mut self, id: ObjId) -> bool
         requires { running_of self.old.rows id < 2 ^ 31 }
         ensures value { result ≡ is_exported self.old.rows id }
-        ensures begun { self.new ≡ record self.old { rows = with_row_changed with_call_begun id self.old.rows } }
+        ensures begun { self.new ≡ record self.old
+            { rows = with_row_changed with_call_begun id self.old.rows } }
         ensures absent { result ≡ false → self.new ≡ self.old }
     {
         self.rows.begin(&id)
@@ -222,7 +230,8 @@ impl Exports {
     /// Ends a call of an object.
     pub fn end(&mut self, id: ObjId)
         requires { 0 < running_of self.old.rows id }
-        ensures { self.new ≡ record self.old { rows = with_row_changed with_call_ended id self.old.rows } }
+        ensures { self.new ≡ record self.old
+            { rows = with_row_changed with_call_ended id self.old.rows } }
     {
         self.rows.end(&id);
     }
@@ -236,9 +245,11 @@ impl Exports {
         ensures ok { OnOk result (let waits = with_listed self.old.ack now id uid self.old.waits in
             self.new ≡ record self.old { waits = waits; room = self.new.room }) }
         ensures full { (result ≡ Err (ExportFault.Full FullAwaiting))
-            ↔ ((MAX_AWAITING ≤ length (still_waiting now self.old.waits)) × (is_waiting now id uid self.old.waits ≡ false)) }
+            ↔ ((MAX_AWAITING ≤ length (still_waiting now self.old.waits))
+            × (is_waiting now id uid self.old.waits ≡ false)) }
         ensures memory { 0 < self.old.room.waits → result ≢ Err ExportFault.OutOfMemory }
-        ensures faults { IfErr result (λ fault. (fault ≡ ExportFault.Full FullAwaiting) ⊎ (fault ≡ ExportFault.OutOfMemory)) }
+        ensures faults { IfErr result
+            (λ fault. (fault ≡ ExportFault.Full FullAwaiting) ⊎ (fault ≡ ExportFault.OutOfMemory)) }
         ensures err { OnErr result (self.new ≡ self.old) }
 
         // It takes at most one place of the room.
@@ -267,7 +278,8 @@ impl Exports {
     pub fn pin(&mut self, id: ObjId)
         requires exported { IsTrue (is_exported self.old.rows id) }
         requires few { pins_of self.old.rows id < 2 ^ 31 }
-        ensures { self.new ≡ record self.old { rows = with_row_changed pinned_once id self.old.rows } }
+        ensures { self.new ≡ record self.old
+            { rows = with_row_changed pinned_once id self.old.rows } }
     {
         self.rows.pin(&id);
     }
@@ -276,7 +288,8 @@ impl Exports {
     pub fn unpin(&mut self, id: ObjId)
         requires exported { IsTrue (is_exported self.old.rows id) }
         requires stands { 0 < pins_of self.old.rows id }
-        ensures { self.new ≡ record self.old { rows = with_row_changed unpinned_once id self.old.rows } }
+        ensures { self.new ≡ record self.old
+            { rows = with_row_changed unpinned_once id self.old.rows } }
     {
         self.rows.unpin(&id);
     }
@@ -293,7 +306,8 @@ impl Exports {
             self.new ≡ record self.old { rows = rows; waits = waits; room = self.new.room }) }
         ensures gone { ForEachLog leases.old (λ lease moment calls.
             let held = held_by lease (max now moment) calls in
-            gone.new.items ≡ gone.old.items ++ withdrawn_ids now held self.old.waits self.old.rows) }
+            gone.new.items
+            ≡ gone.old.items ++ withdrawn_ids now held self.old.waits self.old.rows) }
         ensures dropped { ForEachLog leases.old (λ lease moment calls.
             let held = held_by lease (max now moment) calls in
             let dropped = withdrawn_ids now held self.old.waits self.old.rows in
@@ -324,10 +338,16 @@ impl Exports {
             self.new ≡ record self.old { rows = rows; waits = waits; room = self.new.room }) }
         ensures gone { ForEachLog leases.old (λ lease moment calls.
             let held = held_by lease (max now moment) calls in
-            gone.new.items ≡ gone.old.items ++ ids (filter (λ x. not (stays_among doubtful.now now held self.old.waits x)) self.old.rows)) }
+            gone.new.items
+            ≡ gone.old.items
+            ++ ids
+            (filter (λ x. not (stays_among doubtful.now now held self.old.waits x))
+            self.old.rows)) }
         ensures dropped { ForEachLog leases.old (λ lease moment calls.
             let held = held_by lease (max now moment) calls in
-            let dropped = ids (filter (λ x. not (stays_among doubtful.now now held self.old.waits x)) self.old.rows) in
+            let dropped = ids
+            (filter (λ x. not (stays_among doubtful.now now held self.old.waits x))
+            self.old.rows) in
             StandsFor lease leases.new moment (map (without_all dropped) calls)) }
         ensures exports_room { self.old.room.exports ≤ self.new.room.exports }
         ensures waits_room { self.old.room.waits ≤ self.new.room.waits }

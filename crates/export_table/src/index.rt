@@ -17,7 +17,8 @@ pub fn add(counts: &mut Counts, references: &mut References, returns: &mut Retur
     requires returns_room { 0 < spare returns.old }
     requires few { count_at counts.old wait.now.object < 2 ^ 31 }
     requires few_returned { returned_at returns.old wait.now.uid < 2 ^ 31 }
-    ensures index { (waits : List Wait) → IsIndexOf counts.old references.old returns.old waits → IsIndexOf counts.new references.new returns.new (waits ++ wait.now ∷ []) }
+    ensures index { (waits : List Wait) → IsIndexOf counts.old references.old returns.old waits
+        → IsIndexOf counts.new references.new returns.new (waits ++ wait.now ∷ []) }
     ensures counts_room { spare counts.old ≤ spare counts.new + 1 }
     ensures references_room { places references.old ≤ places references.new + 1 }
     ensures returns_room { spare returns.old ≤ spare returns.new + 1 }
@@ -31,8 +32,9 @@ pub fn add(counts: &mut Counts, references: &mut References, returns: &mut Retur
 fn remove(counts: &mut Counts, references: &mut References, returns: &mut Returns, wait: &Wait)
     requires counted { 1 ≤ count_at counts.old wait.now.object }
     requires returned { 1 ≤ returned_at returns.old wait.now.uid }
-    ensures index { (before after : List Wait) → each_once (before ++ wait.now ∷ after) ≡ true →
-        IsIndexOf counts.old references.old returns.old (before ++ wait.now ∷ after) → IsIndexOf counts.new references.new returns.new (before ++ after) }
+    ensures index { (before after : List Wait) → each_once (before ++ wait.now ∷ after) ≡ true
+        → IsIndexOf counts.old references.old returns.old (before ++ wait.now ∷ after)
+        → IsIndexOf counts.new references.new returns.new (before ++ after) }
     ensures counts_room { spare counts.old ≤ spare counts.new }
     ensures references_room { places references.old ≤ places references.new }
     ensures returns_room { spare returns.old ≤ spare returns.new }
@@ -52,9 +54,10 @@ fn remove_unless(
 )
     requires counted { 1 ≤ count_at counts.old wait.now.object }
     requires returned { 1 ≤ returned_at returns.old wait.now.uid }
-    ensures index { (before after : List Wait) → each_once (before ++ wait.now ∷ after) ≡ true →
-        IsIndexOf counts.old references.old returns.old (before ++ wait.now ∷ after) →
-        IsIndexOf counts.new references.new returns.new (if stays which.now wait.now then before ++ wait.now ∷ after else before ++ after) }
+    ensures index { (before after : List Wait) → each_once (before ++ wait.now ∷ after) ≡ true
+        → IsIndexOf counts.old references.old returns.old (before ++ wait.now ∷ after)
+        → IsIndexOf counts.new references.new returns.new
+        (if stays which.now wait.now then before ++ wait.now ∷ after else before ++ after) }
     ensures counts_room { spare counts.old ≤ spare counts.new }
     ensures references_room { places references.old ≤ places references.new }
     ensures returns_room { spare returns.old ≤ spare returns.new }
@@ -81,7 +84,8 @@ pub fn keep(
     requires index { IsIndexOf counts.old references.old returns.old waits.now }
     requires before { filter (stays which.now) (take first waits.now) ≡ take first waits.now }
     requires after { filter (stays which.now) (drop upto waits.now) ≡ drop upto waits.now }
-    ensures index { IsIndexOf counts.new references.new returns.new (filter (stays which.now) waits.now) }
+    ensures index { IsIndexOf counts.new references.new returns.new
+        (filter (stays which.now) waits.now) }
     ensures counts_room { spare counts.old ≤ spare counts.new }
     ensures references_room { places references.old ≤ places references.new }
     ensures returns_room { spare returns.old ≤ spare returns.new }

@@ -23,7 +23,8 @@ pub fn count_of(returns: &Returns, uid: &Uid) -> u32
 pub fn raise(returns: &mut Returns, uid: &Uid)
     requires room { 0 < spare returns.old }
     requires few { returned_at returns.old uid.now < 2 ^ 31 }
-    ensures counts { (u : Uid) → returned_at returns.new u ≡ returned_at returns.old u + one_if (same_uid uid.now u) }
+    ensures counts { (u : Uid)
+        → returned_at returns.new u ≡ returned_at returns.old u + one_if (same_uid uid.now u) }
     ensures room { spare returns.old ≤ spare returns.new + 1 }
 {
     let count = count_of(returns, uid);
@@ -36,7 +37,8 @@ pub fn raise(returns: &mut Returns, uid: &Uid)
 /// Counts one reference fewer of a return. It takes no memory.
 pub fn lower(returns: &mut Returns, uid: &Uid)
     requires { 1 ≤ returned_at returns.old uid.now }
-    ensures counts { (u : Uid) → returned_at returns.new u + one_if (same_uid uid.now u) ≡ returned_at returns.old u }
+    ensures counts { (u : Uid)
+        → returned_at returns.new u + one_if (same_uid uid.now u) ≡ returned_at returns.old u }
     ensures room { spare returns.old ≤ spare returns.new }
 {
     let count = count_of(returns, uid);
@@ -50,7 +52,9 @@ pub fn lower(returns: &mut Returns, uid: &Uid)
 /// Sets the count of a return that has one. It takes no memory.
 fn set(returns: &mut Returns, uid: &Uid, count: u32)
     requires { 1 ≤ returned_at returns.old uid.now }
-    ensures counts { (u : Uid) → returned_at returns.new u ≡ (if same_uid uid.now u then count else returned_at returns.old u) }
+    ensures counts { (u : Uid)
+        → returned_at returns.new u
+        ≡ (if same_uid uid.now u then count else returned_at returns.old u) }
     ensures room { spare returns.old ≤ spare returns.new }
 {
     if let Some(slot) = returns.get_mut(uid) {
@@ -60,7 +64,9 @@ fn set(returns: &mut Returns, uid: &Uid, count: u32)
 
 /// Forgets the count of a return. It takes no memory.
 fn forget(returns: &mut Returns, uid: &Uid)
-    ensures counts { (u : Uid) → returned_at returns.new u ≡ (if same_uid uid.now u then 0 else returned_at returns.old u) }
+    ensures counts { (u : Uid)
+        → returned_at returns.new u
+        ≡ (if same_uid uid.now u then 0 else returned_at returns.old u) }
     ensures room { spare returns.old ≤ spare returns.new }
 {
     returns.swap_remove(uid);

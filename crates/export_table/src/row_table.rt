@@ -40,7 +40,11 @@ impl Model for RowTable {
 
     ghost Value = { RowsHeld };
 
-    ghost view = { λ t. record { rows = rows_here t.slots.items; added = t.added; room = vec_capacity t.slots - vec_len t.slots } };
+    ghost view = { λ t. record {
+      rows = rows_here t.slots.items;
+      added = t.added;
+      room = vec_capacity t.slots - vec_len t.slots;
+    } };
 
     ghost invariant = { λ t. AreSlots t.slots.items t.added t.gaps };
 }
@@ -88,7 +92,8 @@ impl RowTable {
         requires number { row.id.number ≡ pos (16 + self.old.added) }
         requires early { self.old.added < END_OF_OBJECT_COUNT }
         ensures rows { let rows = self.old.rows ++ row ∷ [] in
-            self.new ≡ record self.old { rows = rows; added = self.old.added + 1; room = self.new.room } }
+            self.new ≡ record self.old
+            { rows = rows; added = self.old.added + 1; room = self.new.room } }
         ensures room { self.new.room + 1 ≡ self.old.room }
     {
         slots::put(&mut self.slots, Slot::new(row));
@@ -109,7 +114,8 @@ impl RowTable {
     pub fn begin(&mut self, id: &ObjId) -> bool
         requires { running_of self.old.rows id.now < 2 ^ 31 }
         ensures value { result ≡ is_exported self.old.rows id.now }
-        ensures rows { self.new ≡ record self.old { rows = with_row_changed with_call_begun id.now self.old.rows } }
+        ensures rows { self.new ≡ record self.old
+            { rows = with_row_changed with_call_begun id.now self.old.rows } }
     {
         slots::begin(&mut self.slots, id)
     }
@@ -117,7 +123,8 @@ impl RowTable {
     /// Ends a call of an object.
     pub fn end(&mut self, id: &ObjId)
         requires { 0 < running_of self.old.rows id.now }
-        ensures { self.new ≡ record self.old { rows = with_row_changed with_call_ended id.now self.old.rows } }
+        ensures { self.new ≡ record self.old
+            { rows = with_row_changed with_call_ended id.now self.old.rows } }
     {
         slots::end(&mut self.slots, id);
     }
@@ -125,7 +132,8 @@ impl RowTable {
     /// Pins an object once more.
     pub fn pin(&mut self, id: &ObjId)
         requires { pins_of self.old.rows id.now < 2 ^ 31 }
-        ensures { self.new ≡ record self.old { rows = with_row_changed pinned_once id.now self.old.rows } }
+        ensures { self.new ≡ record self.old
+            { rows = with_row_changed pinned_once id.now self.old.rows } }
     {
         slots::pin(&mut self.slots, id);
     }
@@ -133,7 +141,8 @@ impl RowTable {
     /// Takes a pin off an object.
     pub fn unpin(&mut self, id: &ObjId)
         requires { 0 < pins_of self.old.rows id.now }
-        ensures { self.new ≡ record self.old { rows = with_row_changed unpinned_once id.now self.old.rows } }
+        ensures { self.new ≡ record self.old
+            { rows = with_row_changed unpinned_once id.now self.old.rows } }
     {
         slots::unpin(&mut self.slots, id);
     }
@@ -154,7 +163,9 @@ impl RowTable {
             self.new.rows ≡ filter (is_row_kept now held waits.now.waits) self.old.rows) }
         ensures gone { ForEachLog leases.now (λ lease moment calls.
             let held = held_by lease (max now moment) calls in
-            gone.new.items ≡ gone.old.items ++ ids (filter (λ x. not (is_row_kept now held waits.now.waits x)) self.old.rows)) }
+            gone.new.items
+            ≡ gone.old.items
+            ++ ids (filter (λ x. not (is_row_kept now held waits.now.waits x)) self.old.rows)) }
         ensures part { IsPart self.new.rows self.old.rows }
         ensures rest { self.new ≡ record self.old { rows = self.new.rows } }
         ensures longer { vec_len gone.old ≤ vec_len gone.new }
@@ -180,10 +191,15 @@ impl RowTable {
         requires { vec_len gone.old + length objects.now ≤ vec_capacity gone.old }
         ensures rows { ForEachLog leases.now (λ lease moment calls.
             let held = held_by lease (max now moment) calls in
-            self.new.rows ≡ filter (stays_among objects.now now held waits.now.waits) self.old.rows) }
+            self.new.rows
+            ≡ filter (stays_among objects.now now held waits.now.waits) self.old.rows) }
         ensures gone { ForEachLog leases.now (λ lease moment calls.
             let held = held_by lease (max now moment) calls in
-            gone.new.items ≡ gone.old.items ++ ids (filter (λ x. not (stays_among objects.now now held waits.now.waits x)) self.old.rows)) }
+            gone.new.items
+            ≡ gone.old.items
+            ++ ids
+            (filter (λ x. not (stays_among objects.now now held waits.now.waits x))
+            self.old.rows)) }
         ensures part { IsPart self.new.rows self.old.rows }
         ensures rest { self.new ≡ record self.old { rows = self.new.rows } }
         ensures longer { vec_len gone.old ≤ vec_len gone.new }

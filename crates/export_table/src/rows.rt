@@ -142,7 +142,10 @@ pub fn sift_among(
         rows.new.rows ≡ filter (stays_among objects.now now held waits.old.waits) rows.old.rows) }
     ensures gone { ForEachLog leases.now (λ lease moment calls.
         let held = held_by lease (max now moment) calls in
-        gone.new.items ≡ gone.old.items ++ ids (filter (λ x. not (stays_among objects.now now held waits.old.waits x)) rows.old.rows)) }
+        gone.new.items
+        ≡ gone.old.items
+        ++ ids
+        (filter (λ x. not (stays_among objects.now now held waits.old.waits x)) rows.old.rows)) }
     ensures part { IsPart rows.new.rows rows.old.rows }
     ensures rest { rows.new ≡ record rows.old { rows = rows.new.rows; room = rows.new.room } }
     ensures room { rows.old.room ≤ rows.new.room }

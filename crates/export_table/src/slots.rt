@@ -79,7 +79,8 @@ impl Slot {
         ensures marks { ForEachLog leases.now (λ lease moment calls.
             let held = held_by lease (max now moment) calls in
             self.new ≡ as_marked (is_row_kept now held waits.now.waits) self.old) }
-        ensures any { (self.new ≡ self.old) ⊎ ((is_here self.old ≡ true) × (self.new ≡ as_leaving self.old)) }
+        ensures any { (self.new ≡ self.old)
+            ⊎ ((is_here self.old ≡ true) × (self.new ≡ as_leaving self.old)) }
     {
         if !self.is_here() {
             return;
@@ -109,7 +110,8 @@ impl Span {
 /// The place of an exported object's slot.
 pub fn place_of(slots: &[Slot], id: &ObjId) -> Option<usize>
     requires { IsTrue (is_rising (ids (all_rows slots.now))) }
-    ensures { MatchOption result (is_exported (rows_here slots.now) id.now ≡ false) (IsSlotOf slots.now id.now) }
+    ensures { MatchOption result (is_exported (rows_here slots.now) id.now ≡ false)
+        (IsSlotOf slots.now id.now) }
 {
     let place = first_from(slots, id);
     if place == slots.len() {
@@ -129,8 +131,11 @@ pub fn place_of(slots: &[Slot], id: &ObjId) -> Option<usize>
 fn first_from(slots: &[Slot], id: &ObjId) -> usize
     requires { IsTrue (is_rising (ids (all_rows slots.now))) }
     ensures within { result ≤ length slots.now }
-    ensures below { IsTrue (list_all (λ o. int_lt o.number id.now.number) (ids (take result (all_rows slots.now)))) }
-    ensures from { IsTrue (list_all (λ o. not (int_lt o.number id.now.number)) (ids (drop result (all_rows slots.now)))) }
+    ensures below { IsTrue
+        (list_all (λ o. int_lt o.number id.now.number) (ids (take result (all_rows slots.now)))) }
+    ensures from { IsTrue
+        (list_all (λ o. not (int_lt o.number id.now.number))
+        (ids (drop result (all_rows slots.now)))) }
 {
     let mut low: usize = 0;
     let mut high: usize = slots.len();
@@ -150,8 +155,10 @@ pub fn begin(slots: &mut Vec<Slot>, id: &ObjId) -> bool
     requires rising { IsTrue (is_rising (ids (all_rows slots.old.items))) }
     requires few { running_of (rows_here slots.old.items) id.now < 2 ^ 31 }
     ensures value { result ≡ is_exported (rows_here slots.old.items) id.now }
-    ensures rows { rows_here slots.new.items ≡ with_row_changed with_call_begun id.now (rows_here slots.old.items) }
-    ensures slots { (added gaps : ℕ) → AreSlots slots.old.items added gaps → AreSlots slots.new.items added gaps }
+    ensures rows { rows_here slots.new.items
+        ≡ with_row_changed with_call_begun id.now (rows_here slots.old.items) }
+    ensures slots { (added gaps : ℕ) → AreSlots slots.old.items added gaps
+        → AreSlots slots.new.items added gaps }
     ensures len { vec_len slots.new ≡ vec_len slots.old }
     ensures capacity { vec_capacity slots.new ≡ vec_capacity slots.old }
 {
@@ -168,8 +175,10 @@ pub fn begin(slots: &mut Vec<Slot>, id: &ObjId) -> bool
 pub fn end(slots: &mut Vec<Slot>, id: &ObjId)
     requires rising { IsTrue (is_rising (ids (all_rows slots.old.items))) }
     requires runs { 0 < running_of (rows_here slots.old.items) id.now }
-    ensures rows { rows_here slots.new.items ≡ with_row_changed with_call_ended id.now (rows_here slots.old.items) }
-    ensures slots { (added gaps : ℕ) → AreSlots slots.old.items added gaps → AreSlots slots.new.items added gaps }
+    ensures rows { rows_here slots.new.items
+        ≡ with_row_changed with_call_ended id.now (rows_here slots.old.items) }
+    ensures slots { (added gaps : ℕ) → AreSlots slots.old.items added gaps
+        → AreSlots slots.new.items added gaps }
     ensures len { vec_len slots.new ≡ vec_len slots.old }
     ensures capacity { vec_capacity slots.new ≡ vec_capacity slots.old }
 {
@@ -183,8 +192,10 @@ pub fn end(slots: &mut Vec<Slot>, id: &ObjId)
 pub fn pin(slots: &mut Vec<Slot>, id: &ObjId)
     requires rising { IsTrue (is_rising (ids (all_rows slots.old.items))) }
     requires few { pins_of (rows_here slots.old.items) id.now < 2 ^ 31 }
-    ensures rows { rows_here slots.new.items ≡ with_row_changed pinned_once id.now (rows_here slots.old.items) }
-    ensures slots { (added gaps : ℕ) → AreSlots slots.old.items added gaps → AreSlots slots.new.items added gaps }
+    ensures rows { rows_here slots.new.items
+        ≡ with_row_changed pinned_once id.now (rows_here slots.old.items) }
+    ensures slots { (added gaps : ℕ) → AreSlots slots.old.items added gaps
+        → AreSlots slots.new.items added gaps }
     ensures len { vec_len slots.new ≡ vec_len slots.old }
     ensures capacity { vec_capacity slots.new ≡ vec_capacity slots.old }
 {
@@ -198,8 +209,10 @@ pub fn pin(slots: &mut Vec<Slot>, id: &ObjId)
 pub fn unpin(slots: &mut Vec<Slot>, id: &ObjId)
     requires rising { IsTrue (is_rising (ids (all_rows slots.old.items))) }
     requires stands { 0 < pins_of (rows_here slots.old.items) id.now }
-    ensures rows { rows_here slots.new.items ≡ with_row_changed unpinned_once id.now (rows_here slots.old.items) }
-    ensures slots { (added gaps : ℕ) → AreSlots slots.old.items added gaps → AreSlots slots.new.items added gaps }
+    ensures rows { rows_here slots.new.items
+        ≡ with_row_changed unpinned_once id.now (rows_here slots.old.items) }
+    ensures slots { (added gaps : ℕ) → AreSlots slots.old.items added gaps
+        → AreSlots slots.new.items added gaps }
     ensures len { vec_len slots.new ≡ vec_len slots.old }
     ensures capacity { vec_capacity slots.new ≡ vec_capacity slots.old }
 {
@@ -248,7 +261,8 @@ pub fn list(
 /// Appends the row of a slot as it is at a moment, if its object is exported.
 fn show(list: &mut RowList, slot: &Slot, waits: &WaitList, now: u64) -> Result<(), AllocError>
     requires { length waits.now.waits ≤ MAX_AWAITING }
-    ensures { OnOk result (list.new ≡ list.old ++ map (row_at now waits.now.waits) (rows_here (slot.now ∷ []))) }
+    ensures { OnOk result
+        (list.new ≡ list.old ++ map (row_at now waits.now.waits) (rows_here (slot.now ∷ []))) }
 {
     if !slot.is_here() {
         return Ok(());
@@ -290,7 +304,8 @@ pub fn mark_among(
     requires settled { none_leaving slots.old.items }
     ensures marks { ForEachLog leases.now (λ lease moment calls.
         let held = held_by lease (max now moment) calls in
-        slots.new.items ≡ map (as_marked (stays_among objects.now now held waits.now.waits)) slots.old.items) }
+        slots.new.items
+        ≡ map (as_marked (stays_among objects.now now held waits.now.waits)) slots.old.items) }
     ensures any { AreMarked slots.old.items slots.new.items }
     ensures front { none_leaving (take result.first slots.new.items) }
     ensures back { none_leaving (drop result.upto slots.new.items) }
@@ -322,12 +337,17 @@ fn mark_one(
     requires within { span.old.upto ≤ length slots.old.items }
     ensures marks { ForEachLog leases.now (λ lease moment calls.
         let held = held_by lease (max now moment) calls in
-        slots.new.items ≡ map (as_marked (stays_among (object.now ∷ []) now held waits.now.waits)) slots.old.items) }
+        slots.new.items
+        ≡ map (as_marked (stays_among (object.now ∷ []) now held waits.now.waits))
+        slots.old.items) }
     ensures any { AreMarked slots.old.items slots.new.items }
-    ensures front { none_leaving (take span.old.first slots.old.items) → none_leaving (take span.new.first slots.new.items) }
-    ensures back { none_leaving (drop span.old.upto slots.old.items) → none_leaving (drop span.new.upto slots.new.items) }
+    ensures front { none_leaving (take span.old.first slots.old.items)
+        → none_leaving (take span.new.first slots.new.items) }
+    ensures back { none_leaving (drop span.old.upto slots.old.items)
+        → none_leaving (drop span.new.upto slots.new.items) }
     ensures within { span.new.upto ≤ length slots.new.items }
-    ensures few { length (filter is_leaving slots.new.items) ≤ length (filter is_leaving slots.old.items) + 1 }
+    ensures few { length (filter is_leaving slots.new.items)
+        ≤ length (filter is_leaving slots.old.items) + 1 }
     ensures slots_len { vec_len slots.new ≡ vec_len slots.old }
     ensures slots_capacity { vec_capacity slots.new ≡ vec_capacity slots.old }
 {
@@ -347,7 +367,8 @@ pub fn sweep(slots: &mut Vec<Slot>, first: usize, upto: usize, gone: &mut Vec<Ob
     requires front { none_leaving (take first slots.old.items) }
     requires back { none_leaving (drop upto slots.old.items) }
     requires within { upto ≤ length slots.old.items }
-    requires room { vec_len gone.old + length (filter is_leaving slots.old.items) ≤ vec_capacity gone.old }
+    requires room { vec_len gone.old + length (filter is_leaving slots.old.items)
+        ≤ vec_capacity gone.old }
     ensures slots { slots.new.items ≡ map as_swept slots.old.items }
     ensures gone { gone.new.items ≡ gone.old.items ++ ids (rows_leaving slots.old.items) }
     ensures len { vec_len gone.new ≡ vec_len gone.old + length (filter is_leaving slots.old.items) }

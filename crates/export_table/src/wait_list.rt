@@ -121,7 +121,9 @@ impl WaitList {
 
     /// True where as many references await at a moment as can be, and this one isn't among them.
     pub fn is_full(&self, object: &ObjId, uid: &Uid, time: u64) -> bool
-        ensures { IsTrue result ↔ ((MAX_AWAITING ≤ length (still_waiting time self.now.waits)) × (is_waiting time object.now uid.now self.now.waits ≡ false)) }
+        ensures { IsTrue result
+            ↔ ((MAX_AWAITING ≤ length (still_waiting time self.now.waits))
+            × (is_waiting time object.now uid.now self.now.waits ≡ false)) }
     {
         self.count(time) as u64 >= MAX_AWAITING && !self.is_waiting(object, uid, time)
     }
@@ -225,7 +227,8 @@ impl WaitList {
 
     /// Forgets the wait of this object and return, if it is listed.
     fn drop_one(&mut self, object: &ObjId, uid: &Uid)
-        ensures waits { self.new.waits ≡ filter (λ w. not (is_wait_of object.now uid.now w)) self.old.waits }
+        ensures waits { self.new.waits
+            ≡ filter (λ w. not (is_wait_of object.now uid.now w)) self.old.waits }
         ensures room { self.new.room ≡ self.old.room }
     {
         if has(&self.references, object, uid) {
@@ -247,8 +250,10 @@ impl WaitList {
     fn keep(&mut self, first: usize, upto: usize, which: Stays)
         requires order { first ≤ upto }
         requires within { upto ≤ length self.old.waits }
-        requires before { filter (stays which) (take first self.old.waits) ≡ take first self.old.waits }
-        requires after { filter (stays which) (drop upto self.old.waits) ≡ drop upto self.old.waits }
+        requires before { filter (stays which) (take first self.old.waits)
+            ≡ take first self.old.waits }
+        requires after { filter (stays which) (drop upto self.old.waits)
+            ≡ drop upto self.old.waits }
         ensures waits { self.new.waits ≡ filter (stays which) self.old.waits }
         ensures room { self.new.room ≡ self.old.room }
     {

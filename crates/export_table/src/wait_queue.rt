@@ -38,7 +38,8 @@ impl Model for WaitQueue {
 
     ghost Value = { WaitTable };
 
-    ghost view = { λ q. record { waits = drop q.gone q.waits.items; room = vec_capacity q.waits - vec_len q.waits } };
+    ghost view = { λ q. record
+        { waits = drop q.gone q.waits.items; room = vec_capacity q.waits - vec_len q.waits } };
 
     ghost invariant = { λ q. IsQueue q.waits.items q.gone q.next q.rising };
 }
@@ -77,7 +78,8 @@ impl WaitQueue {
     /// Waits at the front, among which are all that have ended at a moment: none where none has, and no others where the ends rise.
     pub fn due(&self, time: u64) -> &[Wait]
         ensures front { result.now ≡ take (length result.now) self.now.waits }
-        ensures rest { still_waiting time (drop (length result.now) self.now.waits) ≡ drop (length result.now) self.now.waits }
+        ensures rest { still_waiting time (drop (length result.now) self.now.waits)
+            ≡ drop (length result.now) self.now.waits }
         ensures over { ended_waits time result.now ≡ ended_waits time self.now.waits }
         ensures within { length result.now ≤ length self.now.waits }
     {
@@ -88,7 +90,8 @@ impl WaitQueue {
     /// A place behind all waits that have ended at a moment.
     fn due_upto(&self, time: u64) -> usize
         ensures within { result ≤ length self.now.waits }
-        ensures rest { still_waiting time (drop result self.now.waits) ≡ drop result self.now.waits }
+        ensures rest { still_waiting time (drop result self.now.waits)
+            ≡ drop result self.now.waits }
     {
         if time < self.next {
             0
@@ -115,8 +118,10 @@ impl WaitQueue {
     pub fn keep(&mut self, first: usize, upto: usize, which: &Stays)
         requires within { upto ≤ length self.old.waits }
         requires order { first ≤ upto }
-        requires before { filter (stays which.now) (take first self.old.waits) ≡ take first self.old.waits }
-        requires after { filter (stays which.now) (drop upto self.old.waits) ≡ drop upto self.old.waits }
+        requires before { filter (stays which.now) (take first self.old.waits)
+            ≡ take first self.old.waits }
+        requires after { filter (stays which.now) (drop upto self.old.waits)
+            ≡ drop upto self.old.waits }
         ensures waits { self.new.waits ≡ filter (stays which.now) self.old.waits }
         ensures room { self.old.room ≤ self.new.room }
     {
@@ -131,7 +136,8 @@ impl WaitQueue {
     /// Keeps the waits that stay, as all from the place `upto` on do.
     fn keep_before(&mut self, upto: usize, which: &Stays)
         requires within { upto ≤ length self.old.waits }
-        requires after { filter (stays which.now) (drop upto self.old.waits) ≡ drop upto self.old.waits }
+        requires after { filter (stays which.now) (drop upto self.old.waits)
+            ≡ drop upto self.old.waits }
         ensures waits { self.new.waits ≡ filter (stays which.now) self.old.waits }
         ensures room { self.new.room ≡ self.old.room }
     {
@@ -141,7 +147,8 @@ impl WaitQueue {
     /// Keeps the waits that stay, as all before the place `first` do.
     fn keep_behind(&mut self, first: usize, which: &Stays)
         requires within { first ≤ length self.old.waits }
-        requires before { filter (stays which.now) (take first self.old.waits) ≡ take first self.old.waits }
+        requires before { filter (stays which.now) (take first self.old.waits)
+            ≡ take first self.old.waits }
         ensures waits { self.new.waits ≡ filter (stays which.now) self.old.waits }
         ensures room { self.old.room ≤ self.new.room }
     {
@@ -166,7 +173,8 @@ impl WaitQueue {
 
     /// Passes over the waits that ended, where the ends rise, and answers whether they do. It looks at these and at one more.
     fn pass(&mut self, now: u64) -> bool
-        ensures waits { self.new.waits ≡ (if result then still_waiting now self.old.waits else self.old.waits) }
+        ensures waits { self.new.waits
+            ≡ (if result then still_waiting now self.old.waits else self.old.waits) }
         ensures room { self.new.room ≡ self.old.room }
     {
         if !self.rising {

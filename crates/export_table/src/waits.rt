@@ -61,7 +61,8 @@ pub fn count_over(waits: &[Wait], time: u64) -> usize
 
 /// The number of waits of an object that have ended at a moment.
 pub fn count_over_of(waits: &[Wait], object: &ObjId, time: u64) -> usize
-    ensures { result ≡ length (filter (λ w. not (goes_on time w) && same_id w.object object.now) waits.now) }
+    ensures { result ≡ length
+        (filter (λ w. not (goes_on time w) && same_id w.object object.now) waits.now) }
 {
     waits
         .iter()
@@ -71,7 +72,8 @@ pub fn count_over_of(waits: &[Wait], object: &ObjId, time: u64) -> usize
 
 /// True where the wait of this reference has ended at a moment.
 pub fn is_over(waits: &[Wait], object: &ObjId, uid: &Uid, time: u64) -> bool
-    ensures { result ≡ list_any (λ w. not (goes_on time w) && is_wait_of object.now uid.now w) waits.now }
+    ensures { result ≡ list_any (λ w. not (goes_on time w) && is_wait_of object.now uid.now w)
+        waits.now }
 {
     waits
         .iter()
@@ -130,7 +132,8 @@ pub fn objects_that_go(
     waits: &[Wait],
     which: &Stays,
 ) -> Result<Vec<ObjId>, AllocError>
-    ensures { IfOk result (λ objects. objects.items ≡ map (λ w. w.object) (filter (λ w. not (stays which.now w)) waits.now)) }
+    ensures { IfOk result (λ objects.
+        objects.items ≡ map (λ w. w.object) (filter (λ w. not (stays which.now w)) waits.now)) }
 {
     waits
         .iter()
@@ -214,8 +217,10 @@ fn keep(waits: &mut [Wait], first: usize, which: &Stays) -> usize
 pub fn keep_behind(waits: &mut Vec<Wait>, gone: usize, first: usize, which: &Stays)
     requires gone { gone ≤ length waits.old.items }
     requires within { first ≤ length (drop gone waits.old.items) }
-    requires before { filter (stays which.now) (take first (drop gone waits.old.items)) ≡ take first (drop gone waits.old.items) }
-    ensures kept { drop gone waits.new.items ≡ filter (stays which.now) (drop gone waits.old.items) }
+    requires before { filter (stays which.now) (take first (drop gone waits.old.items))
+        ≡ take first (drop gone waits.old.items) }
+    ensures kept { drop gone waits.new.items
+        ≡ filter (stays which.now) (drop gone waits.old.items) }
     ensures gone { gone ≤ length waits.new.items }
     ensures len { vec_len waits.new ≤ vec_len waits.old }
     ensures capacity { vec_capacity waits.new ≡ vec_capacity waits.old }
@@ -228,7 +233,8 @@ pub fn keep_behind(waits: &mut Vec<Wait>, gone: usize, first: usize, which: &Sta
 /// It looks at none from that place on.
 pub fn keep_before(waits: &mut [Wait], gone: usize, upto: usize, which: &Stays) -> usize
     requires within { gone + upto ≤ length waits.old }
-    requires after { filter (stays which.now) (drop (gone + upto) waits.old) ≡ drop (gone + upto) waits.old }
+    requires after { filter (stays which.now) (drop (gone + upto) waits.old)
+        ≡ drop (gone + upto) waits.old }
     ensures kept { drop result waits.new ≡ filter (stays which.now) (drop gone waits.old) }
     ensures within { result ≤ length waits.new }
     ensures len { length waits.new ≡ length waits.old }

@@ -57,16 +57,19 @@ pub fn running_calls_are_begins_less_ends()
 
 /// An object that an event reports as gone was withdrawn after the last event that is no Abandon.
 pub fn what_is_gone_was_withdrawn_since_the_last_turn()
-    ensures { (config : SpaceConfig) (events : List Event) (e : Event) → GoneSinceLast config events e }
+    ensures { (config : SpaceConfig) (events : List Event) (e : Event)
+        → GoneSinceLast config events e }
 {}
 
 /// One event: the table keeps those of its objects, and of the exported ones, that there is a reason to keep, and the others are withdrawn.
 pub fn the_collector_keeps_what_is_needed()
-    ensures { (config : SpaceConfig) (h : List Event) (e : Event) → TableCollects config h e (with_event h e) }
+    ensures { (config : SpaceConfig) (h : List Event) (e : Event)
+        → TableCollects config h e (with_event h e) }
 {}
 
 /// Lists of events: the rows that events leave of a history's table, one event after the other, are those of the table after them.
 pub fn the_table_is_what_each_event_leaves()
-    ensures { (config : SpaceConfig) (h events : List Event) →
-        rows_after_each config h (table config (places config h)) events ≡ table config (places config (h ++ events)) }
+    ensures { (config : SpaceConfig) (h events : List Event)
+        → rows_after_each config h (table config (places config h)) events
+        ≡ table config (places config (h ++ events)) }
 {}

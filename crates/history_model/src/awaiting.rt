@@ -31,7 +31,8 @@ fn return_uid(ask: &Ask) -> Option<Uid>
 }
 
 fn references(alloc: Global, uid: Uid, objects: &[ObjId]) -> Result<Vec<Returned>, AllocError>
-    ensures { IfOk result (λ all. all.items ≡ map (λ o. record { object = o; uid = uid }) objects.now) }
+    ensures { IfOk result
+        (λ all. all.items ≡ map (λ o. record { object = o; uid = uid }) objects.now) }
 {
     objects
         .iter()
@@ -123,7 +124,8 @@ fn references_awaiting(
     places: &[Place],
     references: &[Returned],
 ) -> Result<Vec<Returned>, AllocError>
-    ensures { IfOk result (λ left. left.items ≡ filter (words.awaits ack time places.now) references.now) }
+    ensures { IfOk result
+        (λ left. left.items ≡ filter (words.awaits ack time places.now) references.now) }
 {
     match references {
         [] => Ok(Vec::new(alloc)),

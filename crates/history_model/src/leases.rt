@@ -197,7 +197,8 @@ pub fn is_remembered(
     own: &[Call],
     object: ObjId,
 ) -> Result<bool, AllocError>
-    ensures { IfOk result (λ remembered. remembered ≡ words.is_remembered lease time own.now object) }
+    ensures { IfOk result
+        (λ remembered. remembered ≡ words.is_remembered lease time own.now object) }
 {
     let calls = tenure(alloc, lease, own)?;
     let strong = strong_cleans(alloc, own)?;
@@ -287,7 +288,8 @@ fn client_has_time(
     calls: &[Call],
     client: &Vmid,
 ) -> Result<bool, AllocError>
-    ensures { IfOk result (λ left. left ≡ words.has_time_left lease time (words.calls_of client.now calls.now)) }
+    ensures { IfOk result
+        (λ left. left ≡ words.has_time_left lease time (words.calls_of client.now calls.now)) }
 {
     let own = calls_of(alloc, client, calls)?;
     Ok(has_time_left(lease, time, own.as_slice()))
@@ -301,7 +303,8 @@ fn with_time_left(
     calls: &[Call],
     clients: &[Vmid],
 ) -> Result<Vec<Vmid>, AllocError>
-    ensures { IfOk result (λ left. left.items ≡ filter (λ c. words.has_time_left lease time (words.calls_of c calls.now)) clients.now) }
+    ensures { IfOk result (λ left. left.items
+        ≡ filter (λ c. words.has_time_left lease time (words.calls_of c calls.now)) clients.now) }
 {
     match clients {
         [] => Ok(Vec::new(alloc)),
@@ -340,7 +343,8 @@ fn some_hold(
     object: ObjId,
     clients: &[Vmid],
 ) -> Result<bool, AllocError>
-    ensures { IfOk result (λ held. held ≡ list_any (λ c. words.holds lease time (words.calls_of c calls.now) object) clients.now) }
+    ensures { IfOk result (λ held. held ≡ list_any
+        (λ c. words.holds lease time (words.calls_of c calls.now) object) clients.now) }
 {
     match clients {
         [] => Ok(false),
@@ -397,7 +401,8 @@ fn remembered_objects(
     own: &[Call],
     objects: &[ObjId],
 ) -> Result<Vec<ObjId>, AllocError>
-    ensures { IfOk result (λ kept. kept.items ≡ filter (words.is_remembered lease time own.now) objects.now) }
+    ensures { IfOk result
+        (λ kept. kept.items ≡ filter (words.is_remembered lease time own.now) objects.now) }
 {
     match objects {
         [] => Ok(Vec::new(alloc)),
@@ -420,7 +425,10 @@ fn pairs_of_client(
     objects: &[ObjId],
     client: &Vmid,
 ) -> Result<Vec<Pair>, AllocError>
-    ensures { IfOk result (λ pairs. pairs.items ≡ words.pairs_of client.now (filter (words.is_remembered lease time (words.calls_of client.now calls.now)) objects.now)) }
+    ensures { IfOk result (λ pairs. pairs.items
+        ≡ words.pairs_of client.now
+        (filter (words.is_remembered lease time (words.calls_of client.now calls.now))
+        objects.now)) }
 {
     let own = calls_of(alloc, client, calls)?;
     let kept = remembered_objects(alloc, lease, time, own.as_slice(), objects)?;
@@ -436,7 +444,10 @@ fn pairs_among(
     objects: &[ObjId],
     clients: &[Vmid],
 ) -> Result<Vec<Pair>, AllocError>
-    ensures { IfOk result (λ pairs. pairs.items ≡ flat_map (λ c. words.pairs_of c (filter (words.is_remembered lease time (words.calls_of c calls.now)) objects.now)) clients.now) }
+    ensures { IfOk result (λ pairs. pairs.items
+        ≡ flat_map (λ c. words.pairs_of c
+        (filter (words.is_remembered lease time (words.calls_of c calls.now)) objects.now))
+        clients.now) }
 {
     match clients {
         [] => Ok(Vec::new(alloc)),
@@ -458,7 +469,8 @@ pub fn pairs_with(
     calls: &[Call],
     objects: &[ObjId],
 ) -> Result<Vec<Pair>, AllocError>
-    ensures { IfOk result (λ pairs. pairs.items ≡ words.pairs_with lease time calls.now objects.now) }
+    ensures { IfOk result
+        (λ pairs. pairs.items ≡ words.pairs_with lease time calls.now objects.now) }
 {
     let all = clients(alloc, calls)?;
     pairs_among(alloc, lease, time, calls, objects, all.as_slice())

@@ -118,7 +118,8 @@ fn starts_too_many(
     places: &[Place],
     event: &Event,
 ) -> Result<bool, AllocError>
-    ensures { IfOk result (λ many. many ≡ words.starts_too_many limit config.now places.now event.now) }
+    ensures { IfOk result
+        (λ many. many ≡ words.starts_too_many limit config.now places.now event.now) }
 {
     let effective = is_effective(alloc, config, places, event.by, &event.ask)?;
     Ok(effective && is_begin(&event.ask) && limit <= reserved_units(places) as u64)
@@ -133,7 +134,8 @@ fn exported_by(
     places: &[Place],
     event: &Event,
 ) -> Result<usize, AllocError>
-    ensures value { IfOk result (λ count. count ≡ length (place_at config.now places.now event.now).exported_here) }
+    ensures value { IfOk result
+        (λ count. count ≡ length (place_at config.now places.now event.now).exported_here) }
     ensures bound { IfOk result (λ count. count < 2 ^ 61) }
 {
     let p = place_of(alloc, config, places, event)?;
@@ -148,7 +150,8 @@ fn exports_with_event(
     places: &[Place],
     event: &Event,
 ) -> Result<usize, AllocError>
-    ensures { IfOk result (λ count. count ≡ words.exports_with_event config.now places.now event.now) }
+    ensures { IfOk result
+        (λ count. count ≡ words.exports_with_event config.now places.now event.now) }
 {
     let more = exported_by(alloc, config, places, event)?;
     let objects = table(alloc, config, places)?;
@@ -162,8 +165,10 @@ fn moment_and_returned(
     places: &[Place],
     event: &Event,
 ) -> Result<(u64, Vec<Returned>), AllocError>
-    ensures moment { IfOk result (λ both. both.0 ≡ (place_at config.now places.now event.now).moment) }
-    ensures returned { IfOk result (λ both. both.1.items ≡ returned_at (place_at config.now places.now event.now)) }
+    ensures moment { IfOk result
+        (λ both. both.0 ≡ (place_at config.now places.now event.now).moment) }
+    ensures returned { IfOk result
+        (λ both. both.1.items ≡ returned_at (place_at config.now places.now event.now)) }
 {
     let p = place_of(alloc, config, places, event)?;
     let new = returned_references(alloc, &p)?;
@@ -178,7 +183,8 @@ fn awaiting_with_event(
     places: &[Place],
     event: &Event,
 ) -> Result<usize, AllocError>
-    ensures { IfOk result (λ count. count ≡ words.awaiting_with_event config.now places.now event.now) }
+    ensures { IfOk result
+        (λ count. count ≡ words.awaiting_with_event config.now places.now event.now) }
 {
     let (moment, mut new) = moment_and_returned(alloc, config, places, event)?;
     let mut all = awaiting_references(alloc, config.ack_ms, moment, places)?;
@@ -194,7 +200,8 @@ fn lease_call(
     places: &[Place],
     event: &Event,
 ) -> Result<Option<Call>, AllocError>
-    ensures { IfOk result (λ call. option_to_list call ≡ words.lease_call config.now places.now event.now) }
+    ensures { IfOk result
+        (λ call. option_to_list call ≡ words.lease_call config.now places.now event.now) }
 {
     let objects = table(alloc, config, places)?;
     let moment = event.moment.max(now(places));
@@ -229,7 +236,9 @@ fn with_dirty(
     clients: Vec<Vmid>,
     call: Option<Call>,
 ) -> Result<Vec<Vmid>, AllocError>
-    ensures { IfOk result (λ more. more.items ≡ clients.items ++ map (λ x. x.client) (filter lease_words.is_dirty (option_to_list call))) }
+    ensures { IfOk result (λ more. more.items
+        ≡ clients.items
+        ++ map (λ x. x.client) (filter lease_words.is_dirty (option_to_list call))) }
 {
     let mut more = clients;
     match call {
@@ -252,7 +261,8 @@ fn clients_left(
     places: &[Place],
     moment: u64,
 ) -> Result<Vec<Vmid>, AllocError>
-    ensures { IfOk result (λ left. left.items ≡ lease_words.clients_with_time_left config.now.lease_ms moment (calls_in places.now)) }
+    ensures { IfOk result (λ left. left.items
+        ≡ lease_words.clients_with_time_left config.now.lease_ms moment (calls_in places.now)) }
 {
     let calls = lease_calls(alloc, places)?;
     let left = clients_with_time_left(alloc, config.lease_ms, moment, calls.as_slice())?;
@@ -267,7 +277,8 @@ fn clients_with_event(
     places: &[Place],
     event: &Event,
 ) -> Result<usize, AllocError>
-    ensures { IfOk result (λ count. count ≡ words.clients_with_event config.now places.now event.now) }
+    ensures { IfOk result
+        (λ count. count ≡ words.clients_with_event config.now places.now event.now) }
 {
     let moment = event.moment.max(now(places));
     let left = clients_left(alloc, config, places, moment)?;
@@ -311,7 +322,8 @@ fn pairs_brought(
     calls: &[Call],
     call: Option<Call>,
 ) -> Result<Vec<Pair>, AllocError>
-    ensures { IfOk result (λ pairs. pairs.items ≡ flat_map (lease_words.new_pairs lease calls.now) (option_to_list call)) }
+    ensures { IfOk result (λ pairs.
+        pairs.items ≡ flat_map (lease_words.new_pairs lease calls.now) (option_to_list call)) }
 {
     match call {
         None => Ok(Vec::new(alloc)),
@@ -330,7 +342,9 @@ fn pairs_remembered(
     moment: u64,
     calls: &[Call],
 ) -> Result<Vec<Pair>, AllocError>
-    ensures { IfOk result (λ pairs. pairs.items ≡ lease_words.pairs_with config.now.lease_ms moment calls.now (ids_of (table_of config.now places.now))) }
+    ensures { IfOk result (λ pairs. pairs.items
+        ≡ lease_words.pairs_with config.now.lease_ms moment calls.now
+        (ids_of (table_of config.now places.now))) }
 {
     let objects = table(alloc, config, places)?;
     let objects = ids(alloc, objects.as_slice())?;
@@ -346,7 +360,9 @@ fn pairs_of_event(
     event: &Event,
     calls: &[Call],
 ) -> Result<Vec<Pair>, AllocError>
-    ensures { IfOk result (λ pairs. pairs.items ≡ flat_map (lease_words.new_pairs config.now.lease_ms calls.now) (words.lease_call config.now places.now event.now)) }
+    ensures { IfOk result (λ pairs. pairs.items
+        ≡ flat_map (lease_words.new_pairs config.now.lease_ms calls.now)
+        (words.lease_call config.now places.now event.now)) }
 {
     let call = lease_call(alloc, config, places, event)?;
     pairs_brought(alloc, config.lease_ms, calls, call)
@@ -360,7 +376,8 @@ fn pairs_with_event(
     places: &[Place],
     event: &Event,
 ) -> Result<usize, AllocError>
-    ensures { IfOk result (λ count. count ≡ words.pairs_with_event config.now places.now event.now) }
+    ensures { IfOk result
+        (λ count. count ≡ words.pairs_with_event config.now places.now event.now) }
 {
     let calls = lease_calls(alloc, places)?;
     let moment = event.moment.max(now(places));
@@ -400,7 +417,9 @@ fn with_bound(
     names: Vec<Units>,
     ask: &Ask,
 ) -> Result<Vec<Units>, AllocError>
-    ensures { IfOk result (λ more. more.items ≡ names.items ++ (if effective then option_to_list (name_words.name_bound ask.now) else [])) }
+    ensures { IfOk result (λ more. more.items
+        ≡ names.items
+        ++ (if effective then option_to_list (name_words.name_bound ask.now) else [])) }
 {
     if !effective {
         return Ok(names);
@@ -420,7 +439,8 @@ fn names_with_event(
     places: &[Place],
     event: &Event,
 ) -> Result<usize, AllocError>
-    ensures { IfOk result (λ count. count ≡ words.names_with_event config.now places.now event.now) }
+    ensures { IfOk result
+        (λ count. count ≡ words.names_with_event config.now places.now event.now) }
 {
     let effective = is_effective(alloc, config, places, event.by, &event.ask)?;
     let bound = names(alloc, places)?;
@@ -445,7 +465,8 @@ pub fn refusal(
     places: &[Place],
     event: &Event,
 ) -> Result<Option<Refused>, AllocError>
-    ensures { IfOk result (λ refused. refused ≡ words.refusal limits.now config.now places.now event.now) }
+    ensures { IfOk result
+        (λ refused. refused ≡ words.refusal limits.now config.now places.now event.now) }
 {
     if is_full(alloc, limits.units, config, places, event)? {
         return Ok(Some(Refused::HistoryFull));

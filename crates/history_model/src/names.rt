@@ -108,7 +108,8 @@ fn before_all(alloc: Global, name: &Units, names: Vec<Units>) -> Result<Vec<Unit
 
 /// The names among these that a place doesn't unbind.
 fn names_still_bound(alloc: Global, p: &Place, names: &[Units]) -> Result<Vec<Units>, AllocError>
-    ensures { IfOk result (λ left. left.items ≡ filter (λ n. not (words.unbinds p.now n)) names.now) }
+    ensures { IfOk result
+        (λ left. left.items ≡ filter (λ n. not (words.unbinds p.now n)) names.now) }
 {
     match names {
         [] => Ok(Vec::new(alloc)),

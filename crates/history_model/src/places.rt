@@ -78,7 +78,8 @@ pub fn exported_from(
     kinds: &[u32],
 ) -> Result<Vec<Exported>, AllocError>
     requires { k + length kinds.now < END_OF_OBJECT_COUNT }
-    ensures { IfOk result (λ objects. objects.items ≡ words.exported_from space k pinned kinds.now) }
+    ensures { IfOk result
+        (λ objects. objects.items ≡ words.exported_from space k pinned kinds.now) }
 {
     match kinds {
         [] => Ok(Vec::new(alloc)),

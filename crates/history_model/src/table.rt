@@ -24,7 +24,8 @@ pub fn call_with(
     moment: u64,
     ask: &Ask,
 ) -> Result<Option<Call>, AllocError>
-    ensures { IfOk result (λ call. option_to_list call ≡ call_words.call_with (place_words.has exported.now) moment ask.now) }
+    ensures { IfOk result (λ call.
+        option_to_list call ≡ call_words.call_with (place_words.has exported.now) moment ask.now) }
 {
     match ask {
         Ask::Dirty {
@@ -74,7 +75,9 @@ fn in_front(call: Option<Call>, calls: Vec<Call>) -> Result<Vec<Call>, AllocErro
 
 /// The lease call of a place, if its request is one.
 fn call_at(alloc: Global, p: &Place, before: &[Place]) -> Result<Option<Call>, AllocError>
-    ensures { IfOk result (λ call. option_to_list call ≡ call_words.call_with (place_words.has (place_words.ever_exported before.now)) p.now.moment p.now.event.ask) }
+    ensures { IfOk result (λ call. option_to_list call
+        ≡ call_words.call_with (place_words.has (place_words.ever_exported before.now)) p.now.moment
+        p.now.event.ask) }
 {
     let exported = ever_exported(alloc, before)?;
     call_with(alloc, exported.as_slice(), p.moment, &p.event.ask)
@@ -131,7 +134,8 @@ fn kept_of(
     places: &[Place],
     objects: &[Exported],
 ) -> Result<Vec<Exported>, AllocError>
-    ensures { IfOk result (λ kept. kept.items ≡ filter (words.is_kept config.now places.now) objects.now) }
+    ensures { IfOk result
+        (λ kept. kept.items ≡ filter (words.is_kept config.now places.now) objects.now) }
 {
     match objects {
         [] => Ok(Vec::new(alloc)),
@@ -183,7 +187,8 @@ pub fn is_effective(
     by: u32,
     ask: &Ask,
 ) -> Result<bool, AllocError>
-    ensures { IfOk result (λ effective. effective ≡ words.is_effective config.now places.now by ask.now) }
+    ensures { IfOk result
+        (λ effective. effective ≡ words.is_effective config.now places.now by ask.now) }
 {
     let objects = table(alloc, config, places)?;
     Ok(match ask {
@@ -236,7 +241,8 @@ pub fn returned_objects(
     places: &[Place],
     ask: &Ask,
 ) -> Result<Vec<ObjId>, AllocError>
-    ensures { IfOk result (λ objects. objects.items ≡ words.returned_objects config.now places.now ask.now) }
+    ensures { IfOk result
+        (λ objects. objects.items ≡ words.returned_objects config.now places.now ask.now) }
 {
     match ask {
         Ask::Finish {
@@ -265,7 +271,8 @@ pub fn returned_objects(
 
 /// Returns the object that the name in a request stands for after a history. It is none where the request has no name.
 fn object_named(places: &[Place], ask: &Ask) -> Option<ObjId>
-    ensures { result ≡ option_and_then (name_words.stands_for places.now) (name_words.name_in ask.now) }
+    ensures { result ≡ option_and_then (name_words.stands_for places.now)
+        (name_words.name_in ask.now) }
 {
     match name_in(ask) {
         Some(name) => stands(places, name),
@@ -282,8 +289,10 @@ fn effects_of(
     effective: bool,
     ask: &Ask,
 ) -> Result<(ExportedList, ObjIds), AllocError>
-    ensures adds { IfOk result (λ both. both.0 ≡ (if effective then words.exports config.now places.now ask.now else [])) }
-    ensures lists { IfOk result (λ both. both.1 ≡ (if effective then words.returned_objects config.now places.now ask.now else [])) }
+    ensures adds { IfOk result
+        (λ both. both.0 ≡ (if effective then words.exports config.now places.now ask.now else [])) }
+    ensures lists { IfOk result (λ both.
+        both.1 ≡ (if effective then words.returned_objects config.now places.now ask.now else [])) }
 {
     if !effective {
         let none = Sequence::from_vec(Vec::new(alloc));
@@ -380,7 +389,8 @@ fn objects_let_go(
     places: &[Place],
     objects: &[Exported],
 ) -> Result<Vec<Exported>, AllocError>
-    ensures { IfOk result (λ gone. gone.items ≡ filter (λ x. not (words.is_kept config.now places.now x)) objects.now) }
+    ensures { IfOk result (λ gone.
+        gone.items ≡ filter (λ x. not (words.is_kept config.now places.now x)) objects.now) }
 {
     match objects {
         [] => Ok(Vec::new(alloc)),

@@ -45,7 +45,8 @@ fn reply_at(
     p: &Place,
     ask: &Ask,
 ) -> Result<Reply, AllocError>
-    ensures { IfOk result (λ reply. reply ≡ reply_words.reply_to config.now places.now p.now ask.now) }
+    ensures { IfOk result
+        (λ reply. reply ≡ reply_words.reply_to config.now places.now p.now ask.now) }
 {
     let objects = table(alloc, config, places)?;
     let answer = reply_to(alloc, config, places, p, objects.as_slice(), ask)?;
@@ -61,7 +62,8 @@ fn reply_to(
     ask: &Ask,
 ) -> Result<Reply, AllocError>
     requires { objects.now ≡ table_words.table config.now places.now }
-    ensures { IfOk result (λ reply. reply ≡ reply_words.reply_to config.now places.now p.now ask.now) }
+    ensures { IfOk result
+        (λ reply. reply ≡ reply_words.reply_to config.now places.now p.now ask.now) }
 {
     match ask {
         Ask::Open { kind: _, pinned: _ } => reply_to_open(alloc, config, places),
@@ -90,14 +92,17 @@ fn reply_to(
 }
 
 fn reply_to_open(alloc: Global, config: &SpaceConfig, places: &[Place]) -> Result<Reply, AllocError>
-    ensures { IfOk result (λ reply. reply ≡ Reply.Opened (place_words.id_at config.now.uid (place_words.exported_count places.now))) }
+    ensures { IfOk result (λ reply. reply ≡ Reply.Opened
+        (place_words.id_at config.now.uid (place_words.exported_count places.now))) }
 {
     let new = id_at(config.uid, exported_count(alloc, places)?);
     Ok(Reply::Opened(new))
 }
 
 fn reply_to_finish(alloc: Global, p: &Place) -> Result<Reply, AllocError>
-    ensures { IfOk result (λ reply. reply ≡ (if p.now.effective then Reply.Finished (reply_words.ids p.now.exported_here) else Reply.NotRunning)) }
+    ensures { IfOk result (λ reply. reply
+        ≡ (if p.now.effective then Reply.Finished (reply_words.ids p.now.exported_here) else
+        Reply.NotRunning)) }
 {
     if p.effective {
         let new = ids(alloc, p.exported_here.as_slice())?;
@@ -115,7 +120,9 @@ fn reply_to_list(alloc: Global, places: &[Place]) -> Result<Reply, AllocError>
 }
 
 fn reply_to_begin(objects: &[Exported], effective: bool, object: ObjId) -> Reply
-    ensures { result ≡ (if effective then Reply.Started (place_words.kind_of objects.now object) else Reply.NoObject) }
+    ensures { result
+        ≡ (if effective then Reply.Started (place_words.kind_of objects.now object) else
+        Reply.NoObject) }
 {
     if effective {
         Reply::Started(kind_of(objects, object))
@@ -135,7 +142,9 @@ fn reply_to_abandon(effective: bool) -> Reply
 }
 
 fn reply_to_bind(objects: &[Exported], effective: bool, object: ObjId) -> Reply
-    ensures { result ≡ (if effective then Reply.Bound else if place_words.has objects.now object then Reply.AlreadyBound else Reply.NoObject) }
+    ensures { result
+        ≡ (if effective then Reply.Bound else if place_words.has objects.now object then
+        Reply.AlreadyBound else Reply.NoObject) }
 {
     if effective {
         Reply::Bound
@@ -182,7 +191,8 @@ fn withdrawals_at(
     place: u64,
     objects: &[Exported],
 ) -> Result<Vec<Withdrawal>, AllocError>
-    ensures { IfOk result (λ all. all.items ≡ map (λ x. record { object = x.id; place = place }) objects.now) }
+    ensures { IfOk result
+        (λ all. all.items ≡ map (λ x. record { object = x.id; place = place }) objects.now) }
 {
     match objects {
         [] => Ok(Vec::new(alloc)),
@@ -204,7 +214,8 @@ fn withdrawals_at_end(
     config: &SpaceConfig,
     places: &[Place],
 ) -> Result<Vec<Withdrawal>, AllocError>
-    ensures { IfOk result (λ all. all.items ≡ table_words.withdrawals_at_end config.now places.now) }
+    ensures { IfOk result
+        (λ all. all.items ≡ table_words.withdrawals_at_end config.now places.now) }
 {
     match places {
         [] => Ok(Vec::new(alloc)),
@@ -242,7 +253,8 @@ fn unreported_objects(
     config: &SpaceConfig,
     places: &[Place],
 ) -> Result<Vec<ObjId>, AllocError>
-    ensures { IfOk result (λ gone. gone.items ≡ reply_words.unreported_objects config.now places.now) }
+    ensures { IfOk result
+        (λ gone. gone.items ≡ reply_words.unreported_objects config.now places.now) }
 {
     match places {
         [] => Ok(Vec::new(alloc)),
@@ -264,7 +276,8 @@ fn with_withdrawn(
     places: &[Place],
     objects: Vec<ObjId>,
 ) -> Result<Vec<ObjId>, AllocError>
-    ensures { IfOk result (λ more. more.items ≡ objects.items ++ reply_words.ids (table_words.withdrawn_objects config.now places.now)) }
+    ensures { IfOk result (λ more. more.items
+        ≡ objects.items ++ reply_words.ids (table_words.withdrawn_objects config.now places.now)) }
 {
     let mut more = objects;
     let gone = withdrawn_objects(alloc, config, places)?;
@@ -280,7 +293,8 @@ fn with_place(
     places: Vec<Place>,
     event: &Event,
 ) -> Result<Vec<Place>, AllocError>
-    ensures { IfOk result (λ more. more.items ≡ table_words.place_of config.now places.items event.now ∷ places.items) }
+    ensures { IfOk result (λ more.
+        more.items ≡ table_words.place_of config.now places.items event.now ∷ places.items) }
 {
     let p = place_of(alloc, config, places.as_slice(), event)?;
     let mut more = places;
@@ -296,7 +310,8 @@ fn gone_objects(
     places: Vec<Place>,
     event: &Event,
 ) -> Result<ObjIds, AllocError>
-    ensures { IfOk result (λ objects. objects ≡ reply_words.gone_objects config.now places.items event.now) }
+    ensures { IfOk result
+        (λ objects. objects ≡ reply_words.gone_objects config.now places.items event.now) }
 {
     let told = unreported_objects(alloc, config, places.as_slice())?;
     let after = with_place(alloc, config, places, event)?;
@@ -333,7 +348,8 @@ fn refusal_after(
     events: &[Event],
     event: &Event,
 ) -> Result<Option<Refused>, AllocError>
-    ensures { IfOk result (λ cause. cause ≡ cause_of limits.now config.now (table_words.places config.now events.now) event.now) }
+    ensures { IfOk result (λ cause. cause ≡ cause_of limits.now config.now
+        (table_words.places config.now events.now) event.now) }
 {
     let history = places(alloc, config, events)?;
     let cause = refusal(alloc, limits, config, history.as_slice(), event)?;
@@ -358,8 +374,10 @@ pub fn step(
     events: Vec<Event>,
     event: &Event,
 ) -> Result<(Result<Turn, Refused>, Vec<Event>), AllocError>
-    ensures answer { IfOk result (λ step. step.0 ≡ answer_to limits.now config.now events.items event.now) }
-    ensures after { IfOk result (λ step. step.1.items ≡ history_after limits.now config.now events.items event.now) }
+    ensures answer { IfOk result
+        (λ step. step.0 ≡ answer_to limits.now config.now events.items event.now) }
+    ensures after { IfOk result
+        (λ step. step.1.items ≡ history_after limits.now config.now events.items event.now) }
 {
     match refusal_after(alloc, limits, config, events.as_slice(), event)? {
         Some(refused) => Ok((Err(refused), events)),
@@ -380,7 +398,8 @@ pub fn answers(
     before: Vec<Event>,
     events: &[Event],
 ) -> Result<Vec<Result<Turn, Refused>>, AllocError>
-    ensures { IfOk result (λ all. all.items ≡ all_answers limits.now config.now before.items events.now) }
+    ensures { IfOk result
+        (λ all. all.items ≡ all_answers limits.now config.now before.items events.now) }
 {
     match events {
         [] => Ok(Vec::new(alloc)),

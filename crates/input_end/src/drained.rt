@@ -93,7 +93,8 @@ fn drop_ready<W: Watch, S: Source>(watch: &mut W, source: &mut S) -> PieceEnd
 #[tactic(auto, using(crate::proofs::Draining::ends, crate::proofs::Draining::stops, crate::proofs::Draining::fills))]
 fn drain<W: Watch, S: Source>(watch: &mut W, source: &mut S) -> bool
     ensures finds { (bytes : List ℕ) × Drops (S.half source.old) (S.half source.new) bytes
-        × Finds MAX_PIECES (W.answered watch.new) (S.half source.old) (S.half source.new) bytes result }
+        × Finds MAX_PIECES (W.answered watch.new) (S.half source.old) (S.half source.new) bytes
+        result }
     ensures watches { W.watches watch.new ≡ W.watches watch.old }
     ensures unwatched { W.watches watch.old ≡ false
         → (result ≡ false) × (source.new ≡ source.old) }

@@ -62,9 +62,10 @@ impl<L: Listener, E: InputEnd> Listener for StoppedByInput<L, E> {
     /// Has the listener inside listen. It does not look at the input.
     fn listen(&mut self, address: &str, port: u16) -> Result<(), Failed>
         ensures listens { Listens
-            (listening_until (E.seen self.old.input) self.old.faults (L.listening self.old.listener))
-            (listening_until (E.seen self.new.input) self.new.faults (L.listening self.new.listener))
-            address.now port result }
+            (listening_until (E.seen self.old.input) self.old.faults
+            (L.listening self.old.listener))
+            (listening_until (E.seen self.new.input) self.new.faults
+            (L.listening self.new.listener)) address.now port result }
         ensures accepted { (L.listening self.new.listener).accepted
             ≡ (L.listening self.old.listener).accepted }
         ensures told { (E.seen self.new.input || (L.listening self.new.listener).told)
@@ -80,9 +81,10 @@ impl<L: Listener, E: InputEnd> Listener for StoppedByInput<L, E> {
     /// Has the listener inside accept, unless a look has seen the end of the input.
     fn accept(&mut self) -> Result<Link<L::In, L::Out, L::Ticks>, Failed>
         ensures accepts { Accepts (accepted_as L.In.half L.Out.half L.Ticks.given)
-            (listening_until (E.seen self.old.input) self.old.faults (L.listening self.old.listener))
-            (listening_until (E.seen self.new.input) self.new.faults (L.listening self.new.listener))
-            result }
+            (listening_until (E.seen self.old.input) self.old.faults
+            (L.listening self.old.listener))
+            (listening_until (E.seen self.new.input) self.new.faults
+            (L.listening self.new.listener)) result }
         ensures halves { IfOk result
             (λ link. AreNewHalves (L.In.half link.source) (L.Out.half link.sink)) }
         ensures ports { (L.listening self.new.listener).ports
@@ -110,9 +112,10 @@ impl<L: Listener, E: InputEnd> Listener for StoppedByInput<L, E> {
     /// Looks for the end of the input, once. At the end it closes the listener inside and answers Told. Else it has that listener wait.
     fn wait(&mut self) -> Result<Waited<Link<L::In, L::Out, L::Ticks>>, Failed>
         ensures waits { Waits (accepted_as L.In.half L.Out.half L.Ticks.given)
-            (listening_until (E.seen self.old.input) self.old.faults (L.listening self.old.listener))
-            (listening_until (E.seen self.new.input) self.new.faults (L.listening self.new.listener))
-            result }
+            (listening_until (E.seen self.old.input) self.old.faults
+            (L.listening self.old.listener))
+            (listening_until (E.seen self.new.input) self.new.faults
+            (L.listening self.new.listener)) result }
         ensures halves { IfOk result (λ waited. IfCame waited
             (λ link. AreNewHalves (L.In.half link.source) (L.Out.half link.sink))) }
         ensures ports { (L.listening self.new.listener).ports

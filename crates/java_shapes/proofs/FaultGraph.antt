@@ -19,7 +19,7 @@ use Rattle.ser_values.specs.declared.node.Node.{Node}
 use Rattle.ser_values.specs.declared.node.Node.TheVariants.{Text, Object}
 use Rattle.ser_values.specs.declared.node.SlotPlace.TheVariants as places
 use Rattle.ser_values.specs.Node.{is_desc, is_text, admits, admits_null, item_wants, value_wants, part_wants, field_wants, before, after}
-use Rattle.ser_values.specs.Shape.{joined_from, are_typed, fit_values, fits_chain, is_shaped, parts_in}
+use Rattle.ser_values.specs.Shape.{joined_from, are_typed, fit_values, fits_chain, is_shaped, sizes_in, notes_in, parts_in}
 use Rattle.ser_values.specs.Ranges.{ItemFits, NodeFits, UnitsFitIn, PartFits, ValueFits, NameFits, TextFits}
 use Rattle.ser_values.specs.Numbered.{a_null, fresh, Numbered, IsGraph}
 use Rattle.java_shapes.specs.Objects.{same_text}
@@ -192,7 +192,7 @@ looked [] h = All-nil (λ u. u < 2 ^ 16)
 looked (u ∷ us) h = All-cons (λ x. x < 2 ^ 16) u us (h 0) (looked us (λ i. h (suc i)))
 
 pub is_graph : (m : List ℕ) → nat_lt (length (utf m)) (2 ^ 63) ≡ true → TextFits m → IsGraph (fault_nodes m) fault_items
-unfolding fault_nodes item_wants joined_from parts_in
+unfolding fault_nodes item_wants joined_from sizes_in notes_in parts_in
 is_graph m h fits = record {
   numbered = (8, num_object m 194 [] h, refl);
   joined = refl;

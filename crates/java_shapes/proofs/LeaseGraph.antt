@@ -19,7 +19,7 @@ use Rattle.ser_values.specs.declared.node.Node.{Node}
 use Rattle.ser_values.specs.declared.node.Node.TheVariants.{Text, Object, Array}
 use Rattle.ser_values.specs.declared.node.SlotPlace.TheVariants as places
 use Rattle.ser_values.specs.Node.{is_desc, is_text, admits, admits_null, item_wants, value_wants, part_wants, field_wants, before, after}
-use Rattle.ser_values.specs.Shape.{joined_from, are_typed, fit_values, fits_chain, is_shaped, parts_in}
+use Rattle.ser_values.specs.Shape.{joined_from, are_typed, fit_values, fits_chain, is_shaped, sizes_in, notes_in, parts_in}
 use Rattle.ser_values.specs.Ranges.{ItemFits, NodeFits, UnitsFitIn, PartFits, ValueFits, NameFits}
 use Rattle.ser_values.specs.Numbered.{a_null, fresh, Numbered, IsGraph}
 use Rattle.java_shapes.specs.Fault.{class_node}
@@ -202,7 +202,7 @@ units_fit v c =
     )
 
 pub is_graph : (v : ℤ) (c : Client) → nat_lt (length c.addr) (2 ^ 31) ≡ true → FitsSigned w64 v → FitsUid c.uid → All (λ x. x < 2 ^ 8) c.addr → IsGraph (lease_nodes v c) lease_items
-unfolding lease_nodes item_wants joined_from parts_in
+unfolding lease_nodes item_wants joined_from sizes_in notes_in parts_in
 is_graph v c short fits uid addr = record {
   numbered = (11, num_own v c 195 [] short, refl);
   joined = refl;

@@ -18,7 +18,7 @@ use Rattle.ser_values.specs.declared.node.Node.{Node}
 use Rattle.ser_values.specs.declared.node.Node.TheVariants.{Text, Object, Proxy}
 use Rattle.ser_values.specs.declared.node.SlotPlace.TheVariants as places
 use Rattle.ser_values.specs.Node.{is_desc, is_text, admits, admits_null, item_wants, value_wants, part_wants, field_wants, before, after}
-use Rattle.ser_values.specs.Shape.{are_short, joined_from, are_typed, fit_values, fits_chain, is_shaped, parts_in}
+use Rattle.ser_values.specs.Shape.{are_short, joined_from, are_typed, fit_values, fits_chain, is_shaped, sizes_in, notes_in, parts_in}
 use Rattle.ser_values.specs.Ranges.{ItemFits, NodeFits, UnitsFitIn, PartFits, ValueFits, NameFits, TextFits}
 use Rattle.ser_values.specs.Numbered.{a_null, fresh, Numbered, IsGraph}
 use Rattle.java_shapes.specs.Fault.{class_node, reference, empty_part}
@@ -166,7 +166,7 @@ units_fit t b fits =
     )
 
 pub is_graph : (t b : List ℕ) → length (utf t) ≤ 65535 → is_nil b ≡ false → TextFits t → All (λ x. x < 2 ^ 8) b → IsGraph (N t b) ref_items
-unfolding noted_nodes item_wants joined_from parts_in
+unfolding noted_nodes item_wants joined_from sizes_in notes_in parts_in
 is_graph t b short filled fits bytes =
     let below : nat_lt (length (utf t)) 65536 ≡ true = grind (arith, nat_tests) in
     record {

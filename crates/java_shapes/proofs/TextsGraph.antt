@@ -177,11 +177,12 @@ units_fit names can = All-append UnitsFitIn (array_first names) (text_nodes name
 text_parts : (names : List (List ℕ)) → parts_in (text_nodes names) ≡ 0
 unfolding parts_in
 text_parts [] = refl
-text_parts (t ∷ ts) = ap (λ (n : ℕ). 0 + n) (text_parts ts)
+text_parts (t ∷ ts) = let h = text_parts ts in omega arith
 
-no_parts : (names : List (List ℕ)) → parts_in (N names) ≡ 0
-unfolding texts_nodes parts_in
-no_parts names = ap (λ (n : ℕ). 0 + (0 + n)) (text_parts names)
+-- the null of the class's annotation, and the elements
+part_count : (names : List (List ℕ)) → parts_in (N names) ≡ length names + 1
+unfolding texts_nodes parts_in item_wants
+part_count names = let h = text_parts names in let k = slots_many 2 names in omega arith
 
 node_count : (names : List (List ℕ)) → length (N names) ≡ 2 + length names
 unfolding texts_nodes
@@ -193,7 +194,7 @@ is_graph names few can = record {
   numbered = (2 + length names, num_own names 197 (2 + length names) [] few can refl, node_count names);
   joined = refl;
   few_nodes = omega (arith, node_count names, few);
-  few_parts = omega (arith, no_parts names);
+  few_parts = omega (arith, few, part_count names);
   numbers = numbers_fit names;
   units = units_fit names can;
   bytes = all_of ItemFits texts_items (tt, tt);

@@ -69,7 +69,8 @@ impl Field for Strength {
 
 /// The keyword that a word is.
 fn keyword_of(word: &[u8]) -> Option<Keyword>
-    ensures { MatchOption result ((k : KeywordData) → word.now ≢ keyword_text k) (λ k. word.now ≡ keyword_text k) }
+    ensures { MatchOption result ((k : KeywordData) → word.now ≢ keyword_text k)
+        (λ k. word.now ≡ keyword_text k) }
 {
     if let Some(keyword) = call_keyword(word) {
         return Some(keyword);
@@ -82,7 +83,8 @@ fn keyword_of(word: &[u8]) -> Option<Keyword>
 
 /// The keyword of an exported object or of a call of one.
 fn call_keyword(word: &[u8]) -> Option<Keyword>
-    ensures { MatchOption result (IsNoneOf call_keywords word.now) (λ k. word.now ≡ keyword_text k) }
+    ensures { MatchOption result (IsNoneOf call_keywords word.now)
+        (λ k. word.now ≡ keyword_text k) }
 {
     match word {
         b"open" => Some(Keyword::Open),
@@ -95,7 +97,8 @@ fn call_keyword(word: &[u8]) -> Option<Keyword>
 
 /// The keyword of a call of the collector, of an acknowledgement or of the passing of time.
 fn collector_keyword(word: &[u8]) -> Option<Keyword>
-    ensures { MatchOption result (IsNoneOf collector_keywords word.now) (λ k. word.now ≡ keyword_text k) }
+    ensures { MatchOption result (IsNoneOf collector_keywords word.now)
+        (λ k. word.now ≡ keyword_text k) }
 {
     match word {
         b"dirty" => Some(Keyword::Dirty),
@@ -108,7 +111,8 @@ fn collector_keyword(word: &[u8]) -> Option<Keyword>
 
 /// The keyword of a call of the registry.
 fn registry_keyword(word: &[u8]) -> Option<Keyword>
-    ensures { MatchOption result (IsNoneOf registry_keywords word.now) (λ k. word.now ≡ keyword_text k) }
+    ensures { MatchOption result (IsNoneOf registry_keywords word.now)
+        (λ k. word.now ≡ keyword_text k) }
 {
     match word {
         b"bind" => Some(Keyword::Bind),

@@ -73,7 +73,8 @@ pub(crate) fn three<A: Field + Drop, B: Field + Drop, C: Field + Drop>(
     space: Uid,
     words: Parts,
 ) -> Result<(A, B, C), Unread>
-    ensures { Reads (λ p. A.spells space p.0 ▸ B.spells space p.1 ▸ C.spells space p.2 ▸ End) result words.entry }
+    ensures { Reads (λ p. A.spells space p.0 ▸ B.spells space p.1 ▸ C.spells space p.2 ▸ End) result
+        words.entry }
 {
     let (a, rest) = first::<A>(alloc, space, words)?;
     let (b, c) = two::<B, C>(alloc, space, rest)?;
@@ -86,7 +87,9 @@ pub(crate) fn four<A: Field + Drop, B: Field + Drop, C: Field + Drop, D: Field +
     space: Uid,
     words: Parts,
 ) -> Result<(A, B, C, D), Unread>
-    ensures { Reads (λ p. A.spells space p.0 ▸ B.spells space p.1 ▸ C.spells space p.2 ▸ D.spells space p.3 ▸ End) result words.entry }
+    ensures { Reads (λ p.
+        A.spells space p.0 ▸ B.spells space p.1 ▸ C.spells space p.2 ▸ D.spells space p.3 ▸ End)
+        result words.entry }
 {
     let (a, rest) = first::<A>(alloc, space, words)?;
     let (b, c, d) = three::<B, C, D>(alloc, space, rest)?;

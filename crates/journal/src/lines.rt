@@ -17,7 +17,8 @@ use std::alloc::{AllocError, Global};
 /// The first line of some bytes, without its LF, and the bytes after the LF. It is None exactly where no
 /// LF is among the bytes.
 pub fn split_line(bytes: &[u8]) -> Option<(&[u8], &[u8])>
-    ensures { MatchOption result (Lacks 10 bytes.now) (λ p. Lacks 10 p.0.now × (bytes.now ≡ p.0.now ++ 10 ∷ p.1.now)) }
+    ensures { MatchOption result (Lacks 10 bytes.now)
+        (λ p. Lacks 10 p.0.now × (bytes.now ≡ p.0.now ++ 10 ∷ p.1.now)) }
 {
     let at = memchr(b'\n', bytes)?;
     Some((&bytes[..at], &bytes[at + 1..]))

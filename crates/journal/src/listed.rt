@@ -65,7 +65,8 @@ pub(crate) fn put_objects(
 /// Appends objects, each after a comma.
 fn put_further_objects(out: &mut ByteList, space: Uid, objects: &[ObjId]) -> Result<(), AllocError>
     ensures ok { OnOk result (out.new ≡ out.old ++ flat_map (further_object space) objects.now) }
-    ensures err { OnErr result (AppendsFront out.old (flat_map (further_object space) objects.now) out.new) }
+    ensures err { OnErr result
+        (AppendsFront out.old (flat_map (further_object space) objects.now) out.new) }
     ensures fits { OnOk result (AreObjects objects.now) }
 {
     for object in objects {

@@ -26,7 +26,8 @@ struct FirstUnit {
 
 /// Returns the bytes between quotation marks. It is None exactly where these are not the first and the last byte.
 fn unquote(word: &[u8]) -> Option<&[u8]>
-    ensures { MatchOption result ((inner : List ℕ) → word.now ≢ 34 ∷ (inner ++ 34 ∷ [])) (λ inner. word.now ≡ 34 ∷ (inner.now ++ 34 ∷ [])) }
+    ensures { MatchOption result ((inner : List ℕ) → word.now ≢ 34 ∷ (inner ++ 34 ∷ []))
+        (λ inner. word.now ≡ 34 ∷ (inner.now ++ 34 ∷ [])) }
 {
     let (first, rest) = word.split_first()?;
     let (last, inner) = rest.split_last()?;

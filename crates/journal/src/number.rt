@@ -25,7 +25,8 @@ fn begins_plainly(word: &[u8]) -> bool
 /// The number that at most 19 digits write, the first one the highest; None where a byte is no digit.
 fn value_of(digits: &[u8]) -> Option<u64>
     requires { length digits.now ≤ 19 }
-    ensures { MatchOption result (¬ AllDigits 10 digits.now) (λ n. AllDigits 10 digits.now × (n ≡ digits_value 10 digits.now)) }
+    ensures { MatchOption result (¬ AllDigits 10 digits.now)
+        (λ n. AllDigits 10 digits.now × (n ≡ digits_value 10 digits.now)) }
 {
     let mut n: u64 = 0;
     for byte in digits {

@@ -51,7 +51,8 @@ pub fn put_line(out: &mut ByteList, words: &[Word]) -> Result<(), AllocError>
 /// Appends words, separated by one space.
 pub(crate) fn put_words(out: &mut ByteList, words: &[Word]) -> Result<(), AllocError>
     ensures ok { OnOk result (out.new ≡ out.old ++ join_with_byte 32 (map word_text words.now)) }
-    ensures err { OnErr result (AppendsFront out.old (join_with_byte 32 (map word_text words.now)) out.new) }
+    ensures err { OnErr result
+        (AppendsFront out.old (join_with_byte 32 (map word_text words.now)) out.new) }
     ensures fits { OnOk result (AllByRecursion WordFits words.now) }
 {
     let Some((first, others)) = words.split_first() else {
@@ -196,8 +197,11 @@ pub fn put_object_line(
 
 /// Appends the line of a client with time left, and of the moment in milliseconds at which its lease ends.
 pub fn put_lease_line(out: &mut ByteList, client: &Vmid, until: u64) -> Result<(), AllocError>
-    ensures ok { OnOk result (out.new ≡ out.old ++ lease_line (record { client = client.now; until = until })) }
-    ensures err { OnErr result (AppendsFront out.old (lease_line (record { client = client.now; until = until })) out.new) }
+    ensures ok { OnOk result
+        (out.new ≡ out.old ++ lease_line (record { client = client.now; until = until })) }
+    ensures err { OnErr result
+        (AppendsFront out.old (lease_line (record { client = client.now; until = until }))
+        out.new) }
 {
     put_line(
         out,
@@ -218,10 +222,12 @@ pub fn put_name_line(
     object: ObjId,
 ) -> Result<(), AllocError>
     ensures ok { OnOk result (out.new ≡ out.old ++ named_text config.uid name.now object) }
-    ensures err { OnErr result (AppendsFront out.old (named_text config.uid name.now object) out.new) }
+    ensures err { OnErr result
+        (AppendsFront out.old (named_text config.uid name.now object) out.new) }
 
     // It is the line of the name in the outline of each history in which the name stands for the object.
-    ensures named { (h : History) → stands_for h name.now ≡ Some object → OnOk result (out.new ≡ out.old ++ name_line config h name.now) }
+    ensures named { (h : History) → stands_for h name.now ≡ Some object
+        → OnOk result (out.new ≡ out.old ++ name_line config h name.now) }
 {
     put_line(
         out,
@@ -243,8 +249,11 @@ pub fn put_withdrawal_line(
     object: ObjId,
     place: u64,
 ) -> Result<(), AllocError>
-    ensures ok { OnOk result (out.new ≡ out.old ++ withdrawal_line config (record { object = object; place = place })) }
-    ensures err { OnErr result (AppendsFront out.old (withdrawal_line config (record { object = object; place = place })) out.new) }
+    ensures ok { OnOk result
+        (out.new ≡ out.old ++ withdrawal_line config (record { object = object; place = place })) }
+    ensures err { OnErr result
+        (AppendsFront out.old (withdrawal_line config (record { object = object; place = place }))
+        out.new) }
 {
     put_line(
         out,

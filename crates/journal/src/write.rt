@@ -21,7 +21,8 @@ use std::alloc::AllocError;
 #[tactic(auto, unfolding(crate::specs::Written::config_text))]
 pub fn put_first_line(out: &mut ByteList, config: &SpaceConfig) -> Result<(), AllocError>
     ensures text { OnOk result (out.new ≡ out.old ++ with_line_end (config_text config.now)) }
-    ensures err { OnErr result (AppendsFront out.old (with_line_end (config_text config.now)) out.new) }
+    ensures err { OnErr result
+        (AppendsFront out.old (with_line_end (config_text config.now)) out.new) }
 
     // The numbers of an identifier without a count are within their ranges.
     ensures fits { config.now.uid.count ≡ pos 0 → IsUid config.now.uid }
@@ -42,7 +43,8 @@ pub fn put_first_line(out: &mut ByteList, config: &SpaceConfig) -> Result<(), Al
 /// within their ranges, it spells this event and no other ([`event_texts_spell`](crate::text_laws::event_texts_spell)).
 pub fn put_event_line(out: &mut ByteList, space: Uid, event: &Event) -> Result<(), AllocError>
     ensures text { OnOk result (out.new ≡ out.old ++ with_line_end (event_text space event.now)) }
-    ensures err { OnErr result (AppendsFront out.old (with_line_end (event_text space event.now)) out.new) }
+    ensures err { OnErr result
+        (AppendsFront out.old (with_line_end (event_text space event.now)) out.new) }
 
     // The numbers of an event that was written are within their ranges, where its moment is below the end of time.
     ensures fits { OnOk result (event.now.moment < END_OF_TIME → EventFits event.now) }
@@ -73,7 +75,8 @@ fn put_leading(out: &mut ByteList, n: u64) -> Result<(), AllocError>
 /// Appends the words of an ask.
 fn put_ask(out: &mut ByteList, space: Uid, ask: &Ask) -> Result<(), AllocError>
     ensures ok { OnOk result (out.new ≡ out.old ++ join_with_byte 32 (ask_words space ask.now)) }
-    ensures err { OnErr result (AppendsFront out.old (join_with_byte 32 (ask_words space ask.now)) out.new) }
+    ensures err { OnErr result
+        (AppendsFront out.old (join_with_byte 32 (ask_words space ask.now)) out.new) }
     ensures fits { OnOk result (AskFits ask.now) }
 {
     match ask {
@@ -109,8 +112,12 @@ fn put_ask(out: &mut ByteList, space: Uid, ask: &Ask) -> Result<(), AllocError>
 }
 
 fn put_open(out: &mut ByteList, kind: u32, pinned: bool) -> Result<(), AllocError>
-    ensures ok { OnOk result (out.new ≡ out.old ++ join_with_byte 32 (codes "open" ∷ decimal kind ∷ pinned_text pinned ∷ [])) }
-    ensures err { OnErr result (AppendsFront out.old (join_with_byte 32 (codes "open" ∷ decimal kind ∷ pinned_text pinned ∷ [])) out.new) }
+    ensures ok { OnOk result
+        (out.new
+        ≡ out.old ++ join_with_byte 32 (codes "open" ∷ decimal kind ∷ pinned_text pinned ∷ [])) }
+    ensures err { OnErr result
+        (AppendsFront out.old
+        (join_with_byte 32 (codes "open" ∷ decimal kind ∷ pinned_text pinned ∷ [])) out.new) }
     ensures fits { OnOk result (kind < 2 ^ 32) }
 {
     let pinned: &[u8] = if pinned { b"pinned" } else { b"free" };
@@ -131,8 +138,11 @@ fn put_of_object(
     space: Uid,
     object: ObjId,
 ) -> Result<(), AllocError>
-    ensures ok { OnOk result (out.new ≡ out.old ++ join_with_byte 32 (keyword.now ∷ object_text space object ∷ [])) }
-    ensures err { OnErr result (AppendsFront out.old (join_with_byte 32 (keyword.now ∷ object_text space object ∷ [])) out.new) }
+    ensures ok { OnOk result
+        (out.new ≡ out.old ++ join_with_byte 32 (keyword.now ∷ object_text space object ∷ [])) }
+    ensures err { OnErr result
+        (AppendsFront out.old (join_with_byte 32 (keyword.now ∷ object_text space object ∷ []))
+        out.new) }
     ensures fits { OnOk result (IsObject object) }
 {
     put_words(out, &[Word::Text(keyword), Word::Object { space, object }])
@@ -146,11 +156,18 @@ fn put_finish<'a>(
     listed: &'a ObjIds,
     uid: Uid,
 ) -> Result<(), AllocError>
-    ensures ok { OnOk result (out.new ≡ out.old ++ join_with_byte 32 (
-        codes "finish" ∷ object_text space object ∷ list_text decimal made.now ∷ objects_text space listed.now ∷ uid_text uid ∷ [])) }
-    ensures err { OnErr result (AppendsFront out.old (join_with_byte 32 (
-        codes "finish" ∷ object_text space object ∷ list_text decimal made.now ∷ objects_text space listed.now ∷ uid_text uid ∷ [])) out.new) }
-    ensures fits { OnOk result (IsObject object × AreKinds made.now × AreObjects listed.now × IsUid uid) }
+    ensures ok { OnOk result
+        (out.new
+        ≡ out.old ++ join_with_byte 32
+        (codes "finish" ∷ object_text space object ∷ list_text decimal made.now
+        ∷ objects_text space listed.now ∷ uid_text uid ∷ [])) }
+    ensures err { OnErr result
+        (AppendsFront out.old
+        (join_with_byte 32
+        (codes "finish" ∷ object_text space object ∷ list_text decimal made.now
+        ∷ objects_text space listed.now ∷ uid_text uid ∷ [])) out.new) }
+    ensures fits { OnOk result
+        (IsObject object × AreKinds made.now × AreObjects listed.now × IsUid uid) }
 {
     put_words(
         out,
@@ -175,11 +192,19 @@ fn put_dirty<'a>(
     asked: i64,
     objects: &'a ObjIds,
 ) -> Result<(), AllocError>
-    ensures ok { OnOk result (out.new ≡ out.old ++ join_with_byte 32 (
-        codes "dirty" ∷ client_text client.now ∷ signed_decimal number ∷ signed_decimal asked ∷ objects_text space objects.now ∷ [])) }
-    ensures err { OnErr result (AppendsFront out.old (join_with_byte 32 (
-        codes "dirty" ∷ client_text client.now ∷ signed_decimal number ∷ signed_decimal asked ∷ objects_text space objects.now ∷ [])) out.new) }
-    ensures fits { OnOk result (IsClient client.now × FitsSigned w64 number × FitsSigned w64 asked × AreObjects objects.now) }
+    ensures ok { OnOk result
+        (out.new
+        ≡ out.old ++ join_with_byte 32
+        (codes "dirty" ∷ client_text client.now ∷ signed_decimal number ∷ signed_decimal asked
+        ∷ objects_text space objects.now ∷ [])) }
+    ensures err { OnErr result
+        (AppendsFront out.old
+        (join_with_byte 32
+        (codes "dirty" ∷ client_text client.now ∷ signed_decimal number ∷ signed_decimal asked
+        ∷ objects_text space objects.now ∷ [])) out.new) }
+    ensures fits { OnOk result
+        (IsClient client.now × FitsSigned w64 number × FitsSigned w64 asked
+        × AreObjects objects.now) }
 {
     put_words(
         out,
@@ -201,11 +226,18 @@ fn put_clean<'a>(
     objects: &'a ObjIds,
     strong: bool,
 ) -> Result<(), AllocError>
-    ensures ok { OnOk result (out.new ≡ out.old ++ join_with_byte 32 (
-        codes "clean" ∷ client_text client.now ∷ signed_decimal number ∷ strong_text strong ∷ objects_text space objects.now ∷ [])) }
-    ensures err { OnErr result (AppendsFront out.old (join_with_byte 32 (
-        codes "clean" ∷ client_text client.now ∷ signed_decimal number ∷ strong_text strong ∷ objects_text space objects.now ∷ [])) out.new) }
-    ensures fits { OnOk result (IsClient client.now × FitsSigned w64 number × AreObjects objects.now) }
+    ensures ok { OnOk result
+        (out.new
+        ≡ out.old ++ join_with_byte 32
+        (codes "clean" ∷ client_text client.now ∷ signed_decimal number ∷ strong_text strong
+        ∷ objects_text space objects.now ∷ [])) }
+    ensures err { OnErr result
+        (AppendsFront out.old
+        (join_with_byte 32
+        (codes "clean" ∷ client_text client.now ∷ signed_decimal number ∷ strong_text strong
+        ∷ objects_text space objects.now ∷ [])) out.new) }
+    ensures fits { OnOk result
+        (IsClient client.now × FitsSigned w64 number × AreObjects objects.now) }
 {
     let strength: &[u8] = if strong { b"strong" } else { b"weak" };
     put_words(
@@ -228,8 +260,14 @@ fn put_binding<'a>(
     name: &'a Name,
     object: ObjId,
 ) -> Result<(), AllocError>
-    ensures ok { OnOk result (out.new ≡ out.old ++ join_with_byte 32 (keyword.now ∷ name_text name.now ∷ object_text space object ∷ [])) }
-    ensures err { OnErr result (AppendsFront out.old (join_with_byte 32 (keyword.now ∷ name_text name.now ∷ object_text space object ∷ [])) out.new) }
+    ensures ok { OnOk result
+        (out.new
+        ≡ out.old ++ join_with_byte 32
+        (keyword.now ∷ name_text name.now ∷ object_text space object ∷ [])) }
+    ensures err { OnErr result
+        (AppendsFront out.old
+        (join_with_byte 32 (keyword.now ∷ name_text name.now ∷ object_text space object ∷ []))
+        out.new) }
     ensures fits { OnOk result (IsName name.now × IsObject object) }
 {
     put_words(
@@ -243,8 +281,12 @@ fn put_binding<'a>(
 }
 
 fn put_lookup(out: &mut ByteList, name: &Name, uid: Uid) -> Result<(), AllocError>
-    ensures ok { OnOk result (out.new ≡ out.old ++ join_with_byte 32 (codes "lookup" ∷ name_text name.now ∷ uid_text uid ∷ [])) }
-    ensures err { OnErr result (AppendsFront out.old (join_with_byte 32 (codes "lookup" ∷ name_text name.now ∷ uid_text uid ∷ [])) out.new) }
+    ensures ok { OnOk result
+        (out.new
+        ≡ out.old ++ join_with_byte 32 (codes "lookup" ∷ name_text name.now ∷ uid_text uid ∷ [])) }
+    ensures err { OnErr result
+        (AppendsFront out.old
+        (join_with_byte 32 (codes "lookup" ∷ name_text name.now ∷ uid_text uid ∷ [])) out.new) }
     ensures fits { OnOk result (IsName name.now × IsUid uid) }
 {
     put_words(

@@ -27,6 +27,7 @@ use Rattle.jrmp_frames.specs.Messages.{return_front, want_for, items_of, nodes_o
 use Rattle.jrmp_frames.specs.Returns.{carried_type, wants_carried, Carries, kind_of_byte, ReturnRead, no_kind, of_kind, kind_at, contents_at, by_kind, behind_kind, first_byte, return_at, ReturnOf, TakesReturn, ReadsReturn}
 use Rattle.jrmp_frames.specs.MessageLaws.{ReturnInFront, ReturnsAreRead, SameBody, ReturnIsOne, HasType, WrittenIsReturn}
 use Rattle.jrmp_frames.proofs.Heads.{front_is}
+use Rattle.ser_values.specs.Node.{item_wants}
 use Rattle.jrmp_frames.proofs.Calls.{Whole, headed, front_then}
 use Rattle.jrmp_frames.proofs.ReturnReading.{Answered, kind_known, put_two, split_contents}
 
@@ -34,6 +35,7 @@ use Rattle.jrmp_frames.proofs.ReturnReading.{Answered, kind_known, put_two, spli
 
 pub together : (ws : List Want) (k : ℕ) (b : List ℕ) (answers : List Item) (nodes : List Node) (bytes : List ℕ) → SpellsWants (wanted.Bytes 1 ∷ wanted.Bytes 14 ∷ ws) (items.Bytes (k ∷ []) ∷ items.Bytes b ∷ answers) nodes bytes
     → SpellsWants (wanted.Bytes 15 ∷ ws) (items.Bytes (k ∷ b) ∷ answers) nodes bytes
+unfolding item_wants
 together ws k b answers nodes bytes h = record {
   are_bytes = h.are_bytes;
   fits = (omega (arith, h.fits.1.0), h.fits.1.1);
@@ -48,6 +50,7 @@ together ws k b answers nodes bytes h = record {
 
 pub apart : (ws : List Want) (k : ℕ) (b : List ℕ) (answers : List Item) (nodes : List Node) (bytes : List ℕ) → length b ≡ 14 → SpellsWants (wanted.Bytes 15 ∷ ws) (items.Bytes (k ∷ b) ∷ answers) nodes bytes
     → SpellsWants (wanted.Bytes 1 ∷ wanted.Bytes 14 ∷ ws) (items.Bytes (k ∷ []) ∷ items.Bytes b ∷ answers) nodes bytes
+unfolding item_wants
 apart ws k b answers nodes bytes long h = record {
   are_bytes = h.are_bytes;
   fits = (refl, (long, h.fits.1));

@@ -1,5 +1,5 @@
 -- Calls and returns as they are written.
-use Rattle.std.proofs.Common.{◌≡◌, ℕ, ◌<◌, ◌≤◌, Bool, true, List, [], ◌∷◌, ◌++◌, length, map, get_or, Result, Ok, Err, refl, sym, ap, subst, ◌∙◌, append-nil, suc, arith}
+use Rattle.std.proofs.Common.{◌≡◌, ℕ, ◌+◌, ◌<◌, ◌≤◌, Bool, true, List, [], ◌∷◌, ◌++◌, length, map, get_or, Result, Ok, Err, refl, sym, ap, subst, ◌∙◌, append-nil, suc, arith}
 use Rattle.std.proofs.Math.Logic.{∥∥₁_map, ∥∥₁_elim, ∥∥₁_prop}
 use Rattle.std.specs.Prelude.{OnOk}
 use Rattle.std.specs.List.{AllByRecursion}
@@ -13,7 +13,10 @@ use Rattle.ser_values.specs.declared.node.Node.{Node}
 use Rattle.ser_values.specs.declared.graph.Graph.{Graph}
 use Rattle.ser_values.specs.Numbered.{IsGraph}
 use Rattle.ser_values.specs.Ranges.{NumbersFit, UnitsFit, NodeFits, UnitsFitIn}
-use Rattle.ser_values.specs.Shape.{joined_from, is_joined, parts_in}
+use Rattle.ser_values.specs.Shape.{joined_from, is_joined, refs_in, parts_in}
+use Rattle.ser_values.specs.Node as node
+use Rattle.ser_values.specs.Node.{item_wants}
+use Rattle.stream_grammar.proofs.Spelling.{joined_wants}
 use Rattle.stream_grammar.specs.Spelled.{joined, Spells, SpellsBlocks}
 use Rattle.ser_values.specs.Fronts.{put_block}
 use Rattle.ser_write.proofs.Streams.{bytes_full}
@@ -55,20 +58,28 @@ joined_own (items.Bytes (x ∷ b) ∷ is) h = ap (put_block (x ∷ b)) (joined_o
 
 -- ---- what is spelled
 
--- what of the nodes of a graph is known, however its items stand
-pub record Nodes (nodes : List Node) : Type 0 where
+-- what of the nodes of a graph is known, with what its items are answered as
+pub record Nodes (nodes : List Node) (answers : List Item) : Type 0 where
   pub numbers : NumbersFit nodes
   pub units : UnitsFit nodes
-  pub few : parts_in nodes ≤ 1048576
+  pub few : parts_in nodes + refs_in answers ≤ 1048576
 
-pub of_graph : (nodes : List Node) (is : List Item) → IsGraph nodes is → Nodes nodes
-of_graph nodes is g = record { numbers = g.numbers; units = g.units; few = g.few_parts }
+block_wants : (b : List ℕ) (is : List Item) → item_wants (items.Bytes b ∷ is) ≡ item_wants is
+unfolding item_wants
+block_wants b is = refl
 
-no_nodes : Nodes []
+-- behind bytes of a head
+pub of_graph : (nodes : List Node) (is answers : List Item) (head : List ℕ) → IsGraph nodes is → item_wants is ≡ item_wants answers → Nodes nodes (items.Bytes head ∷ answers)
+of_graph nodes is answers head g same =
+    let few = g.few_parts in
+    let refs : refs_in is ≡ refs_in (items.Bytes head ∷ answers) = ap (λ (l : List node.Want). length l) (same ∙ sym (block_wants head answers)) in
+    record { numbers = g.numbers; units = g.units; few = omega arith }
+
+no_nodes : (answers : List Item) → item_wants answers ≡ [] → Nodes [] answers
 unfolding parts_in
-no_nodes = record { numbers = All-nil NodeFits; units = All-nil UnitsFitIn; few = omega arith }
+no_nodes answers none = let refs : refs_in answers ≡ 0 = ap (λ (l : List node.Want). length l) none in record { numbers = All-nil NodeFits; units = All-nil UnitsFitIn; few = omega arith }
 
-spelled_asked : (ws : List Want) (answers : List Item) (nodes : List Node) (is : List Item) (bytes : List ℕ) → AreBytes bytes → Fits ws answers → joined answers ≡ is → Nodes nodes → SpellFully nodes is bytes → SpellsWants ws answers nodes bytes
+spelled_asked : (ws : List Want) (answers : List Item) (nodes : List Node) (is : List Item) (bytes : List ℕ) → AreBytes bytes → Fits ws answers → joined answers ≡ is → Nodes nodes answers → SpellFully nodes is bytes → SpellsWants ws answers nodes bytes
 spelled_asked ws answers nodes is bytes range fits same known s = record {
   are_bytes = range;
   fits = fits;
@@ -96,7 +107,7 @@ call_spelled head graph params answers bytes range is fits same spelled =
       headed = is;
       answers = answers;
       asked = spelled_asked (wanted.Bytes 34 ∷ wants_of params) (items.Bytes (head_bytes head) ∷ answers) graph.nodes (put_block (head_bytes head) graph.items) (contents graph.nodes (put_block (head_bytes head) graph.items))
-          inside (head_long head, fits) (ap (put_block (head_bytes head)) (sym same)) (of_graph graph.nodes graph.items g) s;
+          inside (head_long head, fits) (ap (put_block (head_bytes head)) (sym same)) (of_graph graph.nodes graph.items answers (head_bytes head) g (ap item_wants same ∙ joined_wants answers)) s;
       items = same;
       values = refl;
     }))
@@ -142,7 +153,7 @@ prim_joined [] v some = absurd (omega arith)
 prim_joined (x ∷ front) [] some = ap (λ (l : List ℕ). items.Bytes (x ∷ l) ∷ []) (sym (append-nil front))
 prim_joined (x ∷ front) (y ∷ v) some = refl
 
-with_nodes : (normal : Bool) (uid : Uid) (body : Body) (bytes : List ℕ) → AreBytes bytes → bytes ≡ return_message normal uid body → put_block (return_front normal uid) (joined (items_of body)) ≡ put_block (return_front normal uid) (items_of body) → Nodes (nodes_of body)
+with_nodes : (normal : Bool) (uid : Uid) (body : Body) (bytes : List ℕ) → AreBytes bytes → bytes ≡ return_message normal uid body → put_block (return_front normal uid) (joined (items_of body)) ≡ put_block (return_front normal uid) (items_of body) → Nodes (nodes_of body) (items.Bytes (return_front normal uid) ∷ items_of body)
     → SpellFully (nodes_of body) (put_block (return_front normal uid) (items_of body)) (contents (nodes_of body) (put_block (return_front normal uid) (items_of body))) → ReturnBytes normal uid body bytes
 with_nodes normal uid body bytes range is same known s =
     let front = return_front normal uid in
@@ -156,7 +167,8 @@ with_nodes normal uid body bytes range is same known s =
 
 pub return_spelled : (normal : Bool) (uid : Uid) (body : Body) (bytes : List ℕ) → AreBytes bytes → bytes ≡ return_message normal uid body
     → ∥ SpellFully (nodes_of body) (put_block (return_front normal uid) (items_of body)) (contents (nodes_of body) (put_block (return_front normal uid) (items_of body))) ∥₁ → ∥ ReturnBytes normal uid body bytes ∥₁
-return_spelled normal uid Void bytes range is spelled = ∥∥₁_map spelled (λ s. with_nodes normal uid Void bytes range is refl no_nodes s)
-return_spelled normal uid (Prim v) bytes range is spelled = ∥∥₁_map spelled (λ s. with_nodes normal uid (Prim v) bytes range is (prim_joined (return_front normal uid) (value_bytes v) (front_some normal uid)) no_nodes s)
+unfolding item_wants
+return_spelled normal uid Void bytes range is spelled = ∥∥₁_map spelled (λ s. with_nodes normal uid Void bytes range is refl (no_nodes _ refl) s)
+return_spelled normal uid (Prim v) bytes range is spelled = ∥∥₁_map spelled (λ s. with_nodes normal uid (Prim v) bytes range is (prim_joined (return_front normal uid) (value_bytes v) (front_some normal uid)) (no_nodes _ refl) s)
 return_spelled normal uid (Tree graph) bytes range is spelled =
-    ∥∥₁_elim graph.numbered ∥∥₁_prop (λ g. ∥∥₁_map spelled (λ s. with_nodes normal uid (Tree graph) bytes range is (ap (put_block (return_front normal uid)) (joined_own graph.items g.joined)) (of_graph graph.nodes graph.items g) s))
+    ∥∥₁_elim graph.numbered ∥∥₁_prop (λ g. ∥∥₁_map spelled (λ s. with_nodes normal uid (Tree graph) bytes range is (ap (put_block (return_front normal uid)) (joined_own graph.items g.joined)) (of_graph graph.nodes graph.items graph.items (return_front normal uid) g refl) s))

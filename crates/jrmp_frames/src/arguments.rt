@@ -142,8 +142,11 @@ fn read_prim<S: Source>(
     requires kept { reader.old.refused ≡ None }
     ensures kept { OnOk result (reader.new.refused ≡ None) }
     ensures lent { pull.new.source.ghost_name ≡ pull.old.source.ghost_name }
-    ensures reads { IfOk result (ReadsArgument (pull_state S.half pull.old) (pull_state S.half pull.new) reader.old.stand reader.new.stand code) }
-    ensures stops { WantStopsTaken S.half pull.old pull.new result (λ end. want_at end (want_of code) reader.old.stand) }
+    ensures reads { IfOk result
+        (ReadsArgument (pull_state S.half pull.old) (pull_state S.half pull.new) reader.old.stand
+        reader.new.stand code) }
+    ensures stops { WantStopsTaken S.half pull.old pull.new result
+        (λ end. want_at end (want_of code) reader.old.stand) }
 {
     let mut all = [0; WIDEST];
     let bytes = &mut all[..n as usize];
@@ -161,8 +164,11 @@ pub(crate) fn read_arg<S: Source>(
     requires kept { reader.old.refused ≡ None }
     ensures kept { OnOk result (reader.new.refused ≡ None) }
     ensures lent { pull.new.source.ghost_name ≡ pull.old.source.ghost_name }
-    ensures reads { IfOk result (ReadsArgument (pull_state S.half pull.old) (pull_state S.half pull.new) reader.old.stand reader.new.stand code) }
-    ensures stops { WantStopsTaken S.half pull.old pull.new result (λ end. want_at end (want_of code) reader.old.stand) }
+    ensures reads { IfOk result
+        (ReadsArgument (pull_state S.half pull.old) (pull_state S.half pull.new) reader.old.stand
+        reader.new.stand code) }
+    ensures stops { WantStopsTaken S.half pull.old pull.new result
+        (λ end. want_at end (want_of code) reader.old.stand) }
 {
     match want_of(code) {
         Want::Bytes(n) => read_prim(alloc, pull, reader, code, n),
@@ -185,8 +191,11 @@ fn read_onto<S: Source>(
     requires empty { args.old ≡ [] }
     ensures kept { OnOk result (reader.new.refused ≡ None) }
     ensures lent { pull.new.source.ghost_name ≡ pull.old.source.ghost_name }
-    ensures reads { OnOk result (ReadsEach (pull_state S.half pull.old) (pull_state S.half pull.new) reader.old.stand reader.new.stand params.now args.new) }
-    ensures stops { WantStopsTaken S.half pull.old pull.new result (λ end. serve end (wants_of params.now) reader.old.stand) }
+    ensures reads { OnOk result
+        (ReadsEach (pull_state S.half pull.old) (pull_state S.half pull.new) reader.old.stand
+        reader.new.stand params.now args.new) }
+    ensures stops { WantStopsTaken S.half pull.old pull.new result
+        (λ end. serve end (wants_of params.now) reader.old.stand) }
 {
     args.reserve(params.len())?;
     for code in params {
@@ -220,8 +229,11 @@ fn read_graph<S: Source>(
     requires ready { HasHead reader }
     requires empty { args.old ≡ [] }
     ensures lent { pull.new.source.ghost_name ≡ pull.old.source.ghost_name }
-    ensures reads { IfOk result (λ graph. ReadsArguments (pull_state S.half pull.old) (pull_state S.half pull.new) reader.stand params.now (record { graph = graph; values = args.new })) }
-    ensures stops { WantStopsTaken S.half pull.old pull.new result (λ end. serve_to_close end (wants_of params.now) reader.stand) }
+    ensures reads { IfOk result (λ graph. ReadsArguments (pull_state S.half pull.old)
+        (pull_state S.half pull.new) reader.stand params.now
+        (record { graph = graph; values = args.new })) }
+    ensures stops { WantStopsTaken S.half pull.old pull.new result
+        (λ end. serve_to_close end (wants_of params.now) reader.stand) }
 {
     let mut reader = reader;
     read_onto(alloc, pull, &mut reader, params, args)?;
@@ -238,8 +250,10 @@ fn read_values<S: Source>(
 ) -> Result<Arguments, StreamFault>
     requires ready { HasHead reader }
     ensures lent { pull.new.source.ghost_name ≡ pull.old.source.ghost_name }
-    ensures reads { IfOk result (λ arguments. ReadsArguments (pull_state S.half pull.old) (pull_state S.half pull.new) reader.stand params.now arguments) }
-    ensures stops { WantStopsTaken S.half pull.old pull.new result (λ end. serve_to_close end (wants_of params.now) reader.stand) }
+    ensures reads { IfOk result (λ arguments. ReadsArguments (pull_state S.half pull.old)
+        (pull_state S.half pull.new) reader.stand params.now arguments) }
+    ensures stops { WantStopsTaken S.half pull.old pull.new result
+        (λ end. serve_to_close end (wants_of params.now) reader.stand) }
 {
     let mut values = ArgList::new(alloc);
     let graph = read_graph(alloc, pull, reader, params, &mut values)?;
@@ -256,11 +270,21 @@ pub fn read_parameters<S: Source>(
     params: &[TypeCode],
 ) -> Result<Arguments, FrameFault>
     requires ready { HasHead reader }
-    ensures reads { IfOk result (λ arguments. ReadsArguments (pull_state S.half pull.old) (pull_state S.half pull.new) reader.stand params.now arguments) }
-    ensures call { (before : PullState) (head : CallHead) → ReadsHead before (pull_state S.half pull.old) head reader.stand → IfOk result (λ arguments. TakesCall before (pull_state S.half pull.new) head params.now arguments) }
-    ensures stops { IfErr result (λ fault. BreaksIn (pull_state S.half pull.old) (pull_state S.half pull.new) fault (λ end. serve_to_close end (wants_of params.now) reader.stand)) }
-    ensures cut { (before : PullState) (head : CallHead) → ReadsHead before (pull_state S.half pull.old) head reader.stand → IfErr result (λ fault. BreaksIn before (pull_state S.half pull.new) fault (λ end. wants_at end (wanted.Bytes 34 ∷ wants_of params.now))) }
-    ensures cause { CausedIn (S.half pull.old.source.now).faults (S.half pull.new.source.now).faults result }
+    ensures reads { IfOk result (λ arguments. ReadsArguments (pull_state S.half pull.old)
+        (pull_state S.half pull.new) reader.stand params.now arguments) }
+    ensures call { (before : PullState) (head : CallHead)
+        → ReadsHead before (pull_state S.half pull.old) head reader.stand
+        → IfOk result
+        (λ arguments. TakesCall before (pull_state S.half pull.new) head params.now arguments) }
+    ensures stops { IfErr result (λ fault. BreaksIn (pull_state S.half pull.old)
+        (pull_state S.half pull.new) fault
+        (λ end. serve_to_close end (wants_of params.now) reader.stand)) }
+    ensures cut { (before : PullState) (head : CallHead)
+        → ReadsHead before (pull_state S.half pull.old) head reader.stand
+        → IfErr result (λ fault. BreaksIn before (pull_state S.half pull.new) fault
+        (λ end. wants_at end (wanted.Bytes 34 ∷ wants_of params.now))) }
+    ensures cause { CausedIn (S.half pull.old.source.now).faults (S.half pull.new.source.now).faults
+        result }
     ensures lent { pull.new.source.ghost_name ≡ pull.old.source.ghost_name }
 {
     match read_values(alloc, pull, reader, params) {
@@ -277,11 +301,21 @@ pub fn read_arguments<S: Source>(
     method: &Method,
 ) -> Result<Arguments, FrameFault>
     requires ready { HasHead reader }
-    ensures reads { IfOk result (λ arguments. ReadsArguments (pull_state S.half pull.old) (pull_state S.half pull.new) reader.stand method.now.params arguments) }
-    ensures call { (before : PullState) (head : CallHead) → ReadsHead before (pull_state S.half pull.old) head reader.stand → IfOk result (λ arguments. TakesCall before (pull_state S.half pull.new) head method.now.params arguments) }
-    ensures stops { IfErr result (λ fault. BreaksIn (pull_state S.half pull.old) (pull_state S.half pull.new) fault (λ end. serve_to_close end (wants_of method.now.params) reader.stand)) }
-    ensures cut { (before : PullState) (head : CallHead) → ReadsHead before (pull_state S.half pull.old) head reader.stand → IfErr result (λ fault. BreaksIn before (pull_state S.half pull.new) fault (λ end. wants_at end (wanted.Bytes 34 ∷ wants_of method.now.params))) }
-    ensures cause { CausedIn (S.half pull.old.source.now).faults (S.half pull.new.source.now).faults result }
+    ensures reads { IfOk result (λ arguments. ReadsArguments (pull_state S.half pull.old)
+        (pull_state S.half pull.new) reader.stand method.now.params arguments) }
+    ensures call { (before : PullState) (head : CallHead)
+        → ReadsHead before (pull_state S.half pull.old) head reader.stand
+        → IfOk result (λ arguments.
+        TakesCall before (pull_state S.half pull.new) head method.now.params arguments) }
+    ensures stops { IfErr result (λ fault. BreaksIn (pull_state S.half pull.old)
+        (pull_state S.half pull.new) fault
+        (λ end. serve_to_close end (wants_of method.now.params) reader.stand)) }
+    ensures cut { (before : PullState) (head : CallHead)
+        → ReadsHead before (pull_state S.half pull.old) head reader.stand
+        → IfErr result (λ fault. BreaksIn before (pull_state S.half pull.new) fault
+        (λ end. wants_at end (wanted.Bytes 34 ∷ wants_of method.now.params))) }
+    ensures cause { CausedIn (S.half pull.old.source.now).faults (S.half pull.new.source.now).faults
+        result }
     ensures lent { pull.new.source.ghost_name ≡ pull.old.source.ghost_name }
 {
     read_parameters(alloc, pull, reader, method.params.as_slice())

@@ -26,7 +26,8 @@ pub fn skip_endpoint<S: Source>(pull: &mut Pull<'_, S>) -> Result<(), FrameFault
 
 /// Takes `n` bytes, whatever they are.
 fn skip<S: Source>(pull: &mut Pull<'_, S>, n: u32) -> Result<(), PullEnd>
-    ensures gives { GivesSkipped (pull_state S.half pull.old) (pull_state S.half pull.new) n result }
+    ensures gives { GivesSkipped (pull_state S.half pull.old) (pull_state S.half pull.new) n
+        result }
     ensures lent { pull.new.source.ghost_name ≡ pull.old.source.ghost_name }
 {
     for _skipped in 0..n {

@@ -84,7 +84,8 @@ fn read_start<S: Source>(
     requires { length bytes.old ≡ 34 }
     ensures lent { pull.new.source.ghost_name ≡ pull.old.source.ghost_name }
     ensures kept { IfOk result (λ reader. reader.refused ≡ None) }
-    ensures reads { WantReadsTaken S.half pull.old pull.new result head_at (λ reader rest. (bytes.new, reader.stand, rest)) }
+    ensures reads { WantReadsTaken S.half pull.old pull.new result head_at
+        (λ reader rest. (bytes.new, reader.stand, rest)) }
     ensures stops { WantStopsTaken S.half pull.old pull.new result head_at }
 {
     let mut reader = Reader::start(alloc, pull)?;
@@ -99,11 +100,15 @@ pub fn read_head<S: Source>(
     alloc: Global,
     pull: &mut Pull<'_, S>,
 ) -> Result<(CallHead, Reader), FrameFault>
-    ensures reads { IfOk result (λ x. ReadsHead (pull_state S.half pull.old) (pull_state S.half pull.new) x.0 x.1.stand) }
+    ensures reads { IfOk result
+        (λ x. ReadsHead (pull_state S.half pull.old) (pull_state S.half pull.new) x.0 x.1.stand) }
     ensures ready { IfOk result (λ x. HasHead x.1) }
-    ensures stops { IfErr result (λ fault. BreaksIn (pull_state S.half pull.old) (pull_state S.half pull.new) fault head_at) }
-    ensures gives { GivesIn S.half pull.old pull.new result head_at (λ x rest. (head_bytes x.0, x.1.stand, rest)) }
-    ensures cause { CausedIn (S.half pull.old.source.now).faults (S.half pull.new.source.now).faults result }
+    ensures stops { IfErr result (λ fault.
+        BreaksIn (pull_state S.half pull.old) (pull_state S.half pull.new) fault head_at) }
+    ensures gives { GivesIn S.half pull.old pull.new result head_at
+        (λ x rest. (head_bytes x.0, x.1.stand, rest)) }
+    ensures cause { CausedIn (S.half pull.old.source.now).faults (S.half pull.new.source.now).faults
+        result }
     ensures lent { pull.new.source.ghost_name ≡ pull.old.source.ghost_name }
 {
     let mut bytes = [0; HEAD_BYTES];

@@ -48,7 +48,10 @@ impl Drop for Body {
 /// It is refused only for want of memory.
 pub fn call_bytes(alloc: Global, head: CallHead, arguments: &Graph) -> Result<ByteList, AllocError>
     ensures written { IfOk result (λ bytes. bytes ≡ call_message head arguments.now) }
-    ensures spelled { IfOk result (λ bytes. (params : List TypeCode) (answers : List Item) → Fits (wants_of params) answers → arguments.now.items ≡ joined answers → ∥ CallBytes head params (record { graph = arguments.now; values = args_of params answers }) bytes ∥₁) }
+    ensures spelled { IfOk result (λ bytes. (params : List TypeCode) (answers : List Item)
+        → Fits (wants_of params) answers → arguments.now.items ≡ joined answers
+        → ∥ CallBytes head params
+        (record { graph = arguments.now; values = args_of params answers }) bytes ∥₁) }
 {
     let mut out = ByteList::from_slice(alloc, &[0x50, 0xAC, 0xED, 0x00, 0x05])?;
     write_items_after(alloc, &mut out, &head.to_bytes(), arguments)?;
@@ -91,8 +94,12 @@ fn put_value(
 /// Appends what a return begins with and its body, as the contents of a stream.
 fn put_body(alloc: Global, out: &mut ByteList, front: &[u8], body: &Body) -> Result<(), AllocError>
     requires { 0 < length front.now }
-    ensures written { OnOk result (out.new ≡ out.old ++ contents (nodes_of body.now) (put_block front.now (items_of body.now))) }
-    ensures spelled { OnOk result (∥ SpellFully (nodes_of body.now) (put_block front.now (items_of body.now)) (contents (nodes_of body.now) (put_block front.now (items_of body.now))) ∥₁) }
+    ensures written { OnOk result
+        (out.new
+        ≡ out.old ++ contents (nodes_of body.now) (put_block front.now (items_of body.now))) }
+    ensures spelled { OnOk result
+        (∥ SpellFully (nodes_of body.now) (put_block front.now (items_of body.now))
+        (contents (nodes_of body.now) (put_block front.now (items_of body.now))) ∥₁) }
 {
     match body {
         Body::Void => write_blocks_onto(out, front),

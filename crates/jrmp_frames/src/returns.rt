@@ -49,7 +49,8 @@ fn read_kind<S: Source>(alloc: Global, pull: &mut Pull<'_, S>) -> Result<(u8, Re
     ensures lent { pull.new.source.ghost_name ≡ pull.old.source.ghost_name }
     ensures kept { IfOk result (λ x. HasKind x.1) }
     ensures moved { OnOk result (pull.old.at < pull.new.at) }
-    ensures reads { WantReadsTaken S.half pull.old pull.new result kind_at (λ x rest. (x.0 ∷ [], x.1.stand, rest)) }
+    ensures reads { WantReadsTaken S.half pull.old pull.new result kind_at
+        (λ x rest. (x.0 ∷ [], x.1.stand, rest)) }
     ensures stops { WantStopsTaken S.half pull.old pull.new result kind_at }
 {
     let mut reader = Reader::start(alloc, pull)?;
@@ -68,8 +69,11 @@ fn read_carried<S: Source>(
     requires kept { reader.old.refused ≡ None }
     ensures kept { OnOk result (reader.new.refused ≡ None) }
     ensures lent { pull.new.source.ghost_name ≡ pull.old.source.ghost_name }
-    ensures reads { IfOk result (ReadsCarried (pull_state S.half pull.old) (pull_state S.half pull.new) reader.old.stand reader.new.stand code) }
-    ensures stops { WantStopsTaken S.half pull.old pull.new result (λ end. serve end (wants_carried code) reader.old.stand) }
+    ensures reads { IfOk result
+        (ReadsCarried (pull_state S.half pull.old) (pull_state S.half pull.new) reader.old.stand
+        reader.new.stand code) }
+    ensures stops { WantStopsTaken S.half pull.old pull.new result
+        (λ end. serve end (wants_carried code) reader.old.stand) }
 {
     match code {
         None => Ok(None),
@@ -90,8 +94,10 @@ fn read_to_close<S: Source>(
 ) -> Result<(Option<Arg>, Graph), StreamFault>
     requires kept { reader.refused ≡ None }
     ensures lent { pull.new.source.ghost_name ≡ pull.old.source.ghost_name }
-    ensures reads { IfOk result (λ x. ReadsToClose (pull_state S.half pull.old) (pull_state S.half pull.new) reader.stand code x.0 x.1) }
-    ensures stops { WantStopsTaken S.half pull.old pull.new result (λ end. serve_to_close end (wants_carried code) reader.stand) }
+    ensures reads { IfOk result (λ x. ReadsToClose (pull_state S.half pull.old)
+        (pull_state S.half pull.new) reader.stand code x.0 x.1) }
+    ensures stops { WantStopsTaken S.half pull.old pull.new result
+        (λ end. serve_to_close end (wants_carried code) reader.stand) }
 {
     let mut reader = reader;
     let arg = read_carried(alloc, pull, &mut reader, code)?;
@@ -134,8 +140,10 @@ fn read_contents<S: Source>(
 ) -> Result<(Uid, Body), StreamFault>
     requires ready { HasKind reader }
     ensures lent { pull.new.source.ghost_name ≡ pull.old.source.ghost_name }
-    ensures reads { IfOk result (λ x. ReadsContents (pull_state S.half pull.old) (pull_state S.half pull.new) reader.stand code x.0 x.1) }
-    ensures stops { WantStopsTaken S.half pull.old pull.new result (λ end. contents_at code end reader.stand) }
+    ensures reads { IfOk result (λ x. ReadsContents (pull_state S.half pull.old)
+        (pull_state S.half pull.new) reader.stand code x.0 x.1) }
+    ensures stops { WantStopsTaken S.half pull.old pull.new result
+        (λ end. contents_at code end reader.stand) }
 {
     let mut reader = reader;
     let mut bytes = [0; 14];
@@ -156,8 +164,11 @@ fn read_behind<S: Source>(
     requires ready { HasKind reader }
     requires moved { 0 < pull.old.at }
     ensures lent { pull.new.source.ghost_name ≡ pull.old.source.ghost_name }
-    ensures reads { IfOk result (λ x. ReadsReturn (pull_state S.half pull.old) (pull_state S.half pull.new) (λ end. behind_kind result_type byte end reader.stand) result_type x.0 x.1 x.2) }
-    ensures stops { IfErr result (λ fault. BreaksReturn (pull_state S.half pull.old) (pull_state S.half pull.new) fault (λ end. behind_kind result_type byte end reader.stand)) }
+    ensures reads { IfOk result (λ x. ReadsReturn (pull_state S.half pull.old)
+        (pull_state S.half pull.new) (λ end. behind_kind result_type byte end reader.stand)
+        result_type x.0 x.1 x.2) }
+    ensures stops { IfErr result (λ fault. BreaksReturn (pull_state S.half pull.old)
+        (pull_state S.half pull.new) fault (λ end. behind_kind result_type byte end reader.stand)) }
 {
     let Some(normal) = kind_of(byte) else {
         return Err(FrameFault::BadKind {
@@ -184,11 +195,15 @@ pub fn read_return<S: Source>(
     pull: &mut Pull<'_, S>,
     result_type: Option<TypeCode>,
 ) -> Result<(bool, Uid, Body), FrameFault>
-    ensures reads { IfOk result (λ x. ReadsReturn (pull_state S.half pull.old) (pull_state S.half pull.new) (return_at result_type) result_type x.0 x.1 x.2) }
-    ensures message { IfOk result (λ x. TakesReturn (pull_state S.half pull.old) (pull_state S.half pull.new) result_type x.0 x.1 x.2) }
-    ensures stops { IfErr result (λ fault. BreaksReturn (pull_state S.half pull.old) (pull_state S.half pull.new) fault (return_at result_type)) }
+    ensures reads { IfOk result (λ x. ReadsReturn (pull_state S.half pull.old)
+        (pull_state S.half pull.new) (return_at result_type) result_type x.0 x.1 x.2) }
+    ensures message { IfOk result (λ x. TakesReturn (pull_state S.half pull.old)
+        (pull_state S.half pull.new) result_type x.0 x.1 x.2) }
+    ensures stops { IfErr result (λ fault. BreaksReturn (pull_state S.half pull.old)
+        (pull_state S.half pull.new) fault (return_at result_type)) }
     ensures gives { GivesReturn S.half pull.old pull.new result_type result }
-    ensures cause { CausedIn (S.half pull.old.source.now).faults (S.half pull.new.source.now).faults result }
+    ensures cause { CausedIn (S.half pull.old.source.now).faults (S.half pull.new.source.now).faults
+        result }
     ensures lent { pull.new.source.ghost_name ≡ pull.old.source.ghost_name }
 {
     match read_kind(alloc, pull) {

@@ -41,7 +41,8 @@ pub(crate) fn open_space(alloc: Global, lease_ms: u64, ack_ms: u64) -> Result<Sp
     requires short_ack { ack_ms ≤ MAX_DURATION_MS }
     ensures config { IfOk result (λ space. space.configuration ≡ config_of lease_ms ack_ms) }
     ensures events { IfOk result (λ space. space.events ≡ first_events) }
-    ensures rows { IfOk result (λ space. space.rows ≡ table space.configuration (places space.configuration space.events)) }
+    ensures rows { IfOk result (λ space.
+        space.rows ≡ table space.configuration (places space.configuration space.events)) }
     ensures err { IfErr result (λ fault. fault ≡ OutOfMemory) }
 {
     let mut space = Space::fresh(alloc, &config_of(lease_ms, ack_ms));

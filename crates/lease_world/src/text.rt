@@ -44,8 +44,10 @@ fn put_refs(
     refs: &[ClientRef],
     now: u64,
 ) -> Result<(), AllocError>
-    ensures { OnOk result (ForEachLog table.now (λ vmid first log.
-        text.new ≡ text.old ++ flat_map (λ r. ref_line client r (is_usable_after first log r.id now)) refs.now)) }
+    ensures { OnOk result
+        (ForEachLog table.now (λ vmid first log. text.new
+        ≡ text.old ++ flat_map (λ r. ref_line client r (is_usable_after first log r.id now))
+        refs.now)) }
 {
     for reference in refs {
         put_ref(text, client, reference, table.usable(reference.id, now))?;
@@ -76,7 +78,9 @@ fn put_client(
     table: &ClientTable,
     now: u64,
 ) -> Result<(), AllocError>
-    ensures { OnOk result (ForEachLog table.now (λ vmid first log. first ≡ pos 0 → text.new ≡ text.old ++ client_lines client now log)) }
+    ensures { OnOk result
+        (ForEachLog table.now
+        (λ vmid first log. first ≡ pos 0 → text.new ≡ text.old ++ client_lines client now log)) }
 {
     put_until(text, client, table.until())?;
     let refs = table.refs().list(alloc)?;
@@ -86,7 +90,8 @@ fn put_client(
 impl World {
     /// Returns what is printed of a world: the outline of the server's space, and the lines of its clients. It is refused only for want of memory.
     pub(crate) fn print(&self) -> Result<ByteList, AllocError>
-        ensures { IfOk result (λ text. ForEachCourse self.now (λ course. text ≡ end_text (world course))) }
+        ensures { IfOk result
+            (λ text. ForEachCourse self.now (λ course. text ≡ end_text (world course))) }
     {
         let mut text = outline(self.alloc, &self.space)?;
         self.put_clients(&mut text)?;

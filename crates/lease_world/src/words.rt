@@ -35,7 +35,8 @@ fn split_word(text: &[u8]) -> (&[u8], Option<&[u8]>)
 
 /// The words of a line. It is None exactly where it has more than four.
 pub(crate) fn words_of(line: &[u8]) -> Option<Words<'_>>
-    ensures { MatchOption result (5 ≤ length (parts 32 line.now)) (λ words. parts 32 line.now ≡ words_in words) }
+    ensures { MatchOption result (5 ≤ length (parts 32 line.now))
+        (λ words. parts 32 line.now ≡ words_in words) }
 {
     let (first, rest) = split_word(line);
     let Some(rest) = rest else {

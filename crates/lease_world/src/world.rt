@@ -18,11 +18,17 @@ use std::marker::Model;
 /// A world: one server's space, many clients' tables, and every lease call that was ever sent. Contracts see it as `WorldParts`; what its steps
 /// leave is said by the courses for which it stands.
 pub struct World {
+    /// Where it takes memory.
     pub(crate) alloc: Global,
+    /// The present moment, in milliseconds.
     pub(crate) moment: u64,
+    /// The number of new objects that the server returned.
     pub(crate) made: u64,
+    /// The server's space.
     pub(crate) space: Space,
+    /// The clients, by their numbers.
     pub(crate) members: Vec<Member>,
+    /// Every lease call that was sent, in the order of sending.
     pub(crate) letters: Vec<Letter>,
 }
 
@@ -82,7 +88,8 @@ impl World {
         requires short_lease { lease_ms ≤ MAX_DURATION_MS }
         requires some_ack { 1 ≤ ack_ms }
         requires short_ack { ack_ms ≤ MAX_DURATION_MS }
-        ensures ok { IfOk result (λ fresh. StandsForCourse fresh (no_deeds lease_ms ack_ms clients)) }
+        ensures ok { IfOk result
+            (λ fresh. StandsForCourse fresh (no_deeds lease_ms ack_ms clients)) }
         ensures err { IfErr result (λ fault. fault ≡ faults.OutOfMemory) }
 
         // The server exports what its history exports, and nothing else.
@@ -117,7 +124,8 @@ impl World {
 
         // Whatever is lost, late or repeated: an object that a client may use, and that was exported at some delivery of the dirty call which made
         // the client's reference sure, be it the first one or a later one, before the answer or after it, is exported.
-        ensures promise { ForEachCourse self.new (λ course. KeepsPromise (world course) self.new.space.rows) }
+        ensures promise { ForEachCourse self.new
+            (λ course. KeepsPromise (world course) self.new.space.rows) }
     {
         let result = self.take(step);
         let _count = self.space.len();

@@ -100,9 +100,12 @@ impl Draft {
     /// Notes what a byte tells that leads to a place.
     fn note(&mut self, byte: u8, next: TextPlace) -> Result<(), AllocError>
         ensures place { OnOk result (self.new.place ≡ next) }
-        ensures name { OnOk result (self.new.name ≡ self.old.name ++ name_noted self.old.place byte) }
-        ensures params { OnOk result (self.new.params ≡ self.old.params ++ param_noted self.old.place byte) }
-        ensures returned { OnOk result (self.new.result ≡ returned_noted self.old.place byte self.old.result) }
+        ensures name { OnOk result
+            (self.new.name ≡ self.old.name ++ name_noted self.old.place byte) }
+        ensures params { OnOk result
+            (self.new.params ≡ self.old.params ++ param_noted self.old.place byte) }
+        ensures returned { OnOk result
+            (self.new.result ≡ returned_noted self.old.place byte self.old.result) }
     {
         match self.place {
             TextPlace::Name(_) => {
@@ -126,8 +129,11 @@ impl Draft {
 /// Where reading stands behind a byte, before which so many were read; None where no method's text that is short enough goes on so.
 fn step(place: TextPlace, byte: u8, at: usize) -> Option<TextPlace>
     requires { at < 2 ^ 62 }
-    ensures some { IfSome result (λ q. (next place byte ≡ Some q) × (at + 1 + need q ≤ METHOD_BYTES)) }
-    ensures none { IfNone result ((next place byte ≡ None) ⊎ ((q : Places) × (next place byte ≡ Some q) × (METHOD_BYTES < at + 1 + need q))) }
+    ensures some { IfSome result
+        (λ q. (next place byte ≡ Some q) × (at + 1 + need q ≤ METHOD_BYTES)) }
+    ensures none { IfNone result
+        ((next place byte ≡ None)
+        ⊎ ((q : Places) × (next place byte ≡ Some q) × (METHOD_BYTES < at + 1 + need q))) }
 {
     let next = place.next(byte)?;
     if at + 1 + next.need() <= METHOD_BYTES {
@@ -141,7 +147,8 @@ impl Method {
     /// The method of a text. `BadDescriptor` comes exactly where the bytes are no method's text; its place is the length of the longest
     /// front of them with which some method's text begins.
     pub fn parse(alloc: Global, text: &[u8]) -> Result<Method, MethodFault>
-        ensures ok { IfOk result (λ method. IsMethod text.now method.name method.params method.result) }
+        ensures ok { IfOk result
+            (λ method. IsMethod text.now method.name method.params method.result) }
         ensures text { IfOk result (λ method. method.text ≡ text.now) }
         ensures err { IfErr result (λ fault. IsUnread text.now fault) }
     {

@@ -32,7 +32,8 @@ impl RegistryMethod {
     /// The method of an operation number, from 0 to 4; None exactly for any other.
     pub fn of_operation(operation: i32) -> Option<RegistryMethod>
         ensures some { IfSome result (λ method. operation ≡ registry_number method) }
-        ensures none { IfNone result ((method : RegistryMethod) → operation ≡ registry_number method → ⊥) }
+        ensures none { IfNone result
+            ((method : RegistryMethod) → operation ≡ registry_number method → ⊥) }
     {
         match operation {
             0 => Some(RegistryMethod::Bind),
@@ -62,7 +63,8 @@ impl CollectorMethod {
     /// The method of an operation number, 0 or 1; None exactly for any other.
     pub fn of_operation(operation: i32) -> Option<CollectorMethod>
         ensures some { IfSome result (λ method. operation ≡ collector_number method) }
-        ensures none { IfNone result ((method : CollectorMethod) → operation ≡ collector_number method → ⊥) }
+        ensures none { IfNone result
+            ((method : CollectorMethod) → operation ≡ collector_number method → ⊥) }
     {
         match operation {
             0 => Some(CollectorMethod::Clean),

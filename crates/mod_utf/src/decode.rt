@@ -25,7 +25,8 @@ pub enum UtfFault {
 #[tactic(auto, using(crate::proofs::Decoded::only_text))]
 pub fn decode(alloc: Global, bytes: &[u8]) -> Result<Units, UtfFault>
     ensures ok { IfOk result (λ units. Utf units bytes.now) }
-    ensures alone { IfOk result (λ units. (others : List ℕ) → Utf others bytes.now → others ≡ units) }
+    ensures alone { IfOk result
+        (λ units. (others : List ℕ) → Utf others bytes.now → others ≡ units) }
     ensures err { IfErr result (λ fault. IsUnread bytes.now fault) }
     ensures value { GivesUnits result (decoded_units bytes.now) }
 {
@@ -38,7 +39,8 @@ pub fn decode(alloc: Global, bytes: &[u8]) -> Result<Units, UtfFault>
 
 /// Appends the text that these bytes spell. It is refused as `decode` is, and then the units are as they were.
 pub fn decode_onto(units: &mut Units, bytes: &[u8]) -> Result<(), UtfFault>
-    ensures ok { OnOk result ((text : List ℕ) × Utf text bytes.now × (units.new ≡ units.old ++ text)) }
+    ensures ok { OnOk result
+        ((text : List ℕ) × Utf text bytes.now × (units.new ≡ units.old ++ text)) }
     ensures err { IfErr result (λ fault. IsUnread bytes.now fault) }
     ensures unchanged { OnErr result (units.new ≡ units.old) }
     ensures value { GivesMore units.old units.new result (decoded_units bytes.now) }
@@ -55,7 +57,8 @@ pub fn decode_onto(units: &mut Units, bytes: &[u8]) -> Result<(), UtfFault>
 
 /// Appends the units that these bytes spell, up to the place from where on they spell none.
 fn push_all(units: &mut Units, bytes: &[u8]) -> Result<(), UtfFault>
-    ensures ok { OnOk result ((text : List ℕ) × Utf text bytes.now × (units.new ≡ units.old ++ text)) }
+    ensures ok { OnOk result
+        ((text : List ℕ) × Utf text bytes.now × (units.new ≡ units.old ++ text)) }
     ensures err { IfErr result (λ fault. IsUnread bytes.now fault) }
     ensures kept { OnErr result (take (length units.old) units.new ≡ units.old) }
 {

@@ -49,9 +49,12 @@ impl UidDraw {
     /// The next identifier. It is None exactly where the moment of the next has reached 2^62, and then
     /// it stays so.
     pub fn next(&mut self) -> Option<Uid>
-        ensures ended { IsNone result ↔ (pos (2 ^ 62) ≤ℤ moment_drawn self.old.time self.old.drawn) }
-        ensures value { IfSome result (λ uid. uid ≡ uid_drawn self.old.unique self.old.time self.old.drawn) }
-        ensures fresh { IfSome result (λ uid. (k : ℕ) → k < self.old.drawn → uid_drawn self.old.unique self.old.time k ≢ uid) }
+        ensures ended { IsNone result
+            ↔ (pos (2 ^ 62) ≤ℤ moment_drawn self.old.time self.old.drawn) }
+        ensures value { IfSome result
+            (λ uid. uid ≡ uid_drawn self.old.unique self.old.time self.old.drawn) }
+        ensures fresh { IfSome result (λ uid. (k : ℕ) → k < self.old.drawn
+            → uid_drawn self.old.unique self.old.time k ≢ uid) }
         ensures some { OnSome result (self.new ≡ record self.old { drawn = self.old.drawn + 1 }) }
         ensures none { IfNone result (self.new ≡ self.old) }
     {

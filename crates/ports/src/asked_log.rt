@@ -88,7 +88,8 @@ fn copies_of(alloc: Global, wholes: &[Asked], rows: &[AskedRow]) -> Result<Asked
 
 /// Returns the number of rows whose entries began a call, where these are kept whole.
 fn starts_in(wholes: &[Asked], rows: &[AskedRow]) -> usize
-    ensures { result ≡ length (filter (λ row. is_start (entry_of_row wholes.now row).end) rows.now) }
+    ensures { result ≡ length
+        (filter (λ row. is_start (entry_of_row wholes.now row).end) rows.now) }
 {
     rows.iter().filter(|row| is_start(wholes, row)).count()
 }

@@ -43,25 +43,22 @@ pub enum AskedWhat {
         place: u64,
         uid: Uid,
     },
-    /// Any other entry: the one of this number among those that are kept whole. What that one says of its moment is what counts.
+    /// Any other entry: the one with this number among those that are kept whole. Its own moment counts, not the row's.
     Whole(usize),
 }
 
 /// An entry as a port keeps it.
 #[derive(Drop)]
 pub struct AskedRow {
+    /// The moment of the turn, in milliseconds.
     pub moment: u64,
+    /// The request, its answer and its place.
     pub what: AskedWhat,
 }
 
 // ---- plain entries
 
-fn is_started(reply: &Reply) -> bool
-    ensures { IsTrue result ↔ IsStarted reply.now }
-{
-    matches!(reply, Reply::Started(_))
-}
-
+/// Returns whether a reply is Done.
 fn is_done(reply: &Reply) -> bool
     ensures { IsTrue result ↔ (reply.now ≡ Done) }
 {
@@ -132,7 +129,9 @@ fn kind_of(reply: &Reply) -> u32
 /// Returns the content of the row of a plain reply.
 fn row_of_turn(place: u64, ask: &Ask, reply: &Reply) -> AskedWhat
     requires { IsPlainReply ask.now reply.now }
-    ensures row { (wholes : List Entry) → (moment : ℕ) → entry_with wholes moment result ≡ record { moment = moment; ask = ask.now; end = Turned (plain_turn place reply.now) } }
+    ensures row { (wholes : List Entry) → (moment : ℕ)
+        → entry_with wholes moment result
+        ≡ record { moment = moment; ask = ask.now; end = Turned (plain_turn place reply.now) } }
     ensures known { (count : ℕ) → IsAmongWhole count result }
 {
     match ask {
@@ -162,7 +161,9 @@ fn row_of_turn(place: u64, ask: &Ask, reply: &Reply) -> AskedWhat
 /// Returns the content of the row of a call that ended without an answer.
 fn row_of_abandon(place: u64, ask: &Ask) -> AskedWhat
     requires { IsAbandon ask.now }
-    ensures row { (wholes : List Entry) → (moment : ℕ) → entry_with wholes moment result ≡ record { moment = moment; ask = ask.now; end = Abandoned place } }
+    ensures row { (wholes : List Entry) → (moment : ℕ)
+        → entry_with wholes moment result
+        ≡ record { moment = moment; ask = ask.now; end = Abandoned place } }
     ensures known { (count : ℕ) → IsAmongWhole count result }
 {
     let mut row = ObjId {
@@ -181,7 +182,9 @@ fn row_of_abandon(place: u64, ask: &Ask) -> AskedWhat
 
 fn plain_what(ask: &Ask, end: &AskedEnd) -> AskedWhat
     requires { IsPlainEnd ask.now end.now }
-    ensures row { (wholes : List Entry) → (moment : ℕ) → entry_with wholes moment result ≡ record { moment = moment; ask = ask.now; end = end.now } }
+    ensures row { (wholes : List Entry) → (moment : ℕ)
+        → entry_with wholes moment result
+        ≡ record { moment = moment; ask = ask.now; end = end.now } }
     ensures known { (count : ℕ) → IsAmongWhole count result }
 {
     match end {
@@ -219,14 +222,15 @@ fn ends_as_start(end: &AskedEnd) -> bool
     ensures { result ≡ is_start end.now }
 {
     match end {
-        AskedEnd::Turned(turn) => has_started(&turn.reply),
+        AskedEnd::Turned(turn) => is_started(&turn.reply),
         AskedEnd::Refused(_) | AskedEnd::Abandoned(_) => false,
     }
 }
 
 /// Returns whether a reply says that a call was begun.
-pub(crate) fn has_started(reply: &Reply) -> bool
-    ensures { result ≡ is_started reply.now }
+pub(crate) fn is_started(reply: &Reply) -> bool
+    ensures value { result ≡ is_started reply.now }
+    ensures started { IsTrue result ↔ IsStarted reply.now }
 {
     match reply {
         Reply::Started(_kind) => true,

@@ -30,7 +30,8 @@ impl<'a> SpacePort<'a, AskedLog> {
     /// The port of a connection. Its entries begin with the next turn.
     pub fn new(alloc: Global, space: &'a mut Space, by: u32) -> DirectPort<'a>
         ensures same_reference { result.space.ghost_name ≡ space.entry.ghost_name }
-        ensures values { (result.space.now ≡ space.old) × (result.by ≡ by) × (result.asked.items ≡ []) }
+        ensures values { (result.space.now ≡ space.old) × (result.by ≡ by)
+            × (result.asked.items ≡ []) }
         ensures ready { IsTied result.by result.space.now result.asked.items result.asked.capacity }
     {
         SpacePort {
@@ -42,7 +43,10 @@ impl<'a> SpacePort<'a, AskedLog> {
 
     /// The port's entries.
     pub fn into_asked(self) -> PortEntries
-        ensures { result ≡ self.entry.asked.items }
+        ensures items { result ≡ self.entry.asked.items }
+
+        // The space behind the port, the first of its fields, is as the port left it.
+        ensures left { self.exit.0.now ≡ self.entry.space.now }
     {
         let SpacePort {
             space: _,
@@ -58,7 +62,8 @@ impl<'a> Port for SpacePort<'a, AskedLog> {
 
     ghost ready = { λ p. IsTied p.by p.space.now p.asked.items p.asked.capacity };
 
-    ghost leads = { λ p q. (q.space.ghost_name ≡ p.space.ghost_name) × (q.by ≡ p.by) × Leads p.by p.space.now p.asked.items q.space.now q.asked.items };
+    ghost leads = { λ p q. (q.space.ghost_name ≡ p.space.ghost_name) × (q.by ≡ p.by)
+        × Leads p.by p.space.now p.asked.items q.space.now q.asked.items };
 
     fn turn(&mut self, moment: u64, ask: Ask) -> Result<Turn, Refused> {
         if self.asked.reserve(self.asked.len() + 2).is_err() {
@@ -91,5 +96,7 @@ impl<'a> Port for SpacePort<'a, AskedLog> {
 
     ghost stays = { λ p. (refl, refl, leads_self p.by p.space.now p.asked.items) };
 
-    ghost goes_on = { λ p q r a b. leads_on p.by q.by r.by p.space.ghost_name q.space.ghost_name r.space.ghost_name p.space.now q.space.now r.space.now p.asked.items q.asked.items r.asked.items a b };
+    ghost goes_on = { λ p q r a b. leads_on p.by q.by r.by p.space.ghost_name q.space.ghost_name
+        r.space.ghost_name p.space.now q.space.now r.space.now p.asked.items q.asked.items
+        r.asked.items a b };
 }

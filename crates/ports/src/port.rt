@@ -18,13 +18,14 @@ pub trait Port {
     // The relation that calls keep, from a port before to the port after.
     ghost leads: { Self → Self → Type 0 };
 
-    /// Hands in what the connection asks at a moment, in milliseconds. The turn is entered, whether it is taken or refused, but where
-    /// there was no memory.
+    /// Hands in a request of the connection at a moment, in milliseconds. The turn gets an entry, whether it is taken or refused. Only a
+    /// turn without memory gets none.
     fn turn(&mut self, moment: u64, ask: Ask) -> Result<Turn, Refused>
         requires ready { ready self.old }
         requires room { 0 < (shown self.old).room }
         requires moment { moment < END_OF_TIME }
-        ensures asked { (shown self.new).asked ≡ (shown self.old).asked ++ entries_of moment ask result }
+        ensures asked { (shown self.new).asked
+            ≡ (shown self.old).asked ++ entries_of moment ask result }
         ensures answer { IsAnswerTo (Shows (shown self.old).asked) ask result }
         ensures room { (shown self.old).room ≤ (shown self.new).room + 1 }
         ensures ready { ready self.new }
@@ -36,7 +37,9 @@ pub trait Port {
         requires room { 0 < (shown self.old).room }
         requires moment { moment < END_OF_TIME }
         requires runs { Shows (shown self.old).asked object }
-        ensures asked { (place : ℕ) × ((shown self.new).asked ≡ (shown self.old).asked ++ abandoned_at moment object place ∷ []) }
+        ensures asked { (place : ℕ)
+            × ((shown self.new).asked
+            ≡ (shown self.old).asked ++ abandoned_at moment object place ∷ []) }
         ensures room { (shown self.old).room ≤ (shown self.new).room + 1 }
         ensures ready { ready self.new }
         ensures leads { leads self.old self.new };

@@ -5,7 +5,7 @@ ghost use Rattle.ports.specs.Balance.{calls_in, is_start};
 ghost use Rattle.ports.specs.Ports.{abandoned_at, entries_of};
 ghost use Rattle.ports.specs.ToldEntries.{entries_with};
 
-use crate::asked_rows::has_started;
+use crate::asked_rows::is_started;
 use history::{Ask, Refused, Turn};
 use object_ids::ObjId;
 use past::Past;
@@ -53,7 +53,8 @@ impl Model for ToldLog {
 
     ghost view = { λ l. entries_told l.entries };
 
-    ghost invariant = { λ l. calls_in (entries_told l.entries) < 2 ^ 64 → l.calls ≡ calls_in (entries_told l.entries) };
+    ghost invariant = { λ l. calls_in (entries_told l.entries) < 2 ^ 64
+        → l.calls ≡ calls_in (entries_told l.entries) };
 }
 
 impl ToldLog {
@@ -110,7 +111,7 @@ fn is_start(answer: &Result<Turn, Refused>) -> bool
     ensures { result ≡ is_start (end_of answer.now) }
 {
     match answer {
-        Ok(turn) => has_started(&turn.reply),
+        Ok(turn) => is_started(&turn.reply),
         Err(_refused) => false,
     }
 }

@@ -35,7 +35,8 @@ impl<'a> Port for SpacePort<'a, ToldLog> {
 
     ghost ready = { λ p. IsTiedTold p.by p.space.now p.asked };
 
-    ghost leads = { λ p q. (q.space.ghost_name ≡ p.space.ghost_name) × (q.by ≡ p.by) × Leads p.by p.space.now p.asked q.space.now q.asked };
+    ghost leads = { λ p q. (q.space.ghost_name ≡ p.space.ghost_name) × (q.by ≡ p.by)
+        × Leads p.by p.space.now p.asked q.space.now q.asked };
 
     fn turn(&mut self, moment: u64, ask: Ask) -> Result<Turn, Refused> {
         let told = Snapshot::of(&ask);
@@ -56,5 +57,6 @@ impl<'a> Port for SpacePort<'a, ToldLog> {
 
     ghost stays = { λ p. (refl, refl, leads_self p.by p.space.now p.asked) };
 
-    ghost goes_on = { λ p q r a b. leads_on p.by q.by r.by p.space.ghost_name q.space.ghost_name r.space.ghost_name p.space.now q.space.now r.space.now p.asked q.asked r.asked a b };
+    ghost goes_on = { λ p q r a b. leads_on p.by q.by r.by p.space.ghost_name q.space.ghost_name
+        r.space.ghost_name p.space.now q.space.now r.space.now p.asked q.asked r.asked a b };
 }

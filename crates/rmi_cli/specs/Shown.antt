@@ -1,11 +1,11 @@
 -- What `rmi show` takes and writes.
-use Rattle.std.specs.Prelude.{◌≡◌, ℕ, ◌<◌, ◌≤◌, ◌⊎◌, List, [], length, take, Option, Some, Ok, Err}
+use Rattle.std.specs.Prelude.{◌≡◌, ℕ, ◌+◌, ◌<◌, ◌≤◌, ◌⊎◌, List, [], length, take, Option, Some, Ok, Err}
 use Rattle.class_desc.specs.declared.slot.Item.{Item}
 use Rattle.wire_io.specs.Wire.{Wires, with_front, with_end, NothingLeft}
 use Rattle.wire_io.specs.Pulled.{PullState}
 use Rattle.ser_values.specs.declared.limits.TheConstants.{MESSAGE_BYTES, PARTS}
 use Rattle.ser_values.specs.declared.node.Node.{Node}
-use Rattle.ser_values.specs.Shape.{parts_in}
+use Rattle.ser_values.specs.Shape.{refs_in, parts_in}
 use Rattle.stream_grammar.specs.Spelled.{IsStream}
 use Rattle.stream_grammar.specs.Reading.{stream_of, Fault, short, bad, too_many, too_deep, FaultKind, bad_magic, bad_code, bad_handle, wrong_handle_kind, bad_desc, bad_utf, negative_length, reset, inner_exception, old_external}
 use Rattle.ser_read.specs.declared.fault.StreamFault.{StreamFault}
@@ -29,7 +29,7 @@ pub record TakesGraph (left_before left_after : Option (List ℕ)) (nodes : List
   pub nothing : NothingLeft left_after
   pub short : length input ≤ MESSAGE_BYTES
   pub stream : IsStream nodes items input
-  pub parts : parts_in nodes ≤ PARTS
+  pub parts : parts_in nodes + refs_in items ≤ PARTS
   pub read : stream_of input ≡ Ok (nodes, items)
 
 -- Where the input is told, this is the fault at which reading it from left to right stops, or there are too many bytes.

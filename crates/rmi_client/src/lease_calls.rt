@@ -72,7 +72,8 @@ fn dirty_call(
 
 /// Appends a truth value.
 fn put_truth(alloc: Global, arguments: &mut Items, value: bool) -> Result<(), AllocError>
-    ensures { OnOk result (arguments.new ≡ arguments.old ++ listed.Bytes (truth_byte value ∷ []) ∷ []) }
+    ensures { OnOk result
+        (arguments.new ≡ arguments.old ++ listed.Bytes (truth_byte value ∷ []) ∷ []) }
 {
     let byte = ByteList::from_slice(alloc, &[u8::from(value)])?;
     arguments.push(Item::Bytes(byte))

@@ -88,10 +88,12 @@ impl<S: Source, K: Sink> Session<S, K> {
     /// Each end comes as at [`Session::call`], and `BadReply` with `WrongShape` exactly where a dirty call's result is no lease. A plan of more than
     /// 16,384 objects may want more memory than there is.
     pub fn renew(&mut self, vmid: &Vmid, plan: &Plan, asked: i64) -> Result<u64, ClientEnd>
-        ensures over { self.old.is_over ≡ true → (result ≡ Err ClientEnd.Over) × (self.new ≡ self.old) }
-        ensures asks { self.old.is_over ≡ false → Asks
-            (IsPlanCall vmid.now plan.now asked) (HearsSeen (grant_in plan.now) (want_of_plan plan.now))
-            (link_of S.half K.half self.old) (link_of S.half K.half self.new) result }
+        ensures over { self.old.is_over ≡ true
+            → (result ≡ Err ClientEnd.Over) × (self.new ≡ self.old) }
+        ensures asks { self.old.is_over ≡ false
+            → Asks (IsPlanCall vmid.now plan.now asked)
+            (HearsSeen (grant_in plan.now) (want_of_plan plan.now)) (link_of S.half K.half self.old)
+            (link_of S.half K.half self.new) result }
         ensures ended { self.new.is_over ≡ is_end result }
     {
         if self.is_over {
@@ -104,8 +106,9 @@ impl<S: Source, K: Sink> Session<S, K> {
 
     /// Sends a lease call and reads its Return.
     fn ask_renew(&mut self, vmid: &Vmid, plan: &Plan, asked: &i64) -> Result<u64, ClientEnd>
-        ensures { Asks (IsPlanCall vmid.now plan.now asked.now) (HearsSeen (grant_in plan.now) (want_of_plan plan.now))
-            (link_of S.half K.half self.old) (link_of S.half K.half self.new) result }
+        ensures { Asks (IsPlanCall vmid.now plan.now asked.now)
+            (HearsSeen (grant_in plan.now) (want_of_plan plan.now)) (link_of S.half K.half self.old)
+            (link_of S.half K.half self.new) result }
     {
         match plan_call(self.alloc, vmid, plan, asked) {
             Ok(bytes) => self.grant(bytes.as_slice(), plan),
@@ -115,8 +118,9 @@ impl<S: Source, K: Sink> Session<S, K> {
 
     /// Sends bytes and reads the Return of a plan's call.
     fn grant(&mut self, bytes: &[u8], plan: &Plan) -> Result<u64, ClientEnd>
-        ensures { Asks (λ sent. sent ≡ bytes.now) (HearsSeen (grant_in plan.now) (want_of_plan plan.now))
-            (link_of S.half K.half self.old) (link_of S.half K.half self.new) result }
+        ensures { Asks (λ sent. sent ≡ bytes.now)
+            (HearsSeen (grant_in plan.now) (want_of_plan plan.now)) (link_of S.half K.half self.old)
+            (link_of S.half K.half self.new) result }
     {
         match self.exchange(bytes, want_of_plan(plan)) {
             Ok(answer) => grant_in(self.alloc, plan, &answer, self.at),

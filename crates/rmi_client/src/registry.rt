@@ -24,7 +24,8 @@ impl<S: Source, K: Sink> Session<S, K> {
     ///
     /// Each end comes as at [`Session::call`], and `BadReply` with `WrongShape` exactly where the result is no reference to a remote object.
     pub fn lookup(&mut self, name: &Name) -> Result<(Uid, LiveRef), ClientEnd>
-        ensures over { self.old.is_over ≡ true → (result ≡ Err ClientEnd.Over) × (self.new ≡ self.old) }
+        ensures over { self.old.is_over ≡ true
+            → (result ≡ Err ClientEnd.Over) × (self.new ≡ self.old) }
         ensures asks { self.old.is_over ≡ false → Asks
             (IsNameCall RegistryMethod.Lookup name.now) (HearsSeen found_in (Some types.Object))
             (link_of S.half K.half self.old) (link_of S.half K.half self.new) result }
@@ -42,8 +43,10 @@ impl<S: Source, K: Sink> Session<S, K> {
     ///
     /// Each end comes as at [`Session::call`], and `BadReply` with `WrongShape` exactly where the result is no array of texts.
     pub fn list(&mut self) -> Result<NameList, ClientEnd>
-        ensures over { self.old.is_over ≡ true → (result ≡ Err ClientEnd.Over) × (self.new ≡ self.old) }
-        ensures asks { self.old.is_over ≡ false → Asks IsListCall (HearsSeen names_in (Some types.Array))
+        ensures over { self.old.is_over ≡ true
+            → (result ≡ Err ClientEnd.Over) × (self.new ≡ self.old) }
+        ensures asks { self.old.is_over ≡ false
+            → Asks IsListCall (HearsSeen names_in (Some types.Array))
             (link_of S.half K.half self.old) (link_of S.half K.half self.new) result }
         ensures ended { self.new.is_over ≡ is_end result }
     {
@@ -60,7 +63,8 @@ impl<S: Source, K: Sink> Session<S, K> {
     /// Each end comes as at [`Session::call`].
     pub fn bind(&mut self, name: &Name, reference: &LiveRef) -> Result<(), ClientEnd>
         requires { length (utf reference.now.host) ≤ 65535 }
-        ensures over { self.old.is_over ≡ true → (result ≡ Err ClientEnd.Over) × (self.new ≡ self.old) }
+        ensures over { self.old.is_over ≡ true
+            → (result ≡ Err ClientEnd.Over) × (self.new ≡ self.old) }
         ensures asks { self.old.is_over ≡ false → Asks
             (IsBindCall name.now reference.now) (HearsSeen nothing_in None)
             (link_of S.half K.half self.old) (link_of S.half K.half self.new) result }
@@ -78,7 +82,8 @@ impl<S: Source, K: Sink> Session<S, K> {
     ///
     /// Each end comes as at [`Session::call`].
     pub fn unbind(&mut self, name: &Name) -> Result<(), ClientEnd>
-        ensures over { self.old.is_over ≡ true → (result ≡ Err ClientEnd.Over) × (self.new ≡ self.old) }
+        ensures over { self.old.is_over ≡ true
+            → (result ≡ Err ClientEnd.Over) × (self.new ≡ self.old) }
         ensures asks { self.old.is_over ≡ false → Asks
             (IsNameCall RegistryMethod.Unbind name.now) (HearsSeen nothing_in None)
             (link_of S.half K.half self.old) (link_of S.half K.half self.new) result }
@@ -94,8 +99,9 @@ impl<S: Source, K: Sink> Session<S, K> {
 
     /// Sends a lookup and reads its Return.
     fn ask_lookup(&mut self, name: &Name) -> Result<(Uid, LiveRef), ClientEnd>
-        ensures { Asks (IsNameCall RegistryMethod.Lookup name.now) (HearsSeen found_in (Some types.Object))
-            (link_of S.half K.half self.old) (link_of S.half K.half self.new) result }
+        ensures { Asks (IsNameCall RegistryMethod.Lookup name.now)
+            (HearsSeen found_in (Some types.Object)) (link_of S.half K.half self.old)
+            (link_of S.half K.half self.new) result }
     {
         match name_call(self.alloc, RegistryMethod::Lookup, name) {
             Ok(bytes) => self.find(bytes.as_slice()),

@@ -134,7 +134,8 @@ pub(crate) fn read_answer<S: Source>(
     pull: &mut Pull<'_, S>,
     want: Option<TypeCode>,
 ) -> Result<Answer, ClientEnd>
-    ensures hears { HearsAnswer (pull_state S.half pull.old) (pull_state S.half pull.new) want result }
+    ensures hears { HearsAnswer (pull_state S.half pull.old) (pull_state S.half pull.new) want
+        result }
     ensures lent { pull.new.source.ghost_name ≡ pull.old.source.ghost_name }
 {
     let at = pull.at;
@@ -156,7 +157,8 @@ fn read_behind<S: Source>(
     pull: &mut Pull<'_, S>,
     want: Option<TypeCode>,
 ) -> Result<Answer, ClientEnd>
-    ensures hears { HearsReturn (pull_state S.half pull.old) (pull_state S.half pull.new) want result }
+    ensures hears { HearsReturn (pull_state S.half pull.old) (pull_state S.half pull.new) want
+        result }
     ensures lent { pull.new.source.ghost_name ≡ pull.old.source.ghost_name }
 {
     match read_return(alloc, pull, want) {

@@ -115,7 +115,8 @@ fn sent_ref(alloc: Global, reference: &LiveRef) -> Result<LiveRef, AllocError>
 /// Puts a reference, as a proxy of `java.rmi.Remote` alone.
 fn put_reference(alloc: Global, b: &mut Builder, reference: &LiveRef) -> Result<Slot, BuildFault>
     requires { length (utf reference.now.host) ≤ 65535 }
-    ensures put { IfOk result (ProxyAt b.new (codes "java.rmi.Remote") (ref_note (sent_ref reference.now))) }
+    ensures put { IfOk result
+        (ProxyAt b.new (codes "java.rmi.Remote") (ref_note (sent_ref reference.now))) }
     ensures grown { OnOk result (Grows 16 b.old b.new) }
 {
     let interface = units_of_ascii(alloc, b"java.rmi.Remote")?;

@@ -92,9 +92,10 @@ impl<S: Source, K: Sink> Session<S, K> {
         ensures begins { IfOk result (λ session. Begins {A = Unit {0}} host.now
             (link_at (S.half source) (K.half sink) 0) (link_of S.half K.half session) (Ok tt)) }
         ensures open { IfOk result (λ session. session.is_over ≡ false) }
-        ensures refuses { IfErr result (λ refusal. (at : ℕ) × Begins {A = Unit {0}} host.now
-            (link_at (S.half source) (K.half sink) 0)
-            (link_at (S.half refusal.halves.source) (K.half refusal.halves.sink) at) (Err refusal.end)) }
+        ensures refuses { IfErr result (λ refusal. (at : ℕ)
+            × Begins {A = Unit {0}} host.now (link_at (S.half source) (K.half sink) 0)
+            (link_at (S.half refusal.halves.source) (K.half refusal.halves.sink) at)
+            (Err refusal.end)) }
     {
         let mut session = Session {
             alloc,
@@ -131,7 +132,8 @@ impl<S: Source, K: Sink> Session<S, K> {
     ///
     /// `BadReply` with `NotReturn` comes exactly at another answer than `53`, and `Truncated` where the input ends before it. It takes no memory.
     pub fn ping(&mut self) -> Result<(), ClientEnd>
-        ensures over { self.old.is_over ≡ true → (result ≡ Err ClientEnd.Over) × (self.new ≡ self.old) }
+        ensures over { self.old.is_over ≡ true
+            → (result ≡ Err ClientEnd.Over) × (self.new ≡ self.old) }
         ensures asks { self.old.is_over ≡ false → Asks IsPing HearsPing
             (link_of S.half K.half self.old) (link_of S.half K.half self.new) result }
         ensures memory { result ≢ Err ClientEnd.OutOfMemory }
@@ -148,7 +150,8 @@ impl<S: Source, K: Sink> Session<S, K> {
     /// Acknowledges a Return by its identifier (Java RMI Specification, 10.3, DgcAck): the client has registered the references in it. The server
     /// answers nothing. It takes no memory.
     pub fn ack(&mut self, uid: Uid) -> Result<(), ClientEnd>
-        ensures over { self.old.is_over ≡ true → (result ≡ Err ClientEnd.Over) × (self.new ≡ self.old) }
+        ensures over { self.old.is_over ≡ true
+            → (result ≡ Err ClientEnd.Over) × (self.new ≡ self.old) }
         ensures tells { self.old.is_over ≡ false → Tells (IsDgcAck uid)
             (link_of S.half K.half self.old) (link_of S.half K.half self.new) result }
         ensures ended { self.new.is_over ≡ is_end result }
@@ -173,7 +176,8 @@ impl<S: Source, K: Sink> Session<S, K> {
         arguments: &Graph,
         want: Option<TypeCode>,
     ) -> Result<Answer, ClientEnd>
-        ensures over { self.old.is_over ≡ true → (result ≡ Err ClientEnd.Over) × (self.new ≡ self.old) }
+        ensures over { self.old.is_over ≡ true
+            → (result ≡ Err ClientEnd.Over) × (self.new ≡ self.old) }
         ensures asks { self.old.is_over ≡ false → Asks
             (IsCall head.now arguments.now) (HearsReturnOf want)
             (link_of S.half K.half self.old) (link_of S.half K.half self.new) result }

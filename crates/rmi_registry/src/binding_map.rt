@@ -31,7 +31,8 @@ pub fn find(bound: &BindingMap, units: &[u16]) -> Option<ObjId>
 pub fn replace(bound: &mut BindingMap, units: &[u16], object: ObjId) -> Option<ObjId>
     ensures was { result ≡ object_of (bindings_of bound.old.entries) units.now }
     ensures bindings { bindings_of bound.new.entries
-        ≡ (if is_some result then with_binding (bindings_of bound.old.entries) units.now object else bindings_of bound.old.entries) }
+        ≡ (if is_some result then with_binding (bindings_of bound.old.entries) units.now object else
+        bindings_of bound.old.entries) }
 {
     let slot = bound.get_mut(units)?;
     Some(mem::replace(slot, object))
@@ -45,7 +46,9 @@ pub fn append(
     object: ObjId,
 ) -> Result<(), AllocError>
     requires { object_of (bindings_of bound.old.entries) units.now ≡ None }
-    ensures ok { OnOk result (bindings_of bound.new.entries ≡ bindings_of bound.old.entries ++ record { name = units.now; object = object } ∷ []) }
+    ensures ok { OnOk result
+        (bindings_of bound.new.entries
+        ≡ bindings_of bound.old.entries ++ record { name = units.now; object = object } ∷ []) }
     ensures err { OnErr result (bindings_of bound.new.entries ≡ bindings_of bound.old.entries) }
 {
     let key = Vec::from_slice(alloc, units)?;
@@ -57,7 +60,8 @@ pub fn append(
 pub fn remove(bound: &mut BindingMap, units: &[u16]) -> Option<ObjId>
     requires { AllOnce same_bytes (names_in (bindings_of bound.old.entries)) }
     ensures was { result ≡ object_of (bindings_of bound.old.entries) units.now }
-    ensures bindings { bindings_of bound.new.entries ≡ without_name (bindings_of bound.old.entries) units.now }
+    ensures bindings { bindings_of bound.new.entries
+        ≡ without_name (bindings_of bound.old.entries) units.now }
 {
     bound.shift_remove(units)
 }
@@ -92,7 +96,8 @@ pub fn names(alloc: Global, bound: &BindingMap) -> Result<NameList, AllocError>
 
 /// The bindings, in order.
 pub fn bindings(alloc: Global, bound: &BindingMap) -> Result<BindingList, AllocError>
-    requires { AllByRecursion (λ n. length n ≤ MAX_NAME_UNITS) (names_in (bindings_of bound.now.entries)) }
+    requires { AllByRecursion (λ n. length n ≤ MAX_NAME_UNITS)
+        (names_in (bindings_of bound.now.entries)) }
     ensures { IfOk result (λ bindings. bindings ≡ bindings_of bound.now.entries) }
 {
     let mut bindings = BindingList::new(alloc);

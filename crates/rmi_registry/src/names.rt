@@ -82,10 +82,13 @@ impl Names {
     /// Binds a name that stands for nothing. AlreadyBound comes exactly where it stands for an object; else Full(Names) exactly
     /// where 4,096 names are bound. After a refusal all is as it was.
     pub fn bind(&mut self, name: Name, object: ObjId) -> Result<(), NameFault>
-        ensures ok { OnOk result (self.new ≡ self.old ++ record { name = name; object = object } ∷ []) }
+        ensures ok { OnOk result
+            (self.new ≡ self.old ++ record { name = name; object = object } ∷ []) }
         ensures already { (result ≡ Err NameFault.AlreadyBound) ↔ IsTrue (is_bound self.old name) }
-        ensures full { (result ≡ Err (NameFault.Full FullNames)) ↔ ((is_bound self.old name ≡ false) × (MAX_NAMES ≤ length self.old)) }
-        ensures faults { IfErr result (λ fault. (fault ≡ NameFault.AlreadyBound) ⊎ ((fault ≡ NameFault.Full FullNames) ⊎ (fault ≡ NameFault.OutOfMemory))) }
+        ensures full { (result ≡ Err (NameFault.Full FullNames))
+            ↔ ((is_bound self.old name ≡ false) × (MAX_NAMES ≤ length self.old)) }
+        ensures faults { IfErr result (λ fault. (fault ≡ NameFault.AlreadyBound)
+            ⊎ ((fault ≡ NameFault.Full FullNames) ⊎ (fault ≡ NameFault.OutOfMemory))) }
         ensures err { OnErr result (self.new ≡ self.old) }
     {
         if self.is_bound(&name) {
@@ -100,8 +103,10 @@ impl Names {
     pub fn rebind(&mut self, name: Name, object: ObjId) -> Result<Option<ObjId>, NameFault>
         ensures stood { IfOk result (λ stood. stood ≡ object_of self.old name) }
         ensures ok { OnOk result (self.new ≡ with_binding self.old name object) }
-        ensures full { (result ≡ Err (NameFault.Full FullNames)) ↔ ((is_bound self.old name ≡ false) × (MAX_NAMES ≤ length self.old)) }
-        ensures faults { IfErr result (λ fault. (fault ≡ NameFault.Full FullNames) ⊎ (fault ≡ NameFault.OutOfMemory)) }
+        ensures full { (result ≡ Err (NameFault.Full FullNames))
+            ↔ ((is_bound self.old name ≡ false) × (MAX_NAMES ≤ length self.old)) }
+        ensures faults { IfErr result
+            (λ fault. (fault ≡ NameFault.Full FullNames) ⊎ (fault ≡ NameFault.OutOfMemory)) }
         ensures memory { IsTrue (is_bound self.old name) → IsOk result }
         ensures err { OnErr result (self.new ≡ self.old) }
     {
@@ -177,7 +182,9 @@ impl Names {
     /// Binds a name that is there to another object, and answers the one that stood there; nothing changes where it is not there.
     fn replace(&mut self, name: &Name, object: ObjId) -> Option<ObjId>
         ensures stood { result ≡ object_of self.old name.now }
-        ensures bindings { self.new ≡ (if is_bound self.old name.now then with_binding self.old name.now object else self.old) }
+        ensures bindings { self.new
+            ≡ (if is_bound self.old name.now then with_binding self.old name.now object else
+            self.old) }
     {
         binding_map::replace(&mut self.bound, name.units().as_slice(), object)
     }
@@ -185,9 +192,11 @@ impl Names {
     /// Binds a name that is not there, where there is room.
     fn add(&mut self, name: &Name, object: ObjId) -> Result<(), NameFault>
         requires { is_bound self.old name.now ≡ false }
-        ensures ok { OnOk result (self.new ≡ self.old ++ record { name = name.now; object = object } ∷ []) }
+        ensures ok { OnOk result
+            (self.new ≡ self.old ++ record { name = name.now; object = object } ∷ []) }
         ensures full { (result ≡ Err (NameFault.Full FullNames)) ↔ (MAX_NAMES ≤ length self.old) }
-        ensures faults { IfErr result (λ fault. (fault ≡ NameFault.Full FullNames) ⊎ (fault ≡ NameFault.OutOfMemory)) }
+        ensures faults { IfErr result
+            (λ fault. (fault ≡ NameFault.Full FullNames) ⊎ (fault ≡ NameFault.OutOfMemory)) }
         ensures err { OnErr result (self.new ≡ self.old) }
     {
         if self.is_full() {

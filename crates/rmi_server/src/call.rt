@@ -144,8 +144,8 @@ impl Call<'_> {
 
     /// The `String` at a place. WrongArgument comes exactly where there is none, as where it is null.
     pub fn string(&self, place: usize) -> Result<Units, CallFault>
-        ensures { ReadsAt (text_at self.now.invocation.now.arguments.graph.nodes)
-            wanted_kinds.Text place (slot_at self.now.invocation.now.arguments.values place) result }
+        ensures { ReadsAt (text_at self.now.invocation.now.arguments.graph.nodes) wanted_kinds.Text
+            place (slot_at self.now.invocation.now.arguments.values place) result }
     {
         let Some(slot) = self.slot(place) else {
             return Err(wrong(place, Wanted::Text));
@@ -159,7 +159,8 @@ impl Call<'_> {
     /// The reference to a remote object at a place. WrongArgument comes exactly where there is none, as where it is null.
     pub fn reference(&self, place: usize) -> Result<LiveRef, CallFault>
         ensures { ReadsAt (live_ref_at self.now.invocation.now.arguments.graph.nodes)
-            wanted_kinds.Reference place (slot_at self.now.invocation.now.arguments.values place) result }
+            wanted_kinds.Reference place (slot_at self.now.invocation.now.arguments.values place)
+            result }
     {
         let Some(slot) = self.slot(place) else {
             return Err(wrong(place, Wanted::Reference));

@@ -109,7 +109,8 @@ impl<'t, R: Wait + Sync, S: Service + Send> Crew for ServiceCrew<'t, R, S> {
 /// A hand tells its connection's number, how many calls it was given, and which outcomes each may have. Each outcome is that of an answer that the
 /// service gave to the call. Other hands use the service between two of its calls, so it tells neither what the service keeps nor its calls one by one.
 impl<'t, R: Wait + Sync, S: Service> Worker for ServiceHand<'t, R, S> {
-    ghost shown = { λ hand. record { calls = hand.calls; seen = None; state = None; number = hand.by } };
+    ghost shown = { λ hand.
+        record { calls = hand.calls; seen = None; state = None; number = hand.by } };
 
     ghost may = { May S.may_answer };
 

@@ -13,7 +13,8 @@ pub trait Service: Drop {
     ghost use Rattle.rmi_server.specs.declared.reply.Reply.{Reply};
 
     /// The answers that the service may give to a call of a method. They are all answers, unless an author says which.
-    ghost may_answer: { Invocation → Method → Result Reply CallFault → Type 0 } = { λ _ _ _. Unit {0} };
+    ghost may_answer: { Invocation → Method → Result Reply CallFault → Type 0 } = { λ _ _ _.
+        Unit {0} };
 
     /// Does a call of a method, and returns its result, or the fault that the client gets as an exception.
     fn call(&mut self, call: &Call<'_>) -> Result<Reply, CallFault>

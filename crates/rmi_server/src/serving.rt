@@ -186,7 +186,8 @@ pub fn serve<'t, R: Threads + Wait + Sync, L: Listener, S: Service + Send>(
     service: S,
     site: &Site<'_>,
 ) -> Result<Report<L::In, L::Out, L::Ticks, ServiceHand<'t, R, S>>, ServeFault>
-    ensures served { IfOk result (IsServedBy S.may_answer L.In.half L.Out.half L.Ticks.given site.now
+    ensures served { IfOk result
+        (IsServedBy S.may_answer L.In.half L.Out.half L.Ticks.given site.now
         (L.listening listener.old).accepted (L.listening listener.new).accepted) }
     ensures sound { OnOk result (IsSound site.now) }
     ensures causes { IfErr result (RefusesSite site.now) }

@@ -57,7 +57,8 @@ impl<'t, R: Wait + Sync> Crew for SampleCrew<'t, R> {
 }
 
 impl<'t, R: Wait + Sync> Worker for SampleHand<'t, R> {
-    ghost shown = { λ hand. record { calls = hand.calls; seen = None; state = None; number = hand.by } };
+    ghost shown = { λ hand.
+        record { calls = hand.calls; seen = None; state = None; number = hand.by } };
 
     ghost may = { May };
 

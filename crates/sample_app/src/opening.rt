@@ -53,8 +53,10 @@ fn furnish(alloc: Global, space: &mut Space, config: &SpaceConfig) -> Result<(),
 
 /// Opens an object of a kind, which is kept for good. It is refused only for want of memory, where no limit is met.
 fn open(space: &mut Space, kind: u32) -> Result<(), Refused>
-    requires free { refusal (limits space.old.configuration) space.old.configuration (places space.old.configuration space.old.events) (open_event kind) ≡ None }
-    ensures ok { OnOk result (space.new ≡ space_of space.old.configuration (space.old.events ++ open_event kind ∷ [])) }
+    requires free { refusal (limits space.old.configuration) space.old.configuration
+        (places space.old.configuration space.old.events) (open_event kind) ≡ None }
+    ensures ok { OnOk result
+        (space.new ≡ space_of space.old.configuration (space.old.events ++ open_event kind ∷ [])) }
     ensures err { IfErr result (λ refused. refused ≡ OutOfMemory) }
 {
     let ask = Ask::Open { kind, pinned: true };
@@ -107,8 +109,13 @@ fn bind(
     number: i64,
 ) -> Result<(), Refused>
     requires short { length name.now ≤ MAX_NAME_UNITS }
-    requires free { refusal (limits space.old.configuration) space.old.configuration (places space.old.configuration space.old.events) (bind_event config.now name.now number) ≡ None }
-    ensures ok { OnOk result (space.new ≡ space_of space.old.configuration (space.old.events ++ bind_event config.now name.now number ∷ [])) }
+    requires free { refusal (limits space.old.configuration) space.old.configuration
+        (places space.old.configuration space.old.events) (bind_event config.now name.now number)
+        ≡ None }
+    ensures ok { OnOk result
+        (space.new
+        ≡ space_of space.old.configuration
+        (space.old.events ++ bind_event config.now name.now number ∷ [])) }
     ensures err { IfErr result (λ refused. refused ≡ OutOfMemory) }
 {
     let ask = bind_request(alloc, config, name, number)?;

@@ -99,7 +99,8 @@ impl SampleWorker {
 
     /// Adds a number to an object's own, and gives the sum; or the fault where that is past the ends of its type.
     fn add(&mut self, object: ObjId, number: i64) -> Outcome
-        ensures adds { ((result ≡ OutOfMemory) × (self.new.counters ≡ self.old.counters)) ⊎ Adds self.old.counters object number result self.new.counters }
+        ensures adds { ((result ≡ OutOfMemory) × (self.new.counters ≡ self.old.counters))
+            ⊎ Adds self.old.counters object number result self.new.counters }
         ensures fault { result ≡ overflow → number ≢ pos 0 }
         ensures calls { self.new.calls ≡ self.old.calls }
     {
@@ -132,7 +133,8 @@ fn graph_of(call: Invocation) -> Graph
 }
 
 impl Worker for SampleWorker {
-    ghost shown = { λ w. record { calls = w.calls; seen = None; state = Some w.counters; number = 0 } };
+    ghost shown = { λ w.
+        record { calls = w.calls; seen = None; state = Some w.counters; number = 0 } };
 
     ghost may = { May };
 

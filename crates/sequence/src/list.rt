@@ -226,7 +226,8 @@ impl<'a, T> IntoIterator for &'a Sequence<T> {
 
     type IntoIter = slice::Iter<'a, T>;
 
-    ghost into_iter_gives = { λ list rest. (iter_rest rest ≡ list.now) × (length (iter_rest rest) < 2 ^ 64)
+    ghost into_iter_gives = { λ list rest. (iter_rest rest ≡ list.now)
+        × (length (iter_rest rest) < 2 ^ 64)
         × EveryRun (iter_steps {A = T}) (λ p. ItemsMapTo p (λ x. x.now) (iter_rest p.from)) };
 
     fn into_iter(self) -> slice::Iter<'a, T> {
@@ -241,8 +242,10 @@ impl<T: Drop> IntoIterator for Sequence<T> {
 
     type IntoIter = vec::IntoIter<T>;
 
-    ghost into_iter_gives = { λ list rest. (into_iter_items rest ≡ list) × (into_iter_len rest ≡ length list) × (into_iter_len rest < 2 ^ 64)
-        × EveryRun (into_iter_steps {X = T} {Z = Global}) (λ p. ItemsAre p (into_iter_items p.from)) };
+    ghost into_iter_gives = { λ list rest. (into_iter_items rest ≡ list)
+        × (into_iter_len rest ≡ length list) × (into_iter_len rest < 2 ^ 64)
+        × EveryRun (into_iter_steps {X = T} {Z = Global})
+        (λ p. ItemsAre p (into_iter_items p.from)) };
 
     fn into_iter(self) -> vec::IntoIter<T> {
         self.items.into_iter()

@@ -1,10 +1,10 @@
 -- Blocks and references one after the other, up to the end of an annotation.
-use Rattle.std.proofs.Common.{◌≡◌, ℕ, if◌then◌else◌, ◌^◌, suc, ◌+◌, Bool, true, false, ◌&&◌, nat_eq, List, [], ◌∷◌, ◌++◌, length, Result, Ok, Err, refl, sym, ap, ◌∙◌, append_assoc, length-append, arith}
+use Rattle.std.proofs.Common.{◌≡◌, ℕ, if◌then◌else◌, ◌^◌, suc, ◌+◌, ◌-◌, nat_lt, Bool, true, false, ◌&&◌, nat_eq, List, [], ◌∷◌, ◌++◌, length, Result, Ok, Err, refl, sym, ap, ◌∙◌, append_assoc, length-append, arith}
 use Rattle.class_desc.specs.declared.slot.Slot.{Slot}
 use Rattle.class_desc.specs.declared.slot.Item.{Item}
 use Rattle.class_desc.specs.declared.slot.Item.TheVariants as items
 use Rattle.wire_io.specs.Pulled.{PullState, Takes}
-use Rattle.stream_grammar.specs.Reading.{◌>>=◌, Fault, short, Progress, Plain, Step, take_at, size_at, byte_at, blocks_at, items_at}
+use Rattle.stream_grammar.specs.Reading.{◌>>=◌, Fault, short, too_many, Progress, add_parts, counting, Plain, Step, take_at, size_at, byte_at, blocks_at, items_at}
 use Rattle.stream_grammar.specs.Spelled.{joined}
 use Rattle.std.proofs.lemmas.List.{append-nil}
 use Rattle.std.specs.Int.{w32}
@@ -95,8 +95,12 @@ block_item now r = r >>= λ p. Ok (items.Bytes p.0, now, p.1)
 abbrev sized_item : Progress → Plain ℕ → OneItem
 sized_item now r = r >>= λ n. block_item now (take_at n.0 n.1)
 
-abbrev ref_item : Result (Slot × Progress × List ℕ) Fault → OneItem
-ref_item r = r >>= λ s. Ok (items.Ref s.0, s.1, s.2)
+abbrev ref_item : ℕ → Result (Slot × Progress × List ℕ) Fault → OneItem
+ref_item at r = r >>= λ s. counting 1 at s.1 (λ next. Ok (items.Ref s.0, next, s.2))
+
+-- a reference, where it has room as a part
+abbrev counted_item : ℕ → Slot × Progress × List ℕ → Bool → OneItem
+counted_item at s many = if many then Err (too_many at) else Ok (items.Ref s.0, add_parts 1 s.1, s.2)
 
 abbrev cons : Item → Items → Items
 cons i r = r >>= λ x. Ok (i ∷ x.0, x.1, x.2)
@@ -107,25 +111,29 @@ block_more more now r = r >>= λ p. cons (items.Bytes p.0) (more now p.1)
 abbrev sized_more : (Progress → List ℕ → Items) → Progress → Plain ℕ → Items
 sized_more more now r = r >>= λ n. block_more more now (take_at n.0 n.1)
 
-abbrev ref_more : (Progress → List ℕ → Items) → Result (Slot × Progress × List ℕ) Fault → Items
-ref_more more r = r >>= λ s. cons (items.Ref s.0) (more s.1 s.2)
+abbrev counted_more : ℕ → (Progress → List ℕ → Items) → Slot × Progress × List ℕ → Bool → Items
+counted_more at more s many = if many then Err (too_many at) else cons (items.Ref s.0) (more (add_parts 1 s.1) s.2)
 
-item_is : (end : ℕ) (ref : Step Slot) (c : ℕ) (now : Progress) (bs : List ℕ) → item_at end ref c now bs ≡ (if nat_eq c 0x77 then sized_item now (byte_at bs) else (if nat_eq c 0x7A then sized_item now (size_at end w32 (2 ^ 31) bs) else ref_item (ref now bs)))
+abbrev ref_more : ℕ → (Progress → List ℕ → Items) → Result (Slot × Progress × List ℕ) Fault → Items
+ref_more at more r = r >>= λ s. counting 1 at s.1 (λ next. cons (items.Ref s.0) (more next s.2))
+
+item_is : (end at : ℕ) (ref : Step Slot) (c : ℕ) (now : Progress) (bs : List ℕ) → item_at end at ref c now bs ≡ (if nat_eq c 0x77 then sized_item now (byte_at bs) else (if nat_eq c 0x7A then sized_item now (size_at end w32 (2 ^ 31) bs) else ref_item at (ref now bs)))
 unfolding item_at
-item_is end ref c now bs = refl
+item_is end at ref c now bs = refl
 
 blocks_is : (end : ℕ) (inner : Step Slot) (within : Bool) (most c : ℕ) (now : Progress) (bs : List ℕ) → (within && nat_eq c 0x78) ≡ false → blocks_at end inner within (suc most) now (c ∷ bs)
-    ≡ (if nat_eq c 0x77 then sized_more (blocks_at end inner within most) now (byte_at bs) else (if nat_eq c 0x7A then sized_more (blocks_at end inner within most) now (size_at end w32 (2 ^ 31) bs) else ref_more (blocks_at end inner within most) (inner now (c ∷ bs))))
+    ≡ (if nat_eq c 0x77 then sized_more (blocks_at end inner within most) now (byte_at bs) else (if nat_eq c 0x7A then sized_more (blocks_at end inner within most) now (size_at end w32 (2 ^ 31) bs) else ref_more (end - suc (length bs)) (blocks_at end inner within most) (inner now (c ∷ bs))))
 unfolding blocks_at
 blocks_is end inner within most c now bs other = rw other refl
 
 -- one item more, behind its code
-pub block_step : (end : ℕ) (inner : Step Slot) (within : Bool) (most c : ℕ) (is : List Item) (now : Progress) (bs : List ℕ) (ref : Step Slot) (i : Item) (later : Progress) (rest : List ℕ)
-    → (within && nat_eq c 0x78) ≡ false → inner now (c ∷ bs) ≡ ref now bs → item_at end ref c now bs ≡ Ok (i, later, rest)
+pub block_step : (end at : ℕ) (inner : Step Slot) (within : Bool) (most c : ℕ) (is : List Item) (now : Progress) (bs : List ℕ) (ref : Step Slot) (i : Item) (later : Progress) (rest : List ℕ)
+    → end - suc (length bs) ≡ at → (within && nat_eq c 0x78) ≡ false → inner now (c ∷ bs) ≡ ref now bs → item_at end at ref c now bs ≡ Ok (i, later, rest)
     → after_all is (blocks_at end inner within (suc most) now (c ∷ bs)) ≡ after_all (added is i) (blocks_at end inner within most later rest)
-block_step end inner within most c is now bs ref i later rest other same h =
-    ap (after_all is) (blocks_is end inner within most c now bs other ∙ ap (λ (r : Result (Slot × Progress × List ℕ) Fault). if nat_eq c 0x77 then sized_more more now (byte_at bs) else (if nat_eq c 0x7A then sized_more more now (size_at end w32 (2 ^ 31) bs) else ref_more more r)) same)
-    ∙ go (nat_eq c 0x77) (nat_eq c 0x7A) (sym (item_is end ref c now bs) ∙ h)
+block_step end at inner within most c is now bs ref i later rest place other same h =
+    ap (after_all is) (blocks_is end inner within most c now bs other ∙ ap (λ (r : Result (Slot × Progress × List ℕ) Fault). if nat_eq c 0x77 then sized_more more now (byte_at bs) else (if nat_eq c 0x7A then sized_more more now (size_at end w32 (2 ^ 31) bs) else ref_more (end - suc (length bs)) more r)) same)
+    ∙ ap (λ k. after_all is (if nat_eq c 0x77 then sized_more more now (byte_at bs) else (if nat_eq c 0x7A then sized_more more now (size_at end w32 (2 ^ 31) bs) else ref_more k more (ref now bs)))) place
+    ∙ go (nat_eq c 0x77) (nat_eq c 0x7A) (sym (item_is end at ref c now bs) ∙ h)
   where
     more : Progress → List ℕ → Items
     more = blocks_at end inner within most
@@ -138,12 +146,16 @@ block_step end inner within most c is now bs ref i later rest other same h =
     two (Ok n) e = block (take_at n.0 n.1) e
     two (Err f) e = absurd cc
 
-    one : (r : Result (Slot × Progress × List ℕ) Fault) → ref_item r ≡ Ok (i, later, rest) → after_all is (ref_more more r) ≡ after_all (added is i) (more later rest)
-    one (Ok s) e = regroup is (items.Ref s.0) (more s.1 s.2) ∙ ends_as is end inner within most _ _ _ _ _ _ e
+    counted : (s : Slot × Progress × List ℕ) (b : Bool) → counted_item at s b ≡ Ok (i, later, rest) → after_all is (counted_more at more s b) ≡ after_all (added is i) (more later rest)
+    counted s true e = absurd cc
+    counted s false e = regroup is (items.Ref s.0) (more (add_parts 1 s.1) s.2) ∙ ends_as is end inner within most _ _ _ _ _ _ e
+
+    one : (r : Result (Slot × Progress × List ℕ) Fault) → ref_item at r ≡ Ok (i, later, rest) → after_all is (ref_more at more r) ≡ after_all (added is i) (more later rest)
+    one (Ok s) e = counted s (nat_lt 1048576 (s.1.parts + 1)) e
     one (Err f) e = absurd cc
 
-    go : (a b : Bool) → (if a then sized_item now (byte_at bs) else (if b then sized_item now (size_at end w32 (2 ^ 31) bs) else ref_item (ref now bs))) ≡ Ok (i, later, rest)
-        → after_all is (if a then sized_more more now (byte_at bs) else (if b then sized_more more now (size_at end w32 (2 ^ 31) bs) else ref_more more (ref now bs))) ≡ after_all (added is i) (more later rest)
+    go : (a b : Bool) → (if a then sized_item now (byte_at bs) else (if b then sized_item now (size_at end w32 (2 ^ 31) bs) else ref_item at (ref now bs))) ≡ Ok (i, later, rest)
+        → after_all is (if a then sized_more more now (byte_at bs) else (if b then sized_more more now (size_at end w32 (2 ^ 31) bs) else ref_more at more (ref now bs))) ≡ after_all (added is i) (more later rest)
     go true b e = two (byte_at bs) e
     go false true e = two (size_at end w32 (2 ^ 31) bs) e
     go false false e = one (ref now bs) e
@@ -153,11 +165,12 @@ block_step end inner within most c is now bs ref i later rest other same h =
 err_as : {X Y : Type 0} (g f : Fault) (r : Result X Fault) → r ≡ Err g → r ≡ Err f → fault_in {Y = Y} g ≡ fault_in f
 err_as {X} {Y} g f r a b = let s : g ≡ f = cc in ap (λ (x : Fault). fault_in {Y = Y} x) s
 
-pub item_err : (end : ℕ) (inner : Step Slot) (within : Bool) (most c : ℕ) (is : List Item) (now : Progress) (bs : List ℕ) (ref : Step Slot) (f : Fault)
-    → (within && nat_eq c 0x78) ≡ false → inner now (c ∷ bs) ≡ ref now bs → item_at end ref c now bs ≡ Err f → after_all is (blocks_at end inner within (suc most) now (c ∷ bs)) ≡ Err f
-item_err end inner within most c is now bs ref f other same h =
-    ap (after_all is) (blocks_is end inner within most c now bs other ∙ ap (λ (r : Result (Slot × Progress × List ℕ) Fault). if nat_eq c 0x77 then sized_more more now (byte_at bs) else (if nat_eq c 0x7A then sized_more more now (size_at end w32 (2 ^ 31) bs) else ref_more more r)) same)
-    ∙ go (nat_eq c 0x77) (nat_eq c 0x7A) (sym (item_is end ref c now bs) ∙ h)
+pub item_err : (end at : ℕ) (inner : Step Slot) (within : Bool) (most c : ℕ) (is : List Item) (now : Progress) (bs : List ℕ) (ref : Step Slot) (f : Fault)
+    → end - suc (length bs) ≡ at → (within && nat_eq c 0x78) ≡ false → inner now (c ∷ bs) ≡ ref now bs → item_at end at ref c now bs ≡ Err f → after_all is (blocks_at end inner within (suc most) now (c ∷ bs)) ≡ Err f
+item_err end at inner within most c is now bs ref f place other same h =
+    ap (after_all is) (blocks_is end inner within most c now bs other ∙ ap (λ (r : Result (Slot × Progress × List ℕ) Fault). if nat_eq c 0x77 then sized_more more now (byte_at bs) else (if nat_eq c 0x7A then sized_more more now (size_at end w32 (2 ^ 31) bs) else ref_more (end - suc (length bs)) more r)) same)
+    ∙ ap (λ k. after_all is (if nat_eq c 0x77 then sized_more more now (byte_at bs) else (if nat_eq c 0x7A then sized_more more now (size_at end w32 (2 ^ 31) bs) else ref_more k more (ref now bs)))) place
+    ∙ go (nat_eq c 0x77) (nat_eq c 0x7A) (sym (item_is end at ref c now bs) ∙ h)
   where
     more : Progress → List ℕ → Items
     more = blocks_at end inner within most
@@ -170,12 +183,16 @@ item_err end inner within most c is now bs ref f other same h =
     two (Ok n) e = block (take_at n.0 n.1) e
     two (Err g) e = err_as g f (sized_item now (Err g)) refl e
 
-    one : (r : Result (Slot × Progress × List ℕ) Fault) → ref_item r ≡ Err f → after_all is (ref_more more r) ≡ Err f
-    one (Ok s) e = absurd cc
-    one (Err g) e = err_as g f (ref_item (Err g)) refl e
+    counted : (s : Slot × Progress × List ℕ) (b : Bool) → counted_item at s b ≡ Err f → after_all is (counted_more at more s b) ≡ Err f
+    counted s true e = err_as (too_many at) f (counted_item at s true) refl e
+    counted s false e = absurd cc
 
-    go : (a b : Bool) → (if a then sized_item now (byte_at bs) else (if b then sized_item now (size_at end w32 (2 ^ 31) bs) else ref_item (ref now bs))) ≡ Err f
-        → after_all is (if a then sized_more more now (byte_at bs) else (if b then sized_more more now (size_at end w32 (2 ^ 31) bs) else ref_more more (ref now bs))) ≡ Err f
+    one : (r : Result (Slot × Progress × List ℕ) Fault) → ref_item at r ≡ Err f → after_all is (ref_more at more r) ≡ Err f
+    one (Ok s) e = counted s (nat_lt 1048576 (s.1.parts + 1)) e
+    one (Err g) e = err_as g f (ref_item at (Err g)) refl e
+
+    go : (a b : Bool) → (if a then sized_item now (byte_at bs) else (if b then sized_item now (size_at end w32 (2 ^ 31) bs) else ref_item at (ref now bs))) ≡ Err f
+        → after_all is (if a then sized_more more now (byte_at bs) else (if b then sized_more more now (size_at end w32 (2 ^ 31) bs) else ref_more at more (ref now bs))) ≡ Err f
     go true b e = two (byte_at bs) e
     go false true e = two (size_at end w32 (2 ^ 31) bs) e
     go false false e = one (ref now bs) e
@@ -236,7 +253,7 @@ byte_goes {p} {q} {m} {inner} {within} {first} {now} {is} {c} s a = goes_two (sl
 })
 
 pub slack_next : {p q m r : PullState} {inner : ℕ → Step Slot} {within : Bool} (ref : ℕ → Step Slot) {first now later : Progress} {is : List Item} {c : ℕ} {i : Item}
-    → Slack p q inner within first now is → Reads short q m (λ end. byte_at) (λ rest. (c, rest)) → Reads short m r (λ end. item_at end (ref end) c now) (λ rest. (i, later, rest))
+    → Slack p q inner within first now is → Reads short q m (λ end. byte_at) (λ rest. (c, rest)) → Reads short m r (λ end. item_at end q.at (ref end) c now) (λ rest. (i, later, rest))
     → (within && nat_eq c 0x78) ≡ false → ((end : ℕ) (bs : List ℕ) → end ≡ q.at + suc (length bs) → inner end now (c ∷ bs) ≡ ref end now bs) → Slack p r inner within first later (added is i)
 unfolding byte_leads slack_leads leads_read
 slack_next {p} {q} {m} {r} {inner} {within} ref {first} {now} {later} {is} {c} {i} s a b other same =
@@ -249,7 +266,7 @@ slack_next {p} {q} {m} {r} {inner} {within} ref {first} {now} {later} {is} {c} {
       spare = s.spare + length b.taken;
       least = least_two (slack_leads s) (a.taken ++ b.taken) (least_two (byte_leads inner within s.spare now is c a) b.taken (λ front next others e.
           let here : m.at + length front ≡ q.at + suc (length front) = omega (arith, len, a.takes.at) in
-          until_err within _ short (item_err (m.at + length front) (inner (m.at + length front)) within (s.spare + suc (length front)) c is now front (ref (m.at + length front)) short other (same (m.at + length front) front here) (b.least front next others e))));
+          until_err within _ short (item_err (m.at + length front) q.at (inner (m.at + length front)) within (s.spare + suc (length front)) c is now front (ref (m.at + length front)) short (omega arith) other (same (m.at + length front) front here) (b.least front next others e))));
       reads = λ rest.
           let end = r.at + length rest in
           let whole : (s.taken ++ (a.taken ++ b.taken)) ++ rest ≡ s.taken ++ (c ∷ (b.taken ++ rest)) =
@@ -259,11 +276,11 @@ slack_next {p} {q} {m} {r} {inner} {within} ref {first} {now} {later} {is} {c} {
           let first_is = rw (← ends) at (s.reads (c ∷ (b.taken ++ rest))) in
           let mid : r.at + length rest ≡ m.at + length (b.taken ++ rest) = omega (arith, b.takes.at, length-append b.taken rest) in
           let most : s.spare + length (c ∷ (b.taken ++ rest)) ≡ suc (s.spare + length b.taken + length rest) = omega (arith, length-append b.taken rest) in
-          rw whole (first_is ∙ block_step end (inner end) within (s.spare + length (c ∷ (b.taken ++ rest))) c is now (b.taken ++ rest) (ref end) i later rest other (same end (b.taken ++ rest) here) (b.is rest) ∙ ap (λ n. after_all (added is i) (blocks_at end (inner end) within n later rest)) most);
+          rw whole (first_is ∙ block_step end q.at (inner end) within (s.spare + length (c ∷ (b.taken ++ rest))) c is now (b.taken ++ rest) (ref end) i later rest (omega arith) other (same end (b.taken ++ rest) here) (b.is rest) ∙ ap (λ n. after_all (added is i) (blocks_at end (inner end) within n later rest)) most);
     }
 
 pub slack_more : {p q m r : PullState} {inner : ℕ → Step Slot} (ref : ℕ → Step Slot) {first now later : Progress} {is : List Item} {c : ℕ} {i : Item}
-    → Slack p q inner true first now is → Reads short q m (λ end. byte_at) (λ rest. (c, rest)) → Reads short m r (λ end. item_at end (ref end) c now) (λ rest. (i, later, rest))
+    → Slack p q inner true first now is → Reads short q m (λ end. byte_at) (λ rest. (c, rest)) → Reads short m r (λ end. item_at end q.at (ref end) c now) (λ rest. (i, later, rest))
     → nat_eq c 0x78 ≡ false → ((end : ℕ) (bs : List ℕ) → end ≡ q.at + suc (length bs) → inner end now (c ∷ bs) ≡ ref end now bs) → Slack p r inner true first later (added is i)
 slack_more ref s a b other same = slack_next {within = true} ref s a b other same
 

@@ -1,5 +1,5 @@
 -- Objects by the types of their fields alone, and constructs by their classes.
-use Rattle.std.proofs.Common.{◌≡◌, ℕ, ◌+◌, if◌then◌else◌, Bool, true, false, nat_lt, List, [], ◌∷◌, length, Option, None, Some, Result, Ok, Err, slice_get, refl, ap, ◌∙◌}
+use Rattle.std.proofs.Common.{◌≡◌, ℕ, suc, arith, ◌+◌, if◌then◌else◌, Bool, true, false, nat_lt, List, [], ◌∷◌, length, Option, None, Some, Result, Ok, Err, slice_get, refl, ap, ◌∙◌}
 use Rattle.std.proofs.lemmas.List.{length-map}
 use Rattle.class_desc.specs.declared.slot.Slot.{Slot}
 use Rattle.class_desc.specs.declared.slot.Slot.TheVariants as slots
@@ -8,11 +8,11 @@ use Rattle.class_desc.specs.declared.field.FieldDesc.{FieldDesc}
 use Rattle.ser_values.specs.declared.value.Value.{Value}
 use Rattle.ser_values.specs.declared.value.Part.{Part}
 use Rattle.ser_values.specs.declared.node.SlotPlace.TheVariants as places
-use Rattle.stream_grammar.specs.Reading.{◌>>=◌, Fault, FaultKind, bad, too_many, Progress, Step, Slots, Row, part, unless, value_at, values_at, note_at, parts_at, chain_of, rows_of, class_fault, object_after, object_at, with_class, on_class}
+use Rattle.stream_grammar.specs.Reading.{◌>>=◌, Fault, FaultKind, bad, too_many, Progress, Step, Slots, Row, part, unless, value_at, values_at, note_at, parts_at, chain_of, rows_of, sizes_of, class_fault, object_after, object_at, with_class, on_class}
 use Rattle.ser_read.specs.declared.row.ClassRow.{ClassRow}
 use Rattle.ser_read.specs.Codes.{codes_of}
 use Rattle.ser_read.specs.Lists.{all_at}
-use Rattle.ser_read.specs.ObjectRows.{class_rows, values_by, part_by, parts_by, object_by}
+use Rattle.ser_read.specs.ObjectRows.{class_rows, values_by, part_by, parts_by, sizes_by, object_by}
 use Rattle.ser_read.specs.Named.{only_class, class_named}
 
 values_same : (inner : Step Slot) (fs : List FieldDesc) (now : Progress) (bs : List ℕ) → values_by inner (codes_of fs) now bs ≡ values_at inner fs now bs
@@ -43,19 +43,24 @@ parts_same end inner (r ∷ rs) now bs = rw (values_same inner r.0 now bs) (go (
     go same (Err e) = refl
     go same (Ok vs) = inside same vs.0 (note_at end inner r.1 vs.1 vs.2)
 
+sizes_same : (rs : List Row) → sizes_by (class_rows rs) ≡ sizes_of rs
+unfolding sizes_by sizes_of
+sizes_same [] = refl
+sizes_same (r ∷ rs) = let k : length (codes_of r.0) ≡ length r.0 = simp length-map refl in let h = sizes_same rs in omega arith
+
 object_same : (end : ℕ) (inner : Step Slot) (class : ℕ) (rs : List Row) (now : Progress) (bs : List ℕ) → object_after end inner class rs now bs ≡ object_by end inner class (class_rows rs) now bs
 unfolding object_after object_by
 object_same end inner class rs now bs =
-    let k : length (class_rows rs) ≡ length rs = simp length-map refl in
+    let k = sizes_same rs in
     rw (k, parts_same end inner rs) refl
 
 -- an object, by the rows and the fault of its class
 pub object_is : (end at : ℕ) (inner : Step Slot) (class : ℕ) (rows : List ClassRow) (now : Progress) (bs : List ℕ)
     → rows ≡ class_rows (rows_of (slice_get now.nodes class) (chain_of 1048576 now.nodes (slots.Node class)).0)
-    → object_at end at inner class now bs ≡ (if nat_lt 1048576 (now.parts + length rows) then Err (too_many at) else unless (class_fault (slice_get now.nodes class) (chain_of 1048576 now.nodes (slots.Node class)).1) at (object_by end inner class rows now bs))
+    → object_at end at inner class now bs ≡ (if nat_lt 1048576 (now.parts + sizes_by rows) then Err (too_many at) else unless (class_fault (slice_get now.nodes class) (chain_of 1048576 now.nodes (slots.Node class)).1) at (object_by end inner class rows now bs))
 unfolding object_at
 object_is end at inner class rows now bs h =
-    let k : length rows ≡ length (rows_of (slice_get now.nodes class) (chain_of 1048576 now.nodes (slots.Node class)).0) = ap (λ (r : List ClassRow). length r) h ∙ simp length-map refl in
+    let k : sizes_by rows ≡ sizes_of (rows_of (slice_get now.nodes class) (chain_of 1048576 now.nodes (slots.Node class)).0) = ap sizes_by h ∙ sizes_same _ in
     rw (k, h, ← object_same end inner class) refl
 
 abbrev Read : Type 0
@@ -64,7 +69,7 @@ Read = Result (Slot × Progress × List ℕ) Fault
 -- where the parts have room and the class has objects
 pub object_here : (end at : ℕ) (inner : Step Slot) (class : ℕ) (rows : List ClassRow) (now : Progress) (bs : List ℕ)
     → rows ≡ class_rows (rows_of (slice_get now.nodes class) (chain_of 1048576 now.nodes (slots.Node class)).0)
-    → nat_lt 1048576 (now.parts + length rows) ≡ false
+    → nat_lt 1048576 (now.parts + sizes_by rows) ≡ false
     → class_fault (slice_get now.nodes class) (chain_of 1048576 now.nodes (slots.Node class)).1 ≡ None
     → object_at end at inner class now bs ≡ object_by end inner class rows now bs
 object_here end at inner class rows now bs h few good =
@@ -76,7 +81,7 @@ object_here end at inner class rows now bs h few good =
 -- where the class has no objects
 pub object_bad : (end at : ℕ) (inner : Step Slot) (class : ℕ) (rows : List ClassRow) (now : Progress) (bs : List ℕ) (kind : FaultKind)
     → rows ≡ class_rows (rows_of (slice_get now.nodes class) (chain_of 1048576 now.nodes (slots.Node class)).0)
-    → nat_lt 1048576 (now.parts + length rows) ≡ false
+    → nat_lt 1048576 (now.parts + sizes_by rows) ≡ false
     → class_fault (slice_get now.nodes class) (chain_of 1048576 now.nodes (slots.Node class)).1 ≡ Some kind
     → object_at end at inner class now bs ≡ Err (bad kind at)
 object_bad end at inner class rows now bs kind h few wrong =

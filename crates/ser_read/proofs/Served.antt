@@ -1,5 +1,5 @@
 -- What was read by wants that were served is a graph.
-use Rattle.std.proofs.Common.{◌≡◌, ℕ, zero, suc, ◌+◌, ◌-◌, ◌<◌, ◌≤◌, ◌^◌, eqb, List, [], ◌∷◌, ◌++◌, length, Result, Ok, Err, refl, sym, ap, subst, ◌∙◌, append-nil, arith, inl, inr}
+use Rattle.std.proofs.Common.{◌≡◌, ℕ, zero, suc, ◌+◌, ◌-◌, ◌<◌, ◌≤◌, ◌^◌, eqb, ltb, List, [], ◌∷◌, ◌++◌, length, Result, Ok, Err, refl, sym, ap, subst, ◌∙◌, append-nil, length-append, arith, inl, inr}
 use Rattle.wire_io.specs.Pulled.{PullState}
 use Rattle.class_desc.specs.declared.slot.Slot.{Slot}
 use Rattle.class_desc.specs.declared.slot.Item.{Item}
@@ -7,17 +7,18 @@ use Rattle.class_desc.specs.declared.slot.Item.TheVariants as items
 use Rattle.ser_values.specs.declared.node.SlotPlace.TheVariants as places
 use Rattle.ser_values.specs.Node as node
 use Rattle.ser_values.specs.Node.{has, item_wants}
-use Rattle.ser_values.specs.Shape.{is_joined, parts_in}
+use Rattle.ser_values.specs.Shape.{is_joined, refs_in, parts_in}
 use Rattle.ser_values.specs.Numbered.{NumberAll, Numbered, IsGraph}
 use Rattle.stream_grammar.specs.Spelled.{joined, Spells}
-use Rattle.stream_grammar.specs.Reading.{short, byte_at, Fault, Progress, slot_at, coded}
+use Rattle.stream_grammar.specs.Reading.{◌>>=◌, short, too_many, byte_at, Fault, Progress, add_parts, counting, slot_at, coded}
 use Rattle.std.specs.Prelude.{All}
+use Rattle.std.proofs.lemmas.Bool.{ltb-false}
 use Rattle.std.proofs.lemmas.List.Elements.{All-nil, All-cons, All-push}
 use Rattle.ser_values.specs.Ranges.{ItemFits, ItemsFit, InRange}
 use Rattle.ser_values.proofs.Ranged.{numbers_of, units_of}
 use Rattle.stream_grammar.proofs.Spelling.{joined_fit, spells_numbered, joined_joined}
 use Rattle.stream_grammar.proofs.PlainSound as plain
-use Rattle.stream_grammar.proofs.Solid.{Solid, Got, got_none, got_map, got_two}
+use Rattle.stream_grammar.proofs.Solid.{Solid, GotBy, got_none, got_map, got_sum, got_add}
 use Rattle.stream_grammar.proofs.Sound.{slots_sound}
 use Rattle.ser_read.specs.declared.block.Head.{Head}
 use Rattle.ser_read.specs.declared.block.Head.TheVariants.{Block, Code}
@@ -63,7 +64,7 @@ pub record RefSound (now : Progress) (bs : List ℕ) (y : Slot × Progress × Li
   pub count : ℕ
   pub mid : List ℕ
   pub empties : Empties count bs mid
-  pub got : Got [] now y.1 y.2 (λ F. Spells F 200 [] (places.Reference, y.0) (length now.nodes) mid y.2 (length y.1.nodes))
+  pub got : GotBy 1 [] now y.1 y.2 (λ F. Spells F 200 [] (places.Reference, y.0) (length now.nodes) mid y.2 (length y.1.nodes))
 
 pub reference_sound : (end : ℕ) (now : Progress) (bs : List ℕ) (y : Slot × Progress × List ℕ) → reference_at end now bs ≡ Ok y → Solid [] now → plain.AreBytes bs → RefSound now bs y
 unfolding reference_at
@@ -77,13 +78,22 @@ reference_sound end now bs y e solid bytes =
         let f = found end (suc (length bs)) bs (Code code at, rest) is bytes in
         let whole : plain.AreBytes (code ∷ rest) = subst plain.AreBytes f.is.0 f.whole in
         let here : at ≡ end - length (code ∷ rest) = f.is.3 ∙ ap (λ (l : List ℕ). end - length l) f.is.0 in
-        let read : slot_at end 200 places.Reference [] now (code ∷ rest) ≡ Ok y =
-        slot_is end 200 places.Reference [] now (code ∷ rest) ∙ ap (λ at. coded end 200 (slot_at end 199) places.Reference [] at code now rest) (sym here) ∙ lifted_is (coded end 200 (slot_at end 199) places.Reference [] at code now rest) y e in
-        let s = slots_sound end 200 [] places.Reference now (code ∷ rest) y read solid whole in
-        record { count = f.count; mid = code ∷ rest; empties = subst (λ (l : List ℕ). Empties f.count bs l) f.is.0 f.empties; got = s.got }
+        let c = plain.bind_ok (coded end 200 (slot_at end 199) places.Reference [] at code now rest) (λ s. counting 1 at s.1 (λ next. Ok (s.0, next, s.2))) y (lifted_is (coded end 200 (slot_at end 199) places.Reference [] at code now rest >>= λ s. counting 1 at s.1 (λ next. Ok (s.0, next, s.2))) y e) in
+        let s = c.0 in
+        let k = plain.guarded (ltb 1048576 (s.1.parts + 1)) (too_many at) (Ok (s.0, add_parts 1 s.1, s.2)) y c.2 in
+        let room : s.1.parts + 1 ≤ 1048576 = ltb-false 1048576 (s.1.parts + 1) k.0 in
+        let read : slot_at end 200 places.Reference [] now (code ∷ rest) ≡ Ok s =
+        slot_is end 200 places.Reference [] now (code ∷ rest) ∙ ap (λ at. coded end 200 (slot_at end 199) places.Reference [] at code now rest) (sym here) ∙ c.1 in
+        let g = slots_sound end 200 [] places.Reference now (code ∷ rest) s read solid whole in
+        subst (λ (y : Slot × Progress × List ℕ). RefSound now bs y) (plain.ok_is (s.0, add_parts 1 s.1, s.2) y k.1) (record {
+          count = f.count;
+          mid = code ∷ rest;
+          empties = subst (λ (l : List ℕ). Empties f.count bs l) f.is.0 f.empties;
+          got = got_sum 1 (omega arith) [] now s.1 (add_parts 1 s.1) s.2 s.2 (λ F. Spells F 200 [] (places.Reference, s.0) (length now.nodes) (code ∷ rest) s.2 (length s.1.nodes)) (λ F. Unit {0}) (λ F. Spells F 200 [] (places.Reference, s.0) (length now.nodes) (code ∷ rest) s.2 (length s.1.nodes)) g.got (got_add [] s.1 1 s.2 g.got.solid room g.got.left) (λ F sees p q. p);
+        })
 
 abbrev pub GotRef : Progress → Slot × Progress × List ℕ → Type 0
-GotRef now y = Got [] now y.1 y.2 (λ F. Numbered F 200 [] (places.Reference, y.0) (length now.nodes) (length y.1.nodes))
+GotRef now y = GotBy 1 [] now y.1 y.2 (λ F. Numbered F 200 [] (places.Reference, y.0) (length now.nodes) (length y.1.nodes))
 
 reference_got : (end : ℕ) (now : Progress) (bs : List ℕ) (y : Slot × Progress × List ℕ) → reference_at end now bs ≡ Ok y → Solid [] now → plain.AreBytes bs → GotRef now y
 reference_got end now bs y e solid bytes =
@@ -121,7 +131,7 @@ record SoFar (s : Stand) : Type 0 where
   raw : List Item
   same : s.items ≡ joined raw
   fit : ItemsFit raw
-  got : Got [] start s.progress [] (λ F. NumberAll (Numbered F 200 []) (item_wants s.items) 0 (length s.progress.nodes))
+  got : GotBy (refs_in s.items) [] start s.progress [] (λ F. NumberAll (Numbered F 200 []) (item_wants s.items) 0 (length s.progress.nodes))
 
 at_start : SoFar nothing_read
 unfolding has item_wants
@@ -168,7 +178,8 @@ bytes_so_far end n before after bs x rest e bytes h =
       raw = h.raw ++ items.Bytes y.0 ∷ [];
       same = ap (λ (l : List Item). add_bytes l y.0) h.same ∙ added_is h.raw (items.Bytes y.0);
       fit = All-push ItemFits h.raw (items.Bytes y.0) h.fit (run_fits end n before.block bs y a.1 bytes);
-      got = got_map [] start before.progress [] _ _ h.got (λ F sees g. subst (λ ws. NumberAll (Numbered F 200 []) ws 0 (length before.progress.nodes)) (sym (bytes_wants before.items y.0)) g);
+      got = subst (λ k. GotBy k [] start before.progress [] (λ F. NumberAll (Numbered F 200 []) (item_wants (add_bytes before.items y.0)) 0 (length before.progress.nodes))) (sym (ap (λ (l : List node.Want). length l) (bytes_wants before.items y.0)))
+          (got_map [] start before.progress [] _ _ h.got (λ F sees g. subst (λ ws. NumberAll (Numbered F 200 []) ws 0 (length before.progress.nodes)) (sym (bytes_wants before.items y.0)) g));
     } in
     subst SoFar (ap (λ (t : List ℕ × Stand × List ℕ). t.1) same) mine
 
@@ -187,8 +198,8 @@ slot_so_far end before after bs slot e bytes h = elim (plain.chosen (eqb before.
         raw = h.raw ++ items.Ref y.0 ∷ [];
         same = ap (λ (l : List Item). l ++ items.Ref y.0 ∷ []) h.same ∙ added_is h.raw (items.Ref y.0);
         fit = All-push ItemFits h.raw (items.Ref y.0) h.fit tt;
-        got = subst (λ (r : List ℕ). Got [] start y.1 r (λ F. NumberAll (Numbered F 200 []) (item_wants (before.items ++ items.Ref y.0 ∷ [])) 0 (length y.1.nodes))) none
-            (got_two [] start before.progress y.1 [] y.2 _ _ _ h.got g (λ F sees a b. subst (λ ws. NumberAll (Numbered F 200 []) ws 0 (length y.1.nodes)) (sym (ref_wants before.items y.0)) (number_last (Numbered F 200 []) (item_wants before.items) (places.Reference, y.0) 0 (length before.progress.nodes) (length y.1.nodes) a b)));
+        got = subst (λ (r : List ℕ). GotBy (refs_in (before.items ++ items.Ref y.0 ∷ [])) [] start y.1 r (λ F. NumberAll (Numbered F 200 []) (item_wants (before.items ++ items.Ref y.0 ∷ [])) 0 (length y.1.nodes))) none
+            (got_sum (refs_in (before.items ++ items.Ref y.0 ∷ [])) (ap (λ (l : List node.Want). length l) (ref_wants before.items y.0) ∙ length-append (item_wants before.items) ((places.Reference, y.0) ∷ [])) [] start before.progress y.1 [] y.2 _ _ _ h.got g (λ F sees a b. subst (λ ws. NumberAll (Numbered F 200 []) ws 0 (length y.1.nodes)) (sym (ref_wants before.items y.0)) (number_last (Numbered F 200 []) (item_wants before.items) (places.Reference, y.0) 0 (length before.progress.nodes) (length y.1.nodes) a b)));
       } in
       subst SoFar (ap (λ (t : Slot × Stand × List ℕ). t.1) same) mine)
 ]

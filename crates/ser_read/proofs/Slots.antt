@@ -85,13 +85,13 @@ elements_any codes.Boolean n a b now bs h = refl
 elements_any codes.Array n a b now bs h = absurd cc
 elements_any codes.Object n a b now bs h = absurd cc
 
-pub item_block : (end : ℕ) (ref : Step Slot) (code : ℕ) (now : Progress) (bs : List ℕ) → code ≡ 0x77 → item_at end ref code now bs ≡ (byte_at bs >>= λ n. take_at n.0 n.1 >>= λ p. Ok (items.Bytes p.0, now, p.1))
+pub item_block : (end at : ℕ) (ref : Step Slot) (code : ℕ) (now : Progress) (bs : List ℕ) → code ≡ 0x77 → item_at end at ref code now bs ≡ (byte_at bs >>= λ n. take_at n.0 n.1 >>= λ p. Ok (items.Bytes p.0, now, p.1))
 unfolding item_at
-item_block end ref code now bs h = rw h refl
+item_block end at ref code now bs h = rw h refl
 
-pub item_long : (end : ℕ) (ref : Step Slot) (code : ℕ) (now : Progress) (bs : List ℕ) → code ≡ 0x7A → item_at end ref code now bs ≡ (size_at end w32 (2 ^ 31) bs >>= λ n. take_at n.0 n.1 >>= λ p. Ok (items.Bytes p.0, now, p.1))
+pub item_long : (end at : ℕ) (ref : Step Slot) (code : ℕ) (now : Progress) (bs : List ℕ) → code ≡ 0x7A → item_at end at ref code now bs ≡ (size_at end w32 (2 ^ 31) bs >>= λ n. take_at n.0 n.1 >>= λ p. Ok (items.Bytes p.0, now, p.1))
 unfolding item_at
-item_long end ref code now bs h = rw h refl
+item_long end at ref code now bs h = rw h refl
 
 -- the branch that is taken
 pub when : {Y : Type 0} {p q : PullState} {b : Bool} {x : ℕ → List ℕ → Result Y Fault} (y : ℕ → List ℕ → Result Y Fault) {out : List ℕ → Y} → b ≡ true → Reads short p q x out → Reads short p q (λ end bs. if b then x end bs else y end bs) out

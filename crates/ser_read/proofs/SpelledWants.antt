@@ -6,15 +6,15 @@ use Rattle.class_desc.specs.declared.slot.Slot.{Slot}
 use Rattle.class_desc.specs.declared.slot.Item.{Item}
 use Rattle.class_desc.specs.declared.slot.Item.TheVariants as items
 use Rattle.ser_values.specs.declared.node.Node.{Node}
-use Rattle.ser_values.specs.Node.{has}
-use Rattle.ser_values.specs.Shape.{parts_in}
+use Rattle.ser_values.specs.Node.{has, item_wants}
+use Rattle.ser_values.specs.Shape.{refs_in, parts_in}
 use Rattle.stream_grammar.specs.Spelled.{joined, One, IsBlock, Spells, SpellsBlocks}
 use Rattle.stream_grammar.specs.Reading.{Progress, byte_at}
 use Rattle.std.proofs.lemmas.List.Elements.{All-nil}
 use Rattle.ser_values.specs.Ranges.{InRange}
 use Rattle.ser_values.proofs.Ranged.{numbers_of, units_of}
 use Rattle.stream_grammar.proofs.PlainSound.{AreBytes, chosen, byte_sound}
-use Rattle.stream_grammar.proofs.Solid.{Solid, Got, got_none, got_map, got_two}
+use Rattle.stream_grammar.proofs.Solid.{Solid, GotBy, got_none, got_map, got_sum}
 use Rattle.ser_read.specs.declared.block.Head.{Head}
 use Rattle.ser_read.specs.declared.block.Head.TheVariants.{Block, Code}
 use Rattle.ser_read.specs.Heads.{head_at}
@@ -170,13 +170,13 @@ pub record Spelt (s s2 : Stand) (bs rest : List ℕ) (answers : List Item) : Typ
   blocks : List Item
   full : EndsFull blocks
   same : bytes_of left ++ flat blocks ≡ flat answers
-  got : Got [] s.progress s2.progress rest (λ F. SpellsBlocks (Spells F 200 []) blocks (length s.progress.nodes) mid rest (length s2.progress.nodes))
+  got : GotBy (refs_in answers) [] s.progress s2.progress rest (λ F. SpellsBlocks (Spells F 200 []) blocks (length s.progress.nodes) mid rest (length s2.progress.nodes))
 
 abbrev pub ServeOk : Type 0
 ServeOk = List Item × Stand × List ℕ
 
 pub serve_sound : (end : ℕ) (ws : List Want) (s : Stand) (bs : List ℕ) (y : ServeOk) → serve end ws s bs ≡ Ok y → y.1.block ≡ 0 → Solid [] s.progress → AreBytes bs → Spelt s y.1 bs y.2 y.0
-unfolding serve want_at bytes_at slot_next
+unfolding serve want_at bytes_at slot_next item_wants
 serve_sound end [] s bs y e closed solid bytes =
     let same : ([], s, bs) ≡ y = given_is ([], s, bs) y e in
     let none : s.block ≡ 0 = ap (λ (x : ServeOk). x.1.block) same ∙ closed in
@@ -231,7 +231,7 @@ serve_sound end (wanted.Slot ∷ ws) s bs y e closed solid bytes =
             blocks = empties ref.count (items.Ref r.0.0 ∷ h.blocks);
             full = full_empties ref.count (items.Ref r.0.0) h.blocks (full_before (items.Ref r.0.0) h.blocks tt h.full);
             same = flat_empties ref.count (items.Ref r.0.0 ∷ h.blocks) ∙ ap (λ (l : List Piece). a_slot r.0.0 ∷ l) same;
-            got = got_two [] s.progress r.0.1 b.0.1.progress r.0.2 b.0.2 _ _ _ ref.got h.got (λ F sees f g.
+            got = got_sum (refs_in (items.Ref r.0.0 ∷ b.0.0)) (omega arith) [] s.progress r.0.1 b.0.1.progress r.0.2 b.0.2 _ _ _ ref.got h.got (λ F sees f g.
                 spells_empties (Spells F 200 []) ref.count bs ref.mid (items.Ref r.0.0 ∷ h.blocks) (length s.progress.nodes) b.0.2 (length b.0.1.progress.nodes) ref.empties
                 (r.0.2, length r.0.1.nodes, f, subst (λ (l : List ℕ). SpellsBlocks (Spells F 200 []) h.blocks (length r.0.1.nodes) l b.0.2 (length b.0.1.progress.nodes)) (sym mid) g));
           } in

@@ -5,7 +5,7 @@ use Rattle.std.proofs.lemmas.List.{length-take-le}
 use Rattle.std.specs.Int.{Width}
 use Rattle.mod_utf.specs.Decoding.{decoded_units}
 use Rattle.wire_io.specs.Pulled.{PullState}
-use Rattle.stream_grammar.specs.Reading.{◌>>=◌, value_at, elements_at, items_at, blocks_at, Fault, short, bad, negative_length, Progress, Step, map_step, byte_at, take_at, number_at, size_at, units_at, units_of, many_at}
+use Rattle.stream_grammar.specs.Reading.{◌>>=◌, value_at, elements_at, items_at, blocks_at, Fault, short, bad, negative_length, Progress, counting, Step, map_step, byte_at, take_at, number_at, size_at, units_at, units_of, many_at}
 use Rattle.ser_read.specs.declared.fault.StreamFault.{StreamFault}
 use Rattle.ser_read.specs.declared.fault.StreamFault.TheVariants as faults
 use Rattle.ser_read.specs.declared.fault.StreamKind.TheVariants as kinds
@@ -93,20 +93,20 @@ behind_code {q} {m} {c} end bs a here =
 
 pub slack_stops : {p q m r : PullState} {e : StreamFault} {inner : ℕ → Step Slot} {within : Bool} (ref : ℕ → Step Slot) {before now : Progress} {is : List Item} {c : ℕ}
     → Slack p q inner within before now is → Reads short q m (λ end. byte_at) (λ rest. (c, rest)) → (within && nat_eq c 0x78) ≡ false → ((end : ℕ) (bs : List ℕ) → end ≡ q.at + suc (length bs) → inner end now (c ∷ bs) ≡ ref end now bs)
-    → Breaks m r e (λ end. item_at end (ref end) c now) → Breaks p r e (λ end bs. until within (items_at end (inner end) within before bs))
+    → Breaks m r e (λ end. item_at end q.at (ref end) c now) → Breaks p r e (λ end bs. until within (items_at end (inner end) within before bs))
 slack_stops {p} {q} {m} {r} {e} {inner} {within} ref {before} {now} {is} {c} s a other same h =
-    loop_stops (slack_byte s a) (λ end bs f here err. until_err within _ f (item_err end (inner end) within (s.spare + suc (length bs)) c is now bs (ref end) f other (same end bs (behind_code end bs a here)) err)) h
+    loop_stops (slack_byte s a) (λ end bs f here err. until_err within _ f (item_err end q.at (inner end) within (s.spare + suc (length bs)) c is now bs (ref end) f (let p = behind_code end bs a here in omega arith) other (same end bs (behind_code end bs a here)) err)) h
 
 -- the same up to the end of the bytes
 pub whole_stops : {p q m r : PullState} {inner : ℕ → Step Slot} (ref : ℕ → Step Slot) {before now : Progress} {is : List Item} {c : ℕ} (e : StreamFault)
     → Slack p q inner false before now is → Reads short q m (λ end. byte_at) (λ rest. (c, rest)) → ((end : ℕ) (bs : List ℕ) → end ≡ q.at + suc (length bs) → inner end now (c ∷ bs) ≡ ref end now bs)
-    → Breaks m r e (λ end. item_at end (ref end) c now) → BreaksWhole p r e (λ end. items_at end (inner end) false before)
+    → Breaks m r e (λ end. item_at end q.at (ref end) c now) → BreaksWhole p r e (λ end. items_at end (inner end) false before)
 whole_stops {p} {q} {m} {r} {inner} ref {before} {now} {is} {c} (faults.Truncated at) s a same h =
     record {
       is = record {
         is = (
           short_two at short (byte_goes s a) (short_as at (λ end bs. after_all is (blocks_at end (inner end) false (suc (s.spare + suc (length bs))) now (c ∷ bs))) short short
-              (λ end bs here err. item_err end (inner end) false (s.spare + suc (length bs)) c is now bs (ref end) short refl (same end bs (behind_code end bs a here)) err) h.is.0),
+              (λ end bs here err. item_err end q.at (inner end) false (s.spare + suc (length bs)) c is now bs (ref end) short (let p = behind_code end bs a here in omega arith) refl (same end bs (behind_code end bs a here)) err) h.is.0),
           h.is.1,
         );
       };
@@ -116,9 +116,9 @@ whole_stops ref (faults.TooLarge what at) s a same h = record { is = slack_stops
 whole_stops ref faults.ReadFault s a same h = record { is = slack_stops {within = false} ref s a refl same h }
 whole_stops ref faults.OutOfMemory s a same h = record { is = slack_stops {within = false} ref s a refl same h }
 
-pub item_other : (end : ℕ) (ref : Step Slot) (code : ℕ) (now : Progress) (bs : List ℕ) → eqb code 0x77 ≡ false → eqb code 0x7A ≡ false → item_at end ref code now bs ≡ (ref now bs >>= λ s. Ok (items.Ref s.0, s.1, s.2))
+pub item_other : (end at : ℕ) (ref : Step Slot) (code : ℕ) (now : Progress) (bs : List ℕ) → eqb code 0x77 ≡ false → eqb code 0x7A ≡ false → item_at end at ref code now bs ≡ (ref now bs >>= λ s. counting 1 at s.1 (λ next. Ok (items.Ref s.0, next, s.2)))
 unfolding item_at
-item_other end ref code now bs a b = rw (a, b) refl
+item_other end at ref code now bs a b = rw (a, b) refl
 
 -- ---- values and elements that are references
 

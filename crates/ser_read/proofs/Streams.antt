@@ -93,9 +93,10 @@ graph_at end bytes x are e = let s = stream_at_got end bytes x are e in stream_g
 pub stream_at_complete : (end : ℕ) (nodes : List Node) (items : List Item) (bytes : List ℕ) → IsStream nodes items bytes → stream_at end bytes ≡ Ok (nodes, items)
 unfolding stream_at has parts_in
 stream_at_complete end F is bytes h =
-    let given : Given F = record { few = stream_few F is bytes h; parts = h.few_parts; numbers = h.numbers; units = h.units } in
-    let ready : Ready F [] nothing_read = record { parts = refl; below = λ k e. absurd cc; known = λ k i lt e is d. absurd (omega arith); texts = λ k i lt is t. absurd (omega arith) } in
+    let limit = h.few_parts in
+    let given : Given F = record { few = stream_few F is bytes h; parts = omega arith; numbers = h.numbers; units = h.units } in
+    let ready : Ready F [] nothing_read = record { few = omega arith; below = λ k e. absurd cc; known = λ k i lt e is d. absurd (omega arith); texts = λ k i lt is t. absurd (omega arith) } in
     let magic : magic_at end (0xAC ∷ 0xED ∷ 0x00 ∷ 0x05 ∷ []) bytes ≡ Ok h.contents = ap (magic_at end (0xAC ∷ 0xED ∷ 0x00 ∷ 0x05 ∷ [])) h.headed ∙ magic_read end h.contents in
-    let r = items_reads F (Spells F 200) (slot_at end 200) (slots_complete F given end 200) (spells_begin F 200) [] (spells_shrink F 200 []) end false is nothing_read h.contents [] [] (length F) h.spelled (refl, refl) ready in
+    let r = items_reads F (Spells F 200) (slot_at end 200) (slots_complete F given end 200) (spells_begin F 200) [] (spells_shrink F 200 []) end false is nothing_read h.contents [] [] (length F) h.spelled (refl, refl) ready (omega arith) in
     let same : F ≡ r.later.nodes = same_list F r.later.nodes (sym r.len) (λ k lt. r.after.agrees k (omega arith) (let e : length r.later.nodes ≡ length F = r.len in omega arith)) in
     rw magic (rw r.is (ap (λ (l : List Node). answer l is) (sym same)))

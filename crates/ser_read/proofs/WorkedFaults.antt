@@ -10,7 +10,7 @@ use Rattle.class_desc.specs.TypeText.{element_of, is_array_text, is_component_te
 use Rattle.class_desc.specs.ClassDesc.{is_good_desc, fit_flags, are_ordered}
 use Rattle.ser_values.specs.declared.node.Node.TheVariants.{Desc}
 use Rattle.ser_values.specs.declared.node.SlotPlace.TheVariants.{Reference}
-use Rattle.stream_grammar.specs.Reading.{Fault, Progress, short, bad, too_many, too_deep, bad_desc, negative_length, stream_of, magic_at, items_at, blocks_at, slot_at, coded, fresh_at, desc_at, desc_after, short_at, units_at, size_at, many_at, field_at, field_of, text_at, with_class, object_at, chain_of, array_at, array_of, enum_at}
+use Rattle.stream_grammar.specs.Reading.{Fault, Progress, short, bad, too_many, too_deep, bad_desc, negative_length, stream_of, magic_at, items_at, blocks_at, slot_at, coded, fresh_at, desc_at, desc_after, short_at, units_at, size_at, many_at, field_at, field_of, text_at, with_class, object_at, chain_of, sizes_of, array_at, array_of, enum_at}
 use Rattle.stream_grammar.proofs.WorkedStreams.{fails, after_head}
 use Rattle.ser_read.specs.declared.fault.StreamFault.TheVariants.{TooLarge}
 use Rattle.ser_read.specs.declared.fault.Large.TheVariants.{Bytes}
@@ -36,7 +36,7 @@ unfolding stream_of magic_at items_at blocks_at slot_at coded fresh_at desc_at s
 a_wrong_type_text = refl
 
 no_class_of_objects : after_head (0x73 ∷ 0x72 ∷ 0x00 ∷ 0x01 ∷ 0x4E ∷ 0x00 ∷ 0x00 ∷ 0x00 ∷ 0x00 ∷ 0x00 ∷ 0x00 ∷ 0x00 ∷ 0x00 ∷ 0x00 ∷ 0x00 ∷ 0x00 ∷ 0x78 ∷ 0x70 ∷ []) ≡ fails (bad bad_desc 4)
-unfolding stream_of magic_at items_at blocks_at slot_at coded fresh_at desc_at short_at units_at decoded_at front desc_after size_at many_at is_good_desc fit_flags are_ordered with_class object_at chain_of element_of is_array_text is_component_text ends_class
+unfolding stream_of magic_at items_at blocks_at slot_at coded fresh_at desc_at short_at units_at decoded_at front desc_after size_at many_at is_good_desc fit_flags are_ordered with_class object_at chain_of sizes_of element_of is_array_text is_component_text ends_class
 no_class_of_objects = refl
 
 no_class_of_arrays : after_head (0x75 ∷ 0x72 ∷ 0x00 ∷ 0x01 ∷ 0x4E ∷ 0x00 ∷ 0x00 ∷ 0x00 ∷ 0x00 ∷ 0x00 ∷ 0x00 ∷ 0x00 ∷ 0x00 ∷ 0x02 ∷ 0x00 ∷ 0x00 ∷ 0x78 ∷ 0x70 ∷ []) ≡ fails (bad bad_desc 4)
@@ -63,7 +63,7 @@ a_node_too_many now full = rw full refl
 
 -- an object of a class without fields, where there are as many parts as there may be
 a_part_too_many : (inner : Progress → List ℕ → Referred) → object_at 0 0 inner 0 (record { nodes = Desc (record { name = 0x4E ∷ []; suid = cast_signed w64 0; flags = 2; fields = []; note = []; parent = slots.Null }) ∷ []; parts = 1048576 }) [] ≡ slot_fails (too_many 0)
-unfolding object_at chain_of
+unfolding object_at chain_of sizes_of
 a_part_too_many inner = refl
 
 abbrev want_fails : {A : Type 0} → WantFault → Result A WantFault

@@ -5,7 +5,7 @@ use Rattle.class_desc.specs.ClassDesc.{is_good_desc}
 use Rattle.class_desc.specs.declared.desc.ClassDesc.{ClassDesc}
 use Rattle.class_desc.specs.declared.slot.Slot.TheVariants as slots
 use Rattle.ser_values.specs.declared.node.SlotPlace.TheVariants as places
-use Rattle.stream_grammar.specs.Reading.{◌>>=◌, bad, bad_desc, Plain, Step, Slots, byte_at, number_at, size_at, many_at, field_at, items_at}
+use Rattle.stream_grammar.specs.Reading.{◌>>=◌, bad, bad_desc, Plain, Step, Slots, byte_at, number_at, size_at, counting, many_at, field_at, items_at}
 use Rattle.ser_read.specs.declared.front.DescFront.{DescFront}
 
 -- the number, the flags, and how many fields there are
@@ -19,8 +19,9 @@ front_at end bs =
 -- what stands behind these
 unfoldable pub desc_behind : ℕ → ℕ → Slots → List ℕ → List ℕ → DescFront → Step ClassDesc
 desc_behind end at inner unread name front now bs =
-    many_at (field_at end at (inner places.Text unread)) front.fields now bs >>= λ fs.
+    counting front.fields at now (λ next.
+    many_at (field_at end at (inner places.Text unread)) front.fields next bs >>= λ fs.
     if is_good_desc (record { name = name; suid = cast_signed w64 front.suid; flags = front.flags; fields = fs.0; note = []; parent = slots.Null }) then
     (items_at end (inner places.Reference unread) true fs.1 fs.2 >>= λ is.
     inner places.Parent unread is.1 is.2 >>= λ p.
-    Ok (record { name = name; suid = cast_signed w64 front.suid; flags = front.flags; fields = fs.0; note = is.0; parent = p.0 }, p.1, p.2)) else Err (bad bad_desc at)
+    Ok (record { name = name; suid = cast_signed w64 front.suid; flags = front.flags; fields = fs.0; note = is.0; parent = p.0 }, p.1, p.2)) else Err (bad bad_desc at))

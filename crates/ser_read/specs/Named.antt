@@ -6,7 +6,7 @@ use Rattle.class_desc.specs.declared.slot.Slot.TheVariants as slots
 use Rattle.class_desc.specs.declared.slot.Item.{Item}
 use Rattle.class_desc.specs.declared.slot.Item.TheVariants as items
 use Rattle.ser_values.specs.declared.node.SlotPlace.TheVariants as places
-use Rattle.stream_grammar.specs.Reading.{◌>>=◌, Fault, bad, bad_code, Progress, Step, Slots, byte_at, take_at, size_at, roomy}
+use Rattle.stream_grammar.specs.Reading.{◌>>=◌, Fault, bad, bad_code, Progress, counting, Step, Slots, byte_at, take_at, size_at, roomy}
 
 -- the class of a construct that begins with it
 abbrev pub only_class : ℕ → Slot × Progress × List ℕ → Result (ℕ × Progress × List ℕ) Fault
@@ -16,12 +16,12 @@ only_class at (slots.Node k, now, bs) = roomy now at (Ok (k, now, bs))
 unfoldable pub class_named : Slots → List ℕ → ℕ → Step ℕ
 class_named inner unread at now bs = inner places.Class unread now bs >>= only_class at
 
--- one block or reference behind its code
-unfoldable pub item_at : ℕ → Step Slot → ℕ → Step Item
-item_at end ref code now bs =
+-- one block or reference behind its code, which stands at this position; a reference is a part
+unfoldable pub item_at : ℕ → ℕ → Step Slot → ℕ → Step Item
+item_at end at ref code now bs =
     if nat_eq code 0x77 then (byte_at bs >>= λ n. take_at n.0 n.1 >>= λ p. Ok (items.Bytes p.0, now, p.1)) else
     (if nat_eq code 0x7A then (size_at end w32 (2 ^ 31) bs >>= λ n. take_at n.0 n.1 >>= λ p. Ok (items.Bytes p.0, now, p.1)) else
-    (ref now bs >>= λ s. Ok (items.Ref s.0, s.1, s.2)))
+    (ref now bs >>= λ s. counting 1 at s.1 (λ next. Ok (items.Ref s.0, next, s.2))))
 
 -- bytes behind items: they join last bytes, and no bytes are no item
 unfoldable pub add_bytes : List Item → List ℕ → List Item

@@ -1,5 +1,5 @@
 -- What is read of an object, by the types of its fields alone.
-use Rattle.std.specs.Prelude.{ℕ, ◌+◌, List, [], ◌∷◌, ◌++◌, length, map, Ok}
+use Rattle.std.specs.Prelude.{ℕ, suc, ◌+◌, List, [], ◌∷◌, ◌++◌, length, map, Ok}
 use Rattle.class_desc.specs.declared.field.TypeCode.{TypeCode}
 use Rattle.class_desc.specs.declared.slot.Slot.{Slot}
 use Rattle.class_desc.specs.declared.slot.Slot.TheVariants as slots
@@ -26,8 +26,13 @@ part_by end inner r now bs = values_by inner r.codes now bs >>= λ vs. note_at e
 unfoldable pub parts_by : ℕ → Step Slot → List ClassRow → Step (List Part)
 parts_by end inner rows = all_at (part_by end inner) rows
 
+-- How many parts an object of these rows has beside those of its notes.
+unfoldable pub sizes_by : List ClassRow → ℕ
+sizes_by [] = 0
+sizes_by (r ∷ rs) = suc (length r.codes + sizes_by rs)
+
 -- an object of a class with these rows
 unfoldable pub object_by : ℕ → Step Slot → ℕ → List ClassRow → Step Slot
 object_by end inner class rows now bs =
-    parts_by end inner rows (record { nodes = now.nodes ++ Object class [] ∷ []; parts = now.parts + length rows }) bs >>= λ ps.
+    parts_by end inner rows (record { nodes = now.nodes ++ Object class [] ∷ []; parts = now.parts + sizes_by rows }) bs >>= λ ps.
     Ok (slots.Node (length now.nodes), fill ps.1 (length now.nodes) (Object class ps.0), ps.2)

@@ -1,5 +1,5 @@
 -- Which bytes spell what a list of wants asks for.
-use Rattle.std.specs.Prelude.{◌≡◌, ◌≤◌, ℕ, List, [], ◌∷◌, length, Result, Ok, Err}
+use Rattle.std.specs.Prelude.{◌≡◌, ◌+◌, ◌≤◌, ℕ, List, [], ◌∷◌, length, Result, Ok, Err}
 use Rattle.wire_io.specs.Pulled.{PullState, Takes}
 use Rattle.class_desc.specs.declared.slot.Item.{Item}
 use Rattle.class_desc.specs.declared.slot.Item.TheVariants as items
@@ -7,7 +7,7 @@ use Rattle.ser_values.specs.declared.node.Node.{Node}
 use Rattle.ser_values.specs.declared.graph.Graph.{Graph}
 use Rattle.ser_values.specs.declared.limits.TheConstants.{LEVELS, PARTS}
 use Rattle.ser_values.specs.Ranges.{NumbersFit, UnitsFit}
-use Rattle.ser_values.specs.Shape.{parts_in}
+use Rattle.ser_values.specs.Shape.{refs_in, parts_in}
 use Rattle.ser_read.specs.declared.fault.StreamFault.{StreamFault}
 use Rattle.stream_grammar.specs.Spelled.{joined, Spells, SpellsBlocks}
 use Rattle.ser_read.specs.Here.{AreBytes, IsOutside}
@@ -33,7 +33,7 @@ EndsFull (i ∷ []) = IsSome i
 EndsFull (i ∷ j ∷ is) = EndsFull (j ∷ is)
 
 -- The bytes spell the answers to these wants, as blocks in whatever partition and references, which give these nodes their handles in order.
--- They end with no empty block. The nodes' numbers are in range, and their objects have not too many parts.
+-- They end with no empty block. The nodes' numbers are in range, and with the answers they have not too many parts.
 pub record SpellsWants (wants : List Want) (answers : List Item) (nodes : List Node) (bytes : List ℕ) : Type 0 where
   pub are_bytes : AreBytes bytes
   pub fits : Fits wants answers
@@ -43,7 +43,7 @@ pub record SpellsWants (wants : List Want) (answers : List Item) (nodes : List N
   pub same : joined answers ≡ joined blocks
   pub numbers : NumbersFit nodes
   pub units : UnitsFit nodes
-  pub few_parts : parts_in nodes ≤ PARTS
+  pub few_parts : parts_in nodes + refs_in answers ≤ PARTS
 
 -- A front of the bytes was taken, which is a stream of what these wants ask for.
 pub record TakesWants (old new : PullState) (wants : List Want) (answers : List Item) (nodes : List Node) (contents : List Item) : Type 0 where

@@ -7,7 +7,7 @@ use Rattle.class_desc.specs.declared.slot.Item.TheVariants as items
 use Rattle.ser_values.specs.declared.node.Node.{Node}
 use Rattle.ser_values.specs.declared.node.SlotPlace.TheVariants as places
 use Rattle.ser_values.specs.declared.limits.TheConstants.{LEVELS}
-use Rattle.stream_grammar.specs.Reading.{Fault, short, bad, bad_code, reset, inner_exception, Progress, byte_at, slot_at, coded, magic_at}
+use Rattle.stream_grammar.specs.Reading.{◌>>=◌, Fault, short, bad, bad_code, reset, inner_exception, Progress, counting, byte_at, slot_at, coded, magic_at}
 use Rattle.wire_io.specs.Pulled.{PullState, pull_state}
 use Rattle.wire_io.specs.declared.pull.Pull.{Pull}
 use Rattle.ser_read.specs.declared.fault.StreamKind.{StreamKind}
@@ -74,9 +74,13 @@ run_at end (suc n) block bs = opened_at end block bs ▸ λ o. lift_fault (byte_
 unfoldable pub bytes_at : ℕ → ℕ → Stand → List ℕ → Result (List ℕ × Stand × List ℕ) WantFault
 bytes_at end n s bs = run_at end n s.block bs ▸ λ r. Ok (r.0, record { progress = s.progress; items = add_bytes s.items r.0; block = r.1 }, r.2)
 
+-- a reference behind its code, which stands at this position; it is a part, and is counted once it was read
+abbrev pub counted_at : ℕ → ℕ → ℕ → Progress → List ℕ → Result (Slot × Progress × List ℕ) Fault
+counted_at end at code now bs = coded end LEVELS (slot_at end (LEVELS - 1)) places.Reference [] at code now bs >>= λ s. counting 1 at s.1 (λ next. Ok (s.0, next, s.2))
+
 abbrev pub only_slot : ℕ → Progress → Head × List ℕ → Result (Slot × Progress × List ℕ) WantFault
 only_slot end now (Block n, bs) = Err (block_left (end - length bs))
-only_slot end now (Code code at, bs) = lift_fault (coded end LEVELS (slot_at end (LEVELS - 1)) places.Reference [] at code now bs)
+only_slot end now (Code code at, bs) = lift_fault (counted_at end at code now bs)
 
 unfoldable pub reference_at : ℕ → Progress → List ℕ → Result (Slot × Progress × List ℕ) WantFault
 reference_at end now bs = lift_fault (head_at end bs) ▸ only_slot end now

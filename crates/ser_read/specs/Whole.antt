@@ -1,5 +1,5 @@
 -- Reading a stream to the end of the input.
-use Rattle.std.specs.Prelude.{◌≡◌, ℕ, ◌-◌, ◌≤◌, false, List, [], ◌∷◌, length, Result, Ok, Err}
+use Rattle.std.specs.Prelude.{◌≡◌, ℕ, ◌+◌, ◌-◌, ◌≤◌, false, List, [], ◌∷◌, length, Result, Ok, Err}
 use Rattle.class_desc.specs.declared.slot.Item.{Item}
 use Rattle.wire_io.specs.Wire.{NothingLeft, Rose}
 use Rattle.wire_io.specs.Pulled.{PullState, Takes, Passes}
@@ -7,7 +7,7 @@ use Rattle.ser_values.specs.declared.graph.Graph.{Graph}
 use Rattle.ser_values.specs.declared.node.Node.{Node}
 use Rattle.ser_values.specs.declared.node.SlotPlace.TheVariants as places
 use Rattle.ser_values.specs.declared.limits.TheConstants.{LEVELS, PARTS}
-use Rattle.ser_values.specs.Shape.{parts_in}
+use Rattle.ser_values.specs.Shape.{refs_in, parts_in}
 use Rattle.stream_grammar.specs.Spelled.{IsStream}
 use Rattle.stream_grammar.specs.Reading.{◌>>=◌, Fault, short, Progress, magic_at, items_at, slot_at}
 use Rattle.stream_grammar.specs.Faults.{FaultStands}
@@ -67,7 +67,7 @@ pub record TakesStream (old new : PullState) (nodes : List Node) (items : List I
   pub nothing : NothingLeft new.left
   pub read : stream_at new.at taken ≡ Ok (nodes, items)
   pub stream : IsStream nodes items taken
-  pub parts : parts_in nodes ≤ PARTS
+  pub parts : parts_in nodes + refs_in items ≤ PARTS
 
 -- a graph of these nodes and items, unless the outside failed
 abbrev pub AnswersGraph : List Node → List Item → Result Graph StreamFault → Type 0

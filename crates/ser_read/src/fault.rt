@@ -40,7 +40,9 @@ pub enum StreamKind {
 pub enum Large {
     /// The message has as many bytes as it may have, and the input goes on.
     Bytes,
-    /// There are 65,536 nodes, or an object's parts would make more than 2^20 in all.
+    /// There are 65,536 nodes, or there would be more than 2^20 parts: fields of descriptions, names of proxies' interfaces, parts of objects and
+    /// their values, elements of arrays of references, and references among the items of annotations and of the stream. A reference that is one
+    /// item too many is answered at its code, once it was read.
     Nodes,
     /// The construct would be 201 levels deep.
     Depth,
@@ -57,8 +59,7 @@ pub enum StreamFault {
     Truncated { at: u64 },
     /// The source failed, and its count of faults rose.
     ReadFault,
-    /// There was no memory. A message gets memory for 2^20 entries of lists, and none for more: values and annotations of objects, items of
-    /// annotations and of the stream, elements of arrays of references, fields of descriptions, and names of proxies' interfaces.
+    /// There was no memory.
     OutOfMemory,
 }
 

@@ -1,16 +1,18 @@
 //! Codes, handles, names and items by themselves.
-ghost use Rattle.std.specs.Prelude.{◌≡◌, ◌≢◌, List, ℕ, length, IfOk, OnOk};
+ghost use Rattle.std.specs.Prelude.{◌≡◌, ◌≢◌, ◌+◌, List, ℕ, true, false, nat_lt, length, IfOk, IfErr, OnOk};
+ghost use Rattle.ser_values.specs.declared.limits.TheConstants.{PARTS};
 ghost use Rattle.class_desc.specs.declared.slot.Slot.TheVariants.{Null};
 ghost use Rattle.ser_values.specs.declared.node.SlotPlace.TheVariants.{Text};
 ghost use Rattle.ser_values.specs.declared.node.Node.TheVariants.{Desc};
-ghost use Rattle.stream_grammar.specs.Reading.{Progress, many_at, plain, short_at, null_at, handle_at, admits_code, code_fault, blank};
+ghost use Rattle.stream_grammar.specs.Reading.{Progress, add_parts, many_at, plain, short_at, null_at, handle_at, admits_code, code_fault, blank};
 ghost use Rattle.ser_read.specs.Named.{add_bytes, added};
 ghost use Rattle.ser_read.specs.Tables.{now_of};
 ghost use Rattle.ser_read.specs.declared.fault.StreamFault.{StreamFault};
-ghost use Rattle.ser_read.specs.declared.fault.StreamFault.TheVariants.{Bad};
+ghost use Rattle.ser_read.specs.declared.fault.StreamFault.TheVariants.{Bad, TooLarge};
+ghost use Rattle.ser_read.specs.declared.fault.Large.TheVariants.{Nodes};
 ghost use Rattle.ser_read.specs.Here.{Caused, Gives, ReadsTaken, StopsTaken, kind_of, IsInBytes};
 
-use crate::fault::{StreamFault, StreamKind};
+use crate::fault::{Large, StreamFault, StreamKind};
 use crate::pulled::{four, short_text};
 use crate::table::Table;
 use class_desc::{ClassDesc, FieldList, Item, Items, Slot};
@@ -107,16 +109,30 @@ pub(crate) fn handle<S: Source>(
     }
 }
 
+/// Counts so many further parts. `TooLarge` of nodes comes at this position where there is no room for them.
+pub(crate) fn count_parts(table: &mut Table, more: usize, at: u64) -> Result<(), StreamFault>
+    ensures ok { OnOk result (now_of table.new ≡ add_parts more (now_of table.old)) }
+    ensures err { IfErr result (λ fault. (fault ≡ TooLarge Nodes at) × (nat_lt PARTS ((now_of table.old).parts + more) ≡ true)) }
+    ensures room { OnOk result (nat_lt PARTS ((now_of table.old).parts + more) ≡ false) }
+    ensures unread { table.new.unread.items ≡ table.old.unread.items }
+    ensures grows { length table.new.nodes.items ≡ length table.old.nodes.items }
+{
+    if table.lacks_parts(more) {
+        return Err(StreamFault::TooLarge {
+            what: Large::Nodes,
+            at,
+        });
+    }
+    table.add_parts(more);
+    Ok(())
+}
+
 /// The names of a proxy's interfaces.
 pub(crate) fn names<S: Source>(
     alloc: Global,
     pull: &mut Pull<'_, S>,
-    table: &mut Table,
     n: u32,
 ) -> Result<NameList, StreamFault>
-    ensures now { now_of table.new ≡ now_of table.old }
-    ensures unread { table.new.unread.items ≡ table.old.unread.items }
-    ensures grows { length table.new.nodes.items ≡ length table.old.nodes.items }
     ensures lent { pull.new.source.ghost_name ≡ pull.old.source.ghost_name }
     ensures reads { (now : Progress) → ReadsTaken S.half pull.old pull.new result (λ end. many_at (plain (short_at end)) n now) (λ x rest. (x, now, rest)) }
     ensures stops { (now : Progress) → StopsTaken S.half pull.old pull.new result (λ end. many_at (plain (short_at end)) n now) }
@@ -124,7 +140,6 @@ pub(crate) fn names<S: Source>(
     let mut names = NameList::new(alloc);
     for _ in 0..n {
         let name = short_text(alloc, pull)?;
-        table.add_entries(1)?;
         names.push(name)?;
     }
     Ok(names)

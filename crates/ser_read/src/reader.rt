@@ -5,14 +5,14 @@ ghost use Rattle.ser_read.specs.declared.fault.StreamFault.{StreamFault};
 ghost use Rattle.ser_read.specs.declared.fault.StreamFault.TheVariants.{Bad};
 ghost use Rattle.ser_read.specs.declared.fault.StreamKind.TheVariants.{BlockLeft};
 ghost use Rattle.ser_read.specs.Here.{env, Caused, GivesTold, ReadsTaken, StopsTaken};
-ghost use Rattle.ser_read.specs.Wants.{WantGivesTold, WantGives, WantStopsTaken, WantReadsTaken, bytes_at, reference_at, slot_next, serve, close_at, nothing_read};
+ghost use Rattle.ser_read.specs.Wants.{WantGivesTold, WantGives, WantStopsTaken, WantReadsTaken, bytes_at, counted_at, reference_at, slot_next, serve, close_at, nothing_read};
 ghost use Rattle.ser_read.specs.Tables.{now_of};
 ghost use Rattle.ser_read.specs.ReaderStand.{stand_of};
 
 use crate::block::{Head, next_head, run, run_into};
 use crate::fault::{StreamFault, StreamKind};
 use crate::header::magic;
-use crate::pieces::{add, bad};
+use crate::pieces::{add, bad, count_parts};
 use crate::reading::construct;
 use crate::serving::{Want, serve_all};
 use crate::table::Table;
@@ -74,6 +74,25 @@ fn bytes_put<S: Source>(
     Ok(())
 }
 
+/// The reference or null behind its code, which is counted as a part once it was read.
+fn counted<S: Source>(
+    alloc: Global,
+    pull: &mut Pull<'_, S>,
+    table: &mut Table,
+    at: u64,
+    code: u8,
+) -> Result<Slot, StreamFault>
+    requires read { table.old.unread.items ≡ [] }
+    ensures lent { pull.new.source.ghost_name ≡ pull.old.source.ghost_name }
+    ensures read { OnOk result (table.new.unread.items ≡ []) }
+    ensures reads { ReadsTaken S.half pull.old pull.new result (λ end. counted_at end at code (now_of table.old)) (λ x rest. (x, now_of table.new, rest)) }
+    ensures stops { StopsTaken S.half pull.old pull.new result (λ end. counted_at end at code (now_of table.old)) }
+{
+    let slot = construct(alloc, pull, table, SlotPlace::Reference, LEVELS, at, code)?;
+    count_parts(table, 1, at)?;
+    Ok(slot)
+}
+
 /// The next reference, once no block data is left.
 #[tactic(auto, unfolding(crate::specs::Wants::reference_at))]
 fn reference<S: Source>(
@@ -89,15 +108,7 @@ fn reference<S: Source>(
 {
     match next_head(pull)? {
         Head::Block(_) => Err(bad(StreamKind::BlockLeft, pull.at)),
-        Head::Code(code, at) => construct(
-            alloc,
-            pull,
-            table,
-            SlotPlace::Reference,
-            LEVELS,
-            at,
-            code,
-        ),
+        Head::Code(code, at) => counted(alloc, pull, table, at, code),
     }
 }
 
@@ -118,7 +129,6 @@ fn slot_in<S: Source>(
         return Err(bad(StreamKind::BlockLeft, pull.at));
     }
     let slot = reference(alloc, pull, &mut stand.table)?;
-    stand.table.add_entries(1)?;
     stand.items.push(Item::Ref(slot))?;
     Ok(slot)
 }

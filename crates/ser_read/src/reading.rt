@@ -123,7 +123,7 @@ fn fresh<S: Source>(
         0x75 => array(alloc, pull, table, at, left),
         0x76 => class_value(alloc, pull, table, at, left),
         0x7C => very_long_text(alloc, pull, table),
-        0x7D => proxy(alloc, pull, table, left),
+        0x7D => proxy(alloc, pull, table, at, left),
         0x7E => constant(alloc, pull, table, at, left),
         _ => Err(bad(StreamKind::BadCode, at)),
     }

@@ -1,7 +1,6 @@
 //! The nodes of a stream that is being read.
 ghost use Rattle.std.specs.Prelude.{◌≡◌, ◌+◌, ◌<◌, ◌≤◌, ◌++◌, ◌∷◌, [], map, not, nat_lt, length, option_map, slice_get, IfOk, IfSome, OnOk, Some, None, List, ℕ, ◌^◌, if◌then◌else◌};
 ghost use Rattle.ser_values.specs.declared.limits.TheConstants.{NODES, PARTS};
-ghost use Rattle.ser_read.specs.declared.table.TheConstants.{ENTRIES};
 ghost use Rattle.ser_values.specs.Loose.{elements_in, elements_at};
 ghost use Rattle.ser_values.specs.Node.{has, is_desc, is_text};
 ghost use Rattle.ser_values.specs.declared.node.Node.TheVariants.{Desc, Object};
@@ -16,11 +15,6 @@ use std::alloc::{AllocError, Global};
 /// 1,000 bytes at hand, and takes longer for larger ones.
 const ROOM: usize = 8;
 
-/// The greatest number of entries that the lists of a message have in all: values and annotations of objects, items of annotations and of the
-/// stream, elements of arrays of references, fields of descriptions, and names of proxies' interfaces. Each can take a byte or two of a message, and
-/// a hundred of memory. Bytes of blocks and elements of primitive types are no entries.
-const ENTRIES: usize = 1_048_576;
-
 /// For how many types of elements there is room when the first one is added.
 const TYPES: usize = 32;
 
@@ -32,16 +26,13 @@ pub(crate) struct Table {
     /// The type of the elements of the array class that each node's text or name says, so that no text is looked through
     /// at each node that names it.
     elements: Vec<Option<TypeCode>>,
-    /// The number of parts that the objects have.
+    /// The number of parts that were counted.
     parts: usize,
-    /// The number of entries that the lists have.
-    entries: usize,
     /// The descriptions that are still being read, the outermost first.
     unread: Vec<u32>,
     ghost known: { elements.items ≡ map elements_in nodes.items },
     ghost few_nodes: { length nodes.items ≤ NODES },
     ghost few_parts: { parts ≤ PARTS },
-    ghost few_entries: { entries ≤ ENTRIES },
 }
 
 /// Returns whether a number is among some, at most 200.
@@ -92,7 +83,7 @@ fn write_object(place: &mut Node, class: u32, parts: PartList)
 
 impl Table {
     ghost use Rattle.ser_values.specs.Shape.{is_enum, fits_type};
-    ghost use Rattle.stream_grammar.specs.Reading.{push, fill, type_in, handle_fault, bad_desc, wrong_handle_kind};
+    ghost use Rattle.stream_grammar.specs.Reading.{push, fill, add_parts, type_in, handle_fault, bad_desc, wrong_handle_kind};
     ghost use Rattle.ser_read.specs.Tables.{now_of};
     ghost use Rattle.ser_read.specs.Here.{kind_of, IsInBytes};
 
@@ -106,7 +97,6 @@ impl Table {
             nodes: Vec::new(alloc),
             elements: Vec::new(alloc),
             parts: 0,
-            entries: 0,
             unread: Vec::new(alloc),
         }
     }
@@ -190,34 +180,20 @@ impl Table {
         let _last = self.unread.pop();
     }
 
-    /// Returns whether there is no room for an object of so many parts.
+    /// Returns whether there is no room for so many further parts.
     pub(crate) fn lacks_parts(&self, more: usize) -> bool
-        requires { more ≤ 2 ^ 62 }
         ensures { result ≡ nat_lt PARTS (self.now.parts + more) }
     {
-        self.parts + more > PARTS
+        more > PARTS - self.parts
     }
 
-    /// Counts an object's parts.
+    /// Counts so many further parts.
     pub(crate) fn add_parts(&mut self, more: usize)
         requires { self.old.parts + more ≤ PARTS }
-        ensures now { now_of self.new ≡ record { nodes = self.old.nodes.items; parts = self.old.parts + more } }
+        ensures now { now_of self.new ≡ add_parts more (now_of self.old) }
         ensures unread { self.new.unread.items ≡ self.old.unread.items }
     {
         self.parts += more;
-    }
-
-    /// Counts so many further entries of lists. A message gets memory for `ENTRIES` of them; for more there is none.
-    pub(crate) fn add_entries(&mut self, more: usize) -> Result<(), AllocError>
-        ensures now { now_of self.new ≡ now_of self.old }
-        ensures unread { self.new.unread.items ≡ self.old.unread.items }
-        ensures grows { length self.new.nodes.items ≡ length self.old.nodes.items }
-    {
-        if more > ENTRIES - self.entries {
-            return Err(AllocError);
-        }
-        self.entries += more;
-        Ok(())
     }
 
     /// The node of a number.

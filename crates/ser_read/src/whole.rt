@@ -64,7 +64,6 @@ fn items_to_end<S: Source>(
             None => return Ok(Items::from_vec(items)),
             Some(code) => {
                 let item = item(alloc, pull, table, at, code, LEVELS)?;
-                table.add_entries(1)?;
                 add(&mut items, item)?;
             }
         }

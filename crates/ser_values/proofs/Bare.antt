@@ -24,7 +24,7 @@ use Rattle.ser_values.specs.Node.{has, is_desc, is_text, admits, takes, Want, it
 use Rattle.ser_values.specs.NoteBytes.{byte_to, item_to, note_to, object_to, with_note_byte}
 use Rattle.ser_values.specs.Numbered.{Numbering, NumberAll, Numbers, a_null, again, fresh, no_numbers, Numbered, IsGraph}
 use Rattle.ser_values.specs.Ranges.{ItemFits, PartFits, InRange}
-use Rattle.ser_values.specs.Shape.{joined_from, fits_node, fits_type, are_typed, fits_part, fits_above, fits_chain, is_external, fits_object, fits_array, is_enum, is_shaped, parts_in}
+use Rattle.ser_values.specs.Shape.{joined_from, fits_node, fits_type, are_typed, fits_part, fits_above, fits_chain, is_external, fits_object, fits_array, is_enum, is_shaped, sizes_in, notes_in, parts_in}
 use Rattle.ser_values.proofs.Lists.{some_same}
 use Rattle.ser_values.proofs.Ranged.{numbers_of, units_of, both_of, all_at, put_kept}
 
@@ -279,13 +279,23 @@ unfolding Numbered
 unbared nodes zero unread w n m h = from nodes zero no_numbers no_numbers (λ u w n m h. h) unread w n m h
 unbared nodes (suc d) unread w n m h = from nodes (suc d) (Numbered (bares nodes) d) (Numbered nodes d) (unbared nodes d) unread w n m h
 
+sizes_same : (ps : List Part) → sizes_in (map bare_part ps) ≡ sizes_in ps
+unfolding sizes_in
+sizes_same [] = refl
+sizes_same (p ∷ ps) = let h = sizes_same ps in omega arith
+
+notes_same : (ps : List Part) → notes_in (map bare_part ps) ≡ notes_in ps
+unfolding notes_in
+notes_same [] = refl
+notes_same (p ∷ ps) = let l : length (item_wants (map bare_item p.note)) ≡ length (item_wants p.note) = ap (λ (l : List Want). length l) (items_want p.note) in let h = notes_same ps in omega arith
+
 parts_same : (nodes : List Node) → parts_in (bares nodes) ≡ parts_in nodes
 unfolding parts_in bare
 parts_same [] = refl
 parts_same (Text t ∷ nodes) = let h = parts_same nodes in omega arith
 parts_same (Desc d ∷ nodes) = let h = parts_same nodes in omega arith
 parts_same (Proxy p ∷ nodes) = let h = parts_same nodes in omega arith
-parts_same (Object c ps ∷ nodes) = let h = parts_same nodes in let l = length-map ps bare_part in omega arith
+parts_same (Object c ps ∷ nodes) = let h = parts_same nodes in let a = sizes_same ps in let b = notes_same ps in omega arith
 parts_same (Array c vs ∷ nodes) = let h = parts_same nodes in omega arith
 parts_same (Class c ∷ nodes) = let h = parts_same nodes in omega arith
 parts_same (Enum c t ∷ nodes) = let h = parts_same nodes in omega arith

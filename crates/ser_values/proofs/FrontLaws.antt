@@ -10,7 +10,7 @@ use Rattle.ser_values.specs.declared.node.Node.{Node}
 use Rattle.ser_values.specs.Node.{Want, item_wants}
 use Rattle.ser_values.specs.Numbered.{NumberAll, Numbered, IsGraph}
 use Rattle.ser_values.specs.Ranges.{ItemFits, ItemsFit}
-use Rattle.ser_values.specs.Shape.{joined_from, is_joined}
+use Rattle.ser_values.specs.Shape.{joined_from, is_joined, parts_in}
 use Rattle.ser_values.specs.Fronts.{put_block, front_len, without_front, HasFront}
 use Rattle.ser_values.proofs.Lists.{some_same}
 use Rattle.ser_values.proofs.Ranged.{block_fits}
@@ -187,7 +187,7 @@ graph_items nodes is js g e j fit = record {
   numbered = subst (λ (ws : List Want). NumberAll (Numbered nodes 200 []) ws 0 (length nodes)) (sym e) g.numbered;
   joined = j;
   few_nodes = g.few_nodes;
-  few_parts = g.few_parts;
+  few_parts = subst (λ (ws : List Want). parts_in nodes + length ws ≤ 1048576) (sym e) g.few_parts;
   numbers = g.numbers;
   units = g.units;
   bytes = fit;

@@ -23,7 +23,7 @@ use Rattle.ser_values.specs.declared.node.Node.{Node}
 use Rattle.ser_values.specs.declared.node.Node.TheVariants.{Text, Desc, Proxy, Object, Array, Class, Enum}
 use Rattle.ser_values.specs.declared.node.SlotPlace.TheVariants as places
 use Rattle.ser_values.specs.Node.{has, Want, item_wants, value_wants, part_wants, field_wants, slot_wants, element_wants, before, after}
-use Rattle.ser_values.specs.Shape.{is_joined, parts_of, parts_in}
+use Rattle.ser_values.specs.Shape.{is_joined, refs_in, sizes_in, notes_in, parts_of, parts_in}
 use Rattle.ser_values.specs.Ranges.{ItemsFit, InRange}
 use Rattle.ser_values.specs.Visits.{VisitAll, Visits}
 use Rattle.ser_values.specs.Walk.{end_of, all, visit_at}
@@ -198,14 +198,38 @@ made_is loose ws d order places h p = map_same (λ j. node_or_by (place_at place
 
 -- ---- parts
 
+refs_by : (f : ℕ → ℕ) (is : List Item) → refs_in (map (item_by f) is) ≡ refs_in is
+refs_by f is = ap (λ (l : List Want). length l) (item_wants-map f is) ∙ map_len (want_by f) (item_wants is)
+
+sizes_by : (f : ℕ → ℕ) (ps : List Part) → sizes_in (map (part_by f) ps) ≡ sizes_in ps
+unfolding sizes_in
+sizes_by f [] = refl
+sizes_by f (p ∷ ps) = let l : length (map (value_by f) p.values) ≡ length p.values = map_len (value_by f) p.values in let h = sizes_by f ps in omega arith
+
+notes_by : (f : ℕ → ℕ) (ps : List Part) → notes_in (map (part_by f) ps) ≡ notes_in ps
+unfolding notes_in
+notes_by f [] = refl
+notes_by f (p ∷ ps) = let l : refs_in (map (item_by f) p.note) ≡ refs_in p.note = refs_by f p.note in let h = notes_by f ps in omega arith
+
+elements_by : (f : ℕ → ℕ) (c : ℕ) (vs : Values) → parts_of (Array (f c) (values_by f vs)) ≡ parts_of (Array c vs)
+elements_by f c (kinds.Refs ss) = rw (map_len (slot_by f) ss) refl
+elements_by f c (kinds.Bytes v) = refl
+elements_by f c (kinds.Chars v) = refl
+elements_by f c (kinds.Doubles v) = refl
+elements_by f c (kinds.Floats v) = refl
+elements_by f c (kinds.Ints v) = refl
+elements_by f c (kinds.Longs v) = refl
+elements_by f c (kinds.Shorts v) = refl
+elements_by f c (kinds.Bools v) = refl
+
 parts_of_by : (f : ℕ → ℕ) (o : Option Node) → parts_of (node_or_by f o) ≡ parts_or o
 unfolding node_by
 parts_of_by f None = refl
 parts_of_by f (Some (Text t)) = refl
-parts_of_by f (Some (Desc d)) = refl
-parts_of_by f (Some (Proxy p)) = refl
-parts_of_by f (Some (Object c ps)) = map_len (part_by f) ps
-parts_of_by f (Some (Array c vs)) = refl
+parts_of_by f (Some (Desc d)) = rw (map_len (field_by f) d.fields) (rw (refs_by f d.note) refl)
+parts_of_by f (Some (Proxy p)) = rw (refs_by f p.note) refl
+parts_of_by f (Some (Object c ps)) = rw (sizes_by f ps) (rw (notes_by f ps) refl)
+parts_of_by f (Some (Array c vs)) = elements_by f c vs
 parts_of_by f (Some (Class c)) = refl
 parts_of_by f (Some (Enum c t)) = refl
 
@@ -235,19 +259,19 @@ no_shape loose items e h = none_deep loose (item_wants items) (length loose) e h
 pub not_joined : (loose : List Node) (items : List Item) → is_joined items ≡ false → ¬ HasShape loose items
 not_joined loose items e h = let j = h.2.joined in let s : true ≡ false = sym j ∙ e in absurd cc
 
-pub is_order : (loose : List Node) (items : List Item) (d : ℕ) (order : List ℕ) → Some order ≡ end_of (all (visit_at loose d []) (item_wants items) []) → is_joined items ≡ true → leb (parts_at loose order) 1048576 ≡ true → IsOrder loose d items order
+pub is_order : (loose : List Node) (items : List Item) (d : ℕ) (order : List ℕ) → Some order ≡ end_of (all (visit_at loose d []) (item_wants items) []) → is_joined items ≡ true → leb (parts_at loose order + refs_in items) 1048576 ≡ true → IsOrder loose d items order
 is_order loose items d order e joined few = record {
   visits = walked loose (item_wants items) d order e;
   joined = joined;
-  few_parts = rw (parts_same loose order) (leb-true (parts_at loose order) 1048576 few);
+  few_parts = rw (parts_same loose order) (leb-true (parts_at loose order + refs_in items) 1048576 few);
 }
 
 -- too many parts
-pub not_few : (loose : List Node) (items : List Item) (d : ℕ) (order : List ℕ) → Some order ≡ end_of (all (visit_at loose d []) (item_wants items) []) → leb (parts_at loose order) 1048576 ≡ false → ¬ HasShape loose items
+pub not_few : (loose : List Node) (items : List Item) (d : ℕ) (order : List ℕ) → Some order ≡ end_of (all (visit_at loose d []) (item_wants items) []) → leb (parts_at loose order + refs_in items) 1048576 ≡ false → ¬ HasShape loose items
 not_few loose items d order e few h =
     let same = one_order loose (item_wants items) d h.0 order h.1 (walked loose (item_wants items) d order e) h.2.visits in
-    let le : parts_at loose order ≤ 1048576 = rw (← parts_same loose order) (rw same h.2.few_parts) in
-    let lt = leb-false (parts_at loose order) 1048576 few in
+    let le : parts_at loose order + refs_in items ≤ 1048576 = rw (← parts_same loose order) (rw same h.2.few_parts) in
+    let lt = leb-false (parts_at loose order + refs_in items) 1048576 few in
     absurd (omega arith)
 
 pub below_order : (loose : List Node) (items : List Item) (d : ℕ) (order : List ℕ) → IsOrder loose d items order → AllBelow order (length loose)
@@ -281,7 +305,7 @@ is_graph loose items nodes to small ranged fit g =
       numbered = subst (λ ws. NumberAll (Numbered nodes 200 []) ws 0 (length nodes)) (sym wants) numbered;
       joined = ap is_joined g.items_are ∙ (is_joined-map (place_in g.order) items ∙ g.is_order.joined);
       few_nodes = omega arith;
-      few_parts = rw g.nodes_are g.is_order.few_parts;
+      few_parts = (let refs : refs_in to ≡ refs_in items = ap refs_in g.items_are ∙ refs_by (place_in g.order) items in rw g.nodes_are (rw refs g.is_order.few_parts));
       numbers = numbers_of nodes kept;
       units = units_of nodes kept;
       bytes = subst (λ (l : List Item). ItemsFit l) (sym g.items_are) (items_kept (place_in g.order) items fit);

@@ -6,7 +6,7 @@ use Rattle.ser_values.specs.declared.fault.BuildFault.{BuildFault}
 use Rattle.ser_values.specs.declared.fault.BuildFault.TheVariants.{OutOfMemory, TooManyNodes, WrongShape, TooDeep}
 use Rattle.ser_values.specs.declared.limits.TheConstants.{LEVELS, PARTS}
 use Rattle.ser_values.specs.Node.{item_wants}
-use Rattle.ser_values.specs.Shape.{is_joined, parts_of, parts_in}
+use Rattle.ser_values.specs.Shape.{is_joined, refs_in, parts_of, parts_in}
 use Rattle.ser_values.specs.Visits.{VisitAll, Visits}
 use Rattle.ser_values.specs.Renumber.{place_in, item_by, reordered}
 
@@ -14,7 +14,7 @@ use Rattle.ser_values.specs.Renumber.{place_in, item_by, reordered}
 pub record IsOrder (loose : List Node) (depth : ℕ) (items : List Item) (order : List ℕ) : Type 0 where
   pub visits : VisitAll (Visits loose depth []) (item_wants items) [] order
   pub joined : is_joined items ≡ true
-  pub few_parts : parts_in (reordered loose order) ≤ PARTS
+  pub few_parts : parts_in (reordered loose order) + refs_in items ≤ PARTS
 
 -- The graph of what the items reach, the rest dropped: each node's number is its place in the order.
 pub record IsGraphOf (loose : List Node) (items : List Item) (nodes : List Node) (to : List Item) : Type 0 where

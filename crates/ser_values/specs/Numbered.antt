@@ -1,12 +1,12 @@
 -- Graphs: the nodes are numbered in the order in which handles are given when the items are written in order
 -- (Java Object Serialization Specification, chapter 6). Those below n have handles.
-use Rattle.std.specs.Prelude.{◌≡◌, ℕ, zero, suc, ◌<◌, ◌≤◌, true, List, [], ◌∷◌, length, Some, slice_get}
+use Rattle.std.specs.Prelude.{◌≡◌, ℕ, zero, suc, ◌+◌, ◌<◌, ◌≤◌, true, List, [], ◌∷◌, length, Some, slice_get}
 use Rattle.class_desc.specs.declared.slot.Slot.TheVariants as slots
 use Rattle.class_desc.specs.declared.slot.Item.{Item}
 use Rattle.ser_values.specs.declared.node.Node.{Node}
 use Rattle.ser_values.specs.declared.limits.TheConstants.{LEVELS, NODES, PARTS}
 use Rattle.ser_values.specs.Node.{has, Want, item_wants, before, after, admits, admits_null, takes, inside}
-use Rattle.ser_values.specs.Shape.{is_shaped, is_joined, parts_in}
+use Rattle.ser_values.specs.Shape.{is_shaped, is_joined, refs_in, parts_in}
 use Rattle.ser_values.specs.Ranges.{ItemsFit, NumbersFit, UnitsFit}
 
 -- The unread descriptions, what is wanted, and how many nodes have handles before it is written and afterwards.
@@ -40,7 +40,7 @@ pub record IsGraph (nodes : List Node) (items : List Item) : Type 0 where
   pub numbered : NumberAll (Numbered nodes LEVELS []) (item_wants items) 0 (length nodes)
   pub joined : is_joined items ≡ true
   pub few_nodes : length nodes ≤ NODES
-  pub few_parts : parts_in nodes ≤ PARTS
+  pub few_parts : parts_in nodes + refs_in items ≤ PARTS
   pub numbers : NumbersFit nodes
   pub units : UnitsFit nodes
   pub bytes : ItemsFit items

@@ -18,6 +18,7 @@ use Rattle.ser_values.specs.declared.value.Values.TheVariants as kinds
 use Rattle.ser_values.specs.declared.value.Part.{Part}
 use Rattle.ser_values.specs.declared.node.Node.{Node}
 use Rattle.ser_values.specs.declared.node.Node.TheVariants.{Text, Desc, Proxy, Object, Array, Class, Enum}
+use Rattle.ser_values.specs.Node.{item_wants}
 
 -- ---- texts and items
 
@@ -167,11 +168,40 @@ is_shaped nodes (Enum c t) = is_enum (slice_get nodes c)
 
 -- ---- parts in all
 
-abbrev pub parts_of : Node → ℕ
-parts_of (Object c ps) = length ps
-parts_of _ = 0
+-- How many references items have.
+abbrev pub refs_in : List Item → ℕ
+refs_in is = length (item_wants is)
 
--- How many parts the nodes' objects have.
+-- How many parts an object's parts are: each is one, and so is each value of it.
+unfoldable pub sizes_in : List Part → ℕ
+sizes_in [] = 0
+sizes_in (p ∷ ps) = suc (length p.values + sizes_in ps)
+
+-- How many references the parts' notes have.
+unfoldable pub notes_in : List Part → ℕ
+notes_in [] = 0
+notes_in (p ∷ ps) = refs_in p.note + notes_in ps
+
+-- How many parts a node has beside those of its notes: a description's fields, the names of a proxy's interfaces, an object's parts with their
+-- values, the elements of an array of references.
+abbrev pub own_of : Node → ℕ
+own_of (Desc d) = length d.fields
+own_of (Proxy p) = length p.names
+own_of (Object c ps) = sizes_in ps
+own_of (Array c (kinds.Refs ss)) = length ss
+own_of _ = 0
+
+-- How many parts a node's notes have: each of their references is one.
+abbrev pub notes_of : Node → ℕ
+notes_of (Desc d) = refs_in d.note
+notes_of (Proxy p) = refs_in p.note
+notes_of (Object c ps) = notes_in ps
+notes_of _ = 0
+
+abbrev pub parts_of : Node → ℕ
+parts_of i = own_of i + notes_of i
+
+-- How many parts the nodes have.
 unfoldable pub parts_in : List Node → ℕ
 parts_in [] = 0
 parts_in (i ∷ is) = parts_of i + parts_in is

@@ -1,41 +1,49 @@
 //! Loose nodes become a graph.
-ghost use Rattle.std.specs.Prelude.{◌≡◌, ◌≢◌, ◌<◌, ◌≤◌, ◌^◌, ℕ, List, true, map, length, IfOk, IfErr, nat_le, option_map, slice_get};
+ghost use Rattle.std.specs.Prelude.{◌≡◌, ◌≢◌, ◌<◌, ◌≤◌, ◌+◌, ℕ, List, true, None, map, length, IfOk, IfErr, IfSome, nat_le, option_map, slice_get};
+ghost use Rattle.ser_values.specs.declared.limits.TheConstants.{PARTS};
 ghost use Rattle.ser_values.specs.Finished.{IsOrder, IsRefusal, parts_or, parts_at};
 ghost use Rattle.ser_values.specs.Renumber.{place_at, node_or_by};
 ghost use Rattle.ser_values.specs.Seen.{Once};
 ghost use Rattle.ser_values.specs.Shape.{is_joined};
 
+use crate::counting::{parts_of, refs_in};
 use crate::fault::BuildFault;
 use crate::limits::{LEVELS, NODES, PARTS};
 use crate::loose::Loose;
 use crate::node::Node;
 use crate::renumber::Renumber;
-use crate::shape::{is_joined, parts_of};
+use crate::shape::is_joined;
 use crate::walking::walk;
 use class_desc::Item;
 use sequence::{TryCopy, Units};
 use std::alloc::{AllocError, Global};
 use std::mem;
 
-/// Returns the number of parts of a node. Where there is no node, it is 0.
-fn parts_at(node: Option<&Node>) -> usize
-    ensures told { result ≡ parts_or (option_map (λ node. node.now) node.entry) }
-    ensures bound { result < 2 ^ 63 }
+/// Returns the number of parts of a node, which is 0 where there is no node. None where it is past the limit.
+fn parts_at(node: Option<&Node>) -> Option<usize>
+    ensures few { IfSome result (λ n. (n ≡ parts_or (option_map (λ node. node.now) node.entry)) × (n ≤ PARTS)) }
+    ensures many { result ≡ None → PARTS < parts_or (option_map (λ node. node.now) node.entry) }
 {
     match node {
         Some(node) => parts_of(node),
-        None => 0,
+        None => Some(0),
     }
 }
 
-/// Returns whether the nodes of an order have few enough parts in all.
+/// Returns whether the nodes of an order have few enough parts in all, beside so many.
 #[tactic(auto, unfolding(crate::specs::Finished::parts_at))]
-fn has_few_parts(loose: &Loose, order: &[u32]) -> bool
-    ensures { result ≡ nat_le (parts_at loose.now.nodes.now order.now) PARTS }
+fn has_few_parts(loose: &Loose, order: &[u32], beside: usize) -> bool
+    ensures { result ≡ nat_le (parts_at loose.now.nodes.now order.now + beside) PARTS }
 {
-    let mut total: usize = 0;
+    if beside > PARTS {
+        return false;
+    }
+    let mut total = beside;
     for number in order {
-        total += parts_at(loose.node(*number));
+        match parts_at(loose.node(*number)) {
+            None => return false,
+            Some(n) => total += n,
+        }
         if total > PARTS {
             return false;
         }
@@ -52,7 +60,7 @@ fn fault_of(alloc: Global, loose: &Loose, items: &[Item]) -> Result<BuildFault, 
 {
     match walk(alloc, loose, items, loose.count() as u32)? {
         Some(order) => {
-            if has_few_parts(loose, &order) {
+            if has_few_parts(loose, &order, refs_in(items)) {
                 Ok(BuildFault::TooDeep)
             } else {
                 Ok(BuildFault::WrongShape)
@@ -78,7 +86,7 @@ pub(crate) fn order_of(
     let loose = Loose::new(alloc, nodes)?;
     match walk(alloc, &loose, items, LEVELS)? {
         Some(order) => {
-            if has_few_parts(&loose, &order) {
+            if has_few_parts(&loose, &order, refs_in(items)) {
                 Ok(order)
             } else {
                 Err(BuildFault::WrongShape)

@@ -9,9 +9,9 @@
 //!
 //! # Limits
 //!
-//! At most 65,536 nodes, 2^20 parts of objects in all, and 200 levels. An object has one part for
-//! each description in its class's chain. The limit on parts is there because a few bytes can make
-//! a chain long.
+//! At most 65,536 nodes, 2^20 parts in all (`limits::PARTS` says what they are), and 200 levels.
+//! An object has one part for each description in its class's chain. The limit on parts bounds the
+//! memory of a graph, since a byte or two of a stream can make a part.
 //!
 //! # What is proved
 //!
@@ -28,6 +28,7 @@
 mod builder;
 mod chain;
 mod copying;
+mod counting;
 mod equality;
 mod fault;
 mod finishing;

@@ -3,7 +3,7 @@ ghost use Rattle.std.specs.Prelude.{◌≡◌, ◌<◌, ◌^◌, Bool, Option, S
 ghost use Rattle.class_desc.specs.declared.slot.Slot.{Slot};
 ghost use Rattle.ser_values.specs.Loose.{elements_in};
 ghost use Rattle.ser_values.specs.Node.{is_desc, is_text, admits, admits_null, takes};
-ghost use Rattle.ser_values.specs.Shape.{is_short, are_short, joined_from, is_joined, fits_node, fits_type, are_typed, fits_value, fit_values, fits_part, fits_above, fits_next, or_above, fits_chain, is_external, fits_object, fit_elements, fits_array, is_enum, is_shaped, parts_of};
+ghost use Rattle.ser_values.specs.Shape.{is_short, are_short, joined_from, is_joined, fits_node, fits_type, are_typed, fits_value, fit_values, fits_part, fits_above, fits_next, or_above, fits_chain, is_external, fits_object, fit_elements, fits_array, is_enum, is_shaped};
 
 use crate::loose::Loose;
 use crate::node::{Node, SlotPlace};
@@ -226,17 +226,6 @@ fn fit_elements(values: &Values, code: Option<TypeCode>) -> bool
         (Values::Refs(_), TypeCode::Array) => true,
         (Values::Refs(_), TypeCode::Object) => true,
         _ => false,
-    }
-}
-
-/// Returns the number of parts of a node.
-pub(crate) fn parts_of(node: &Node) -> usize
-    ensures told { result ≡ parts_of node.now }
-    ensures bound { result < 2 ^ 63 }
-{
-    match node {
-        Node::Object { parts, .. } => parts.as_slice().len(),
-        _ => 0,
     }
 }
 

@@ -19,16 +19,20 @@ impl Space {
     /// takes no memory and is never refused. The objects that it withdraws are told by the next turn.
     pub fn abandon(&mut self, by: u32, moment: u64, object: ObjId)
         requires moment { moment < END_OF_TIME }
-        requires running { 0 < running_calls_by (places self.old.configuration self.old.events) by object }
-        ensures events { self.new.events ≡ with_event self.old.events (event_of by moment (Abandon object)) }
+        requires running { 0 < running_calls_by (places self.old.configuration self.old.events) by
+            object }
+        ensures events { self.new.events
+            ≡ with_event self.old.events (event_of by moment (Abandon object)) }
         ensures config { self.new.configuration ≡ self.old.configuration }
 
         // Of the objects that were exported the space keeps what there is a reason to keep, and the rest is withdrawn.
-        ensures collector { Collects self.old.configuration self.old.events self.old.rows (event_of by moment (Abandon object)) self.new.events self.new.rows }
+        ensures collector { Collects self.old.configuration self.old.events self.old.rows
+            (event_of by moment (Abandon object)) self.new.events self.new.rows }
 
         // It is taken: no limit refuses it.
         ensures step { let e = event_of by moment (Abandon object) in
-            Step self.old.configuration self.old.events e (Ok (turn_of self.old.configuration self.old.events e)) self.new.events }
+            Step self.old.configuration self.old.events e
+            (Ok (turn_of self.old.configuration self.old.events e)) self.new.events }
     {
         let now = moment.max(self.tables.moment);
         let place = self.tables.events.len() as u64;

@@ -30,22 +30,32 @@ pub(crate) fn act(
     ask: &Ask,
 )
     requires few { (o : ObjId) → running_of exports.old.rows o < 2 ^ 31 }
-    requires runs { (o : ObjId) → effective ≡ true → ask.now ≡ Abandon o → 0 < running_of exports.old.rows o }
-    requires returns { (o : ObjId) (made : List ℕ) (listed : List ObjId) (u : Uid) → effective ≡ true → ask.now ≡ Finish o made listed u → 0 < running_of exports.old.rows o }
+    requires runs { (o : ObjId) → effective ≡ true → ask.now ≡ Abandon o
+        → 0 < running_of exports.old.rows o }
+    requires returns { (o : ObjId) (made : List ℕ) (listed : List ObjId) (u : Uid)
+        → effective ≡ true → ask.now ≡ Finish o made listed u → 0 < running_of exports.old.rows o }
     requires countable { exports.old.added + opens effective ask.now < END_OF_OBJECT_COUNT }
     requires within { length exports.old.rows + opens effective ask.now ≤ MAX_EXPORTS }
     requires early { now < END_OF_TIME }
     requires some { 1 ≤ exports.old.ack }
     requires once { waits_once reference_of exports.old.waits }
-    requires returned { returned.now ≡ returned_by exports.old.space exports.old.added exports.old.rows stood effective ask.now }
-    requires stands { (o : ObjId) → stood ≡ Some o → (is_exported exports.old.rows o ≡ true) × 0 < pins_of exports.old.rows o }
+    requires returned { returned.now
+        ≡ returned_by exports.old.space exports.old.added exports.old.rows stood effective ask.now }
+    requires stands { (o : ObjId) → stood ≡ Some o
+        → (is_exported exports.old.rows o ≡ true) × 0 < pins_of exports.old.rows o }
     requires few_pins { (o : ObjId) → pins_of exports.old.rows o < 2 ^ 31 }
-    requires bound { (o : ObjId) → effective ≡ true → object_bound ask.now ≡ Some o → is_exported exports.old.rows o ≡ true }
-    requires looks { (n : List ℕ) (u : Uid) → ask.now ≡ Lookup n u → awaiting_with now u returned.now exports.old.waits ≤ MAX_AWAITING }
-    requires awaiting { (o : ObjId) (made : List ℕ) (listed : List ObjId) (u : Uid) → effective ≡ true → ask.now ≡ Finish o made listed u → awaiting_with now u returned.now exports.old.waits ≤ MAX_AWAITING }
+    requires bound { (o : ObjId) → effective ≡ true → object_bound ask.now ≡ Some o
+        → is_exported exports.old.rows o ≡ true }
+    requires looks { (n : List ℕ) (u : Uid) → ask.now ≡ Lookup n u
+        → awaiting_with now u returned.now exports.old.waits ≤ MAX_AWAITING }
+    requires awaiting { (o : ObjId) (made : List ℕ) (listed : List ObjId) (u : Uid)
+        → effective ≡ true → ask.now ≡ Finish o made listed u
+        → awaiting_with now u returned.now exports.old.waits ≤ MAX_AWAITING }
     requires objects_room { opens effective ask.now ≤ exports.old.room.exports }
     requires waits_room { length returned.now ≤ exports.old.room.waits }
-    ensures { exports.new ≡ record (acted_exports stood effective now ask.now exports.old) { room = exports.new.room } }
+    ensures { exports.new
+        ≡ record (acted_exports stood effective now ask.now exports.old)
+        { room = exports.new.room } }
 {
     match ask {
         Ask::Open { kind, pinned } => add(exports, *kind, *pinned),
@@ -94,8 +104,13 @@ pub(crate) fn act(
 fn pin_for_name(exports: &mut Exports, object: &ObjId, before: Option<ObjId>)
     requires exported { is_exported exports.old.rows object.now ≡ true }
     requires few { pins_of exports.old.rows object.now < 2 ^ 31 }
-    requires stands { (o : ObjId) → before ≡ Some o → (is_exported exports.old.rows o ≡ true) × 0 < pins_of exports.old.rows o }
-    ensures { exports.new ≡ record exports.old { rows = with_pin_removed before (with_row_changed pinned_once object.now exports.old.rows) } }
+    requires stands { (o : ObjId) → before ≡ Some o
+        → (is_exported exports.old.rows o ≡ true) × 0 < pins_of exports.old.rows o }
+    ensures { exports.new
+        ≡ record exports.old {
+          rows = with_pin_removed before
+              (with_row_changed pinned_once object.now exports.old.rows);
+        } }
 {
     exports.pin(*object);
     unpin(exports, before);
@@ -103,7 +118,8 @@ fn pin_for_name(exports: &mut Exports, object: &ObjId, before: Option<ObjId>)
 
 /// Takes a pin off this object, if there is one.
 fn unpin(exports: &mut Exports, stood: Option<ObjId>)
-    requires { (o : ObjId) → stood ≡ Some o → (is_exported exports.old.rows o ≡ true) × 0 < pins_of exports.old.rows o }
+    requires { (o : ObjId) → stood ≡ Some o
+        → (is_exported exports.old.rows o ≡ true) × 0 < pins_of exports.old.rows o }
     ensures { exports.new ≡ record exports.old { rows = with_pin_removed stood exports.old.rows } }
 {
     if let Some(object) = stood {
@@ -127,11 +143,15 @@ fn end_with(
     requires early { now < END_OF_TIME }
     requires some { 1 ≤ exports.old.ack }
     requires once { waits_once reference_of exports.old.waits }
-    requires exported { AllByRecursion (λ o. is_exported (exports.old.rows ++ new_rows exports.old.space exports.old.added made.now) o ≡ true) returned.now }
+    requires exported { AllByRecursion (λ o. is_exported
+        (exports.old.rows ++ new_rows exports.old.space exports.old.added made.now) o ≡ true)
+        returned.now }
     requires awaiting { awaiting_with now uid.now returned.now exports.old.waits ≤ MAX_AWAITING }
     requires objects_room { length made.now ≤ exports.old.room.exports }
     requires waits_room { length returned.now ≤ exports.old.room.waits }
-    ensures { exports.new ≡ record (returned_from now object.now made.now returned.now uid.now exports.old) { room = exports.new.room } }
+    ensures { exports.new
+        ≡ record (returned_from now object.now made.now returned.now uid.now exports.old)
+        { room = exports.new.room } }
 {
     exports.end(*object);
     add_all(exports, made);
@@ -143,8 +163,11 @@ fn add(exports: &mut Exports, kind: u32, pinned: bool)
     requires countable { exports.old.added < END_OF_OBJECT_COUNT }
     requires room { 1 ≤ exports.old.room.exports }
     requires within { length exports.old.rows < MAX_EXPORTS }
-    ensures value { let rows = exports.old.rows ++ new_row (id_at exports.old.space exports.old.added) kind pinned ∷ [] in
-        exports.new ≡ record exports.old { added = exports.old.added + 1; rows = rows; room = exports.new.room } }
+    ensures value { let rows = exports.old.rows
+        ++ new_row (id_at exports.old.space exports.old.added) kind pinned ∷ [] in
+        exports.new
+        ≡ record exports.old
+        { added = exports.old.added + 1; rows = rows; room = exports.new.room } }
     ensures objects_room { exports.old.room.exports ≤ exports.new.room.exports + 1 }
     ensures waits_room { exports.new.room.waits ≡ exports.old.room.waits }
 {
@@ -159,8 +182,11 @@ fn add_all(exports: &mut Exports, made: &[u32])
     requires countable { exports.old.added + length made.now < END_OF_OBJECT_COUNT }
     requires room { length made.now ≤ exports.old.room.exports }
     requires within { length exports.old.rows + length made.now ≤ MAX_EXPORTS }
-    ensures value { let rows = exports.old.rows ++ new_rows exports.old.space exports.old.added made.now in
-        exports.new ≡ record exports.old { added = exports.old.added + length made.now; rows = rows; room = exports.new.room } }
+    ensures value { let rows = exports.old.rows
+        ++ new_rows exports.old.space exports.old.added made.now in
+        exports.new
+        ≡ record exports.old
+        { added = exports.old.added + length made.now; rows = rows; room = exports.new.room } }
     ensures waits_room { exports.new.room.waits ≡ exports.old.room.waits }
 {
     for kind in made {
@@ -176,7 +202,11 @@ fn await_all(exports: &mut Exports, now: u64, objects: &[ObjId], uid: &Uid)
     requires once { waits_once reference_of exports.old.waits }
     requires awaiting { awaiting_with now uid.now objects.now exports.old.waits ≤ MAX_AWAITING }
     requires room { length objects.now ≤ exports.old.room.waits }
-    ensures { exports.new ≡ record exports.old { waits = with_each_listed exports.old.ack now uid.now objects.now exports.old.waits; room = exports.new.room } }
+    ensures { exports.new
+        ≡ record exports.old {
+          waits = with_each_listed exports.old.ack now uid.now objects.now exports.old.waits;
+          room = exports.new.room;
+        } }
 {
     for object in objects {
         match exports.wait_for(*object, *uid, now) {

@@ -1,7 +1,8 @@
 //! Effective requests, the room that a request needs, and its reply.
-ghost use Rattle.std.specs.Prelude.{◌≡◌, ◌+◌, ◌<◌, ◌^◌, option_and_then, IfOk};
+ghost use Rattle.std.specs.Prelude.{◌≡◌, ◌+◌, ◌<◌, ◌^◌, if◌then◌else◌, option_and_then, IfOk};
 ghost use Rattle.history.specs.declared.limits.TheConstants.{END_OF_OBJECT_COUNT};
 ghost use Rattle.history.specs.Names.{name_in};
+ghost use Rattle.history.specs.declared.replies.Reply.TheVariants.{Bound, Done, NoObject, NotBound, NotRunning, Unbound};
 ghost use Rattle.export_table.specs.ExportRows.{is_exported};
 ghost use Rattle.rmi_registry.specs.Bindings.{names_in, object_of};
 ghost use Rattle.space.specs.Acts.{effective_by, opens, reply_at, room_refusal, started_reply, unbound_reply, found_reply, reported_after};
@@ -129,7 +130,8 @@ pub(crate) fn reply_at(
     ask: &Ask,
 ) -> Result<Reply, AllocError>
     requires { k + opens effective ask.now < END_OF_OBJECT_COUNT }
-    ensures { IfOk result (λ reply. reply ≡ reply_at config.now k exports.now.rows (names_in names.now) stood effective ask.now) }
+    ensures { IfOk result (λ reply. reply ≡ reply_at config.now k exports.now.rows
+        (names_in names.now) stood effective ask.now) }
 {
     Ok(match ask {
         Ask::Open { kind: _, pinned: _ } => Reply::Opened(id_at(config.uid, k)),
@@ -146,47 +148,23 @@ pub(crate) fn reply_at(
                 Reply::NotRunning
             }
         }
-        Ask::Abandon { object: _ } => {
-            if effective {
-                Reply::Done
-            } else {
-                Reply::NotRunning
-            }
-        }
+        Ask::Abandon { object: _ } => abandoned_reply(effective),
         Ask::Dirty {
             client: _,
             number: _,
             asked,
             objects: _,
         } => Reply::Granted(grant(config.lease_ms, *asked)),
-        Ask::Bind { name: _, object } => {
-            if effective {
-                Reply::Bound
-            } else {
-                unbound_reply(is_exported(exports, object))
-            }
-        }
-        Ask::Rebind { name: _, object: _ } => {
-            if effective {
-                Reply::Bound
-            } else {
-                Reply::NoObject
-            }
-        }
-        Ask::Unbind { name: _ } => {
-            if effective {
-                Reply::Unbound
-            } else {
-                Reply::NotBound
-            }
-        }
+        Ask::Bind { name: _, object } => bound_reply(effective, is_exported(exports, object)),
+        Ask::Rebind { name: _, object: _ } => rebound_reply(effective),
+        Ask::Unbind { name: _ } => unbinding_reply(effective),
         Ask::Lookup { name: _, uid: _ } => found_reply(exports, stood),
         Ask::List => Reply::Names(names.list(alloc)?),
         _ => Reply::Done,
     })
 }
 
-/// The reply to a Begin of an object of this kind, if it is exported.
+/// Returns the reply to a Begin of an object of this kind, if it is exported.
 fn started_reply(kind: Option<u32>) -> Reply
     ensures { result ≡ started_reply kind }
 {
@@ -196,18 +174,53 @@ fn started_reply(kind: Option<u32>) -> Reply
     }
 }
 
-/// The reply to a Bind that is not effective, whose object is exported or is not.
-fn unbound_reply(exported: bool) -> Reply
-    ensures { result ≡ unbound_reply exported }
+/// Returns the reply to an Abandon.
+fn abandoned_reply(effective: bool) -> Reply
+    ensures { result ≡ (if effective then Done else NotRunning) }
 {
-    if exported {
+    if effective {
+        Reply::Done
+    } else {
+        Reply::NotRunning
+    }
+}
+
+/// Returns the reply to a Bind, whose object is exported or is not.
+fn bound_reply(effective: bool, exported: bool) -> Reply
+    ensures { result ≡ (if effective then Bound else unbound_reply exported) }
+{
+    if effective {
+        Reply::Bound
+    } else if exported {
         Reply::AlreadyBound
     } else {
         Reply::NoObject
     }
 }
 
-/// The reply to a Lookup of a name that stands for this.
+/// Returns the reply to a Rebind.
+fn rebound_reply(effective: bool) -> Reply
+    ensures { result ≡ (if effective then Bound else NoObject) }
+{
+    if effective {
+        Reply::Bound
+    } else {
+        Reply::NoObject
+    }
+}
+
+/// Returns the reply to an Unbind.
+fn unbinding_reply(effective: bool) -> Reply
+    ensures { result ≡ (if effective then Unbound else NotBound) }
+{
+    if effective {
+        Reply::Unbound
+    } else {
+        Reply::NotBound
+    }
+}
+
+/// Returns the reply to a Lookup of a name that stands for this object, if it stands for one.
 fn found_reply(exports: &Exports, stood: Option<ObjId>) -> Reply
     ensures { result ≡ found_reply exports.now.rows stood }
 {

@@ -25,10 +25,12 @@ pub(crate) fn tell(
     ask: &Ask,
 ) -> Result<(), Refused>
     requires { now < END_OF_TIME }
-    ensures ok { OnOk result (ForEachLogBy now leases.old (λ lease calls.
-        StandsFor lease leases.new now (call_with (is_exported exports.now.rows) now ask.now ++ calls))) }
-    ensures refusal { ForEachLogBy now leases.old (λ lease calls.
-        Agrees (lease_refusal lease now calls (call_with (is_exported exports.now.rows) now ask.now)) result) }
+    ensures ok { OnOk result
+        (ForEachLogBy now leases.old (λ lease calls. StandsFor lease leases.new now
+        (call_with (is_exported exports.now.rows) now ask.now ++ calls))) }
+    ensures refusal { ForEachLogBy now leases.old (λ lease calls. Agrees
+        (lease_refusal lease now calls (call_with (is_exported exports.now.rows) now ask.now))
+        result) }
     ensures err { OnErr result (leases.new ≡ leases.old) }
 {
     match ask {
@@ -62,10 +64,14 @@ fn tell_dirty(
     named: &ObjIds,
 ) -> Result<(), Refused>
     requires { now < END_OF_TIME }
-    ensures ok { OnOk result (ForEachLogBy now leases.old (λ lease calls.
-        StandsFor lease leases.new now (dirty_call now client.now number.now asked.now (filter (is_exported exports.now.rows) named.now) ∷ calls))) }
-    ensures refusal { ForEachLogBy now leases.old (λ lease calls.
-        Agrees (call_refusal lease now calls (dirty_call now client.now number.now asked.now (filter (is_exported exports.now.rows) named.now))) result) }
+    ensures ok { OnOk result
+        (ForEachLogBy now leases.old (λ lease calls. StandsFor lease leases.new now
+        (dirty_call now client.now number.now asked.now
+        (filter (is_exported exports.now.rows) named.now) ∷ calls))) }
+    ensures refusal { ForEachLogBy now leases.old (λ lease calls. Agrees
+        (call_refusal lease now calls
+        (dirty_call now client.now number.now asked.now
+        (filter (is_exported exports.now.rows) named.now))) result) }
     ensures err { OnErr result (leases.new ≡ leases.old) }
 {
     if are_exported(exports, named) {
@@ -85,13 +91,16 @@ fn take_dirty(
     live: &ObjIds,
 ) -> Result<(), Refused>
     requires { now < END_OF_TIME }
-    ensures ok { OnOk result (ForEachLogBy now leases.old (λ lease calls.
-        StandsFor lease leases.new now (dirty_call now client.now number.now asked.now live.now ∷ calls))) }
-    ensures refusal { ForEachLogBy now leases.old (λ lease calls.
-        Agrees (call_refusal lease now calls (dirty_call now client.now number.now asked.now live.now)) result) }
+    ensures ok { OnOk result
+        (ForEachLogBy now leases.old (λ lease calls. StandsFor lease leases.new now
+        (dirty_call now client.now number.now asked.now live.now ∷ calls))) }
+    ensures refusal { ForEachLogBy now leases.old (λ lease calls. Agrees
+        (call_refusal lease now calls (dirty_call now client.now number.now asked.now live.now))
+        result) }
     ensures err { OnErr result (leases.new ≡ leases.old) }
 {
     match leases.dirty(client, *number, *asked, live, now) {
+        // The reply stands already: `reply_at` grants `grant` of the configured lease. By its clause `granted`, so does `dirty`.
         Ok(_granted) => Ok(()),
         Err(fault) => Err(refused_for(fault)),
     }
@@ -108,10 +117,14 @@ fn tell_clean(
     strong: bool,
 ) -> Result<(), Refused>
     requires { now < END_OF_TIME }
-    ensures ok { OnOk result (ForEachLogBy now leases.old (λ lease calls.
-        StandsFor lease leases.new now (clean_call now client.now number.now (filter (is_exported exports.now.rows) named.now) strong ∷ calls))) }
-    ensures refusal { ForEachLogBy now leases.old (λ lease calls.
-        Agrees (call_refusal lease now calls (clean_call now client.now number.now (filter (is_exported exports.now.rows) named.now) strong)) result) }
+    ensures ok { OnOk result
+        (ForEachLogBy now leases.old (λ lease calls. StandsFor lease leases.new now
+        (clean_call now client.now number.now (filter (is_exported exports.now.rows) named.now)
+        strong ∷ calls))) }
+    ensures refusal { ForEachLogBy now leases.old (λ lease calls. Agrees
+        (call_refusal lease now calls
+        (clean_call now client.now number.now (filter (is_exported exports.now.rows) named.now)
+        strong)) result) }
     ensures err { OnErr result (leases.new ≡ leases.old) }
 {
     if are_exported(exports, named) {
@@ -131,10 +144,12 @@ fn take_clean(
     strong: bool,
 ) -> Result<(), Refused>
     requires { now < END_OF_TIME }
-    ensures ok { OnOk result (ForEachLogBy now leases.old (λ lease calls.
-        StandsFor lease leases.new now (clean_call now client.now number.now live.now strong ∷ calls))) }
-    ensures refusal { ForEachLogBy now leases.old (λ lease calls.
-        Agrees (call_refusal lease now calls (clean_call now client.now number.now live.now strong)) result) }
+    ensures ok { OnOk result
+        (ForEachLogBy now leases.old (λ lease calls. StandsFor lease leases.new now
+        (clean_call now client.now number.now live.now strong ∷ calls))) }
+    ensures refusal { ForEachLogBy now leases.old (λ lease calls. Agrees
+        (call_refusal lease now calls (clean_call now client.now number.now live.now strong))
+        result) }
     ensures err { OnErr result (leases.new ≡ leases.old) }
 {
     match leases.clean(client, *number, live, strong, now) {

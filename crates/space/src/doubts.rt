@@ -27,7 +27,8 @@ pub(crate) fn in_doubt(
     returned: &[ObjId],
     ask: &Ask,
 ) -> Result<Vec<ObjId>, AllocError>
-    ensures { IfOk result (λ os. AreInDoubt leases.now now exports.now.waits (taken_by exports.now.waits fresh stood returned.now ask.now) os.items) }
+    ensures { IfOk result (λ os. AreInDoubt leases.now now exports.now.waits
+        (taken_by exports.now.waits fresh stood returned.now ask.now) os.items) }
 {
     let freed = leases.freed_objects(alloc, now)?;
     let ended = exports.ended_objects(alloc, now)?;
@@ -55,7 +56,8 @@ fn taken_by(
     returned: &[ObjId],
     ask: &Ask,
 ) -> Result<Vec<ObjId>, AllocError>
-    ensures { IfOk result (λ os. os.items ≡ taken_by exports.now.waits fresh stood returned.now ask.now) }
+    ensures { IfOk result
+        (λ os. os.items ≡ taken_by exports.now.waits fresh stood returned.now ask.now) }
 {
     match ask {
         Ask::Open { kind: _, pinned: _ } => list_of(alloc, Some(fresh)),
@@ -101,7 +103,8 @@ fn copy_of_objects(alloc: Global, objects: &[ObjId]) -> Result<Vec<ObjId>, Alloc
 /// where the wait of a reference has ended. Where time takes nothing, only the objects from which the request takes
 /// something are in doubt. The function takes no memory.
 pub(crate) fn takes_time(exports: &Exports, leases: &Leases, now: u64) -> bool
-    ensures { result ≡ false → (taken : List ObjId) → AreInDoubt leases.now now exports.now.waits taken taken }
+    ensures { result ≡ false → (taken : List ObjId)
+        → AreInDoubt leases.now now exports.now.waits taken taken }
 {
     if leases.is_due(now) {
         true
@@ -130,7 +133,8 @@ pub(crate) fn withdraw(
         exports.new ≡ record exports.old { rows = rows; waits = waits; room = exports.new.room }) }
     ensures gone { ForEachLog leases.old (λ lease moment calls.
         let held = held_by lease (max now moment) calls in
-        gone.new.items ≡ gone.old.items ++ withdrawn_ids now held exports.old.waits exports.old.rows) }
+        gone.new.items
+        ≡ gone.old.items ++ withdrawn_ids now held exports.old.waits exports.old.rows) }
     ensures dropped { ForEachLog leases.old (λ lease moment calls.
         let held = held_by lease (max now moment) calls in
         let dropped = withdrawn_ids now held exports.old.waits exports.old.rows in
@@ -160,7 +164,8 @@ pub(crate) fn withdraw_few(
         exports.new ≡ record exports.old { rows = rows; waits = waits; room = exports.new.room }) }
     ensures gone { ForEachLog leases.old (λ lease moment calls.
         let held = held_by lease (max now moment) calls in
-        gone.new.items ≡ gone.old.items ++ withdrawn_ids now held exports.old.waits exports.old.rows) }
+        gone.new.items
+        ≡ gone.old.items ++ withdrawn_ids now held exports.old.waits exports.old.rows) }
     ensures dropped { ForEachLog leases.old (λ lease moment calls.
         let held = held_by lease (max now moment) calls in
         let dropped = withdrawn_ids now held exports.old.waits exports.old.rows in
@@ -193,7 +198,8 @@ pub(crate) fn withdraw_known(
         exports.new ≡ record exports.old { rows = rows; waits = waits; room = exports.new.room }) }
     ensures gone { ForEachLog leases.old (λ lease moment calls.
         let held = held_by lease (max now moment) calls in
-        gone.new.items ≡ gone.old.items ++ withdrawn_ids now held exports.old.waits exports.old.rows) }
+        gone.new.items
+        ≡ gone.old.items ++ withdrawn_ids now held exports.old.waits exports.old.rows) }
     ensures dropped { ForEachLog leases.old (λ lease moment calls.
         let held = held_by lease (max now moment) calls in
         let dropped = withdrawn_ids now held exports.old.waits exports.old.rows in

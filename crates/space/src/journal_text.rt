@@ -21,8 +21,10 @@ use std::alloc::{AllocError, Global};
 /// these events and this configuration, where its identifier's count is 0.
 pub fn journal(alloc: Global, space: &Space) -> Result<ByteList, AllocError>
     requires stored { space.now.configuration.stored ≡ true }
-    ensures text { IfOk result (λ text. text ≡ written.journal_text space.now.configuration space.now.events) }
-    ensures spelled { IfOk result (λ text. space.now.configuration.uid.count ≡ pos 0 → JournalText text space.now.configuration space.now.events) }
+    ensures text { IfOk result
+        (λ text. text ≡ written.journal_text space.now.configuration space.now.events) }
+    ensures spelled { IfOk result (λ text. space.now.configuration.uid.count ≡ pos 0
+        → JournalText text space.now.configuration space.now.events) }
 {
     let mut text = ByteList::new(alloc);
     put_first_line(&mut text, &space.tables.config)?;
@@ -33,8 +35,10 @@ pub fn journal(alloc: Global, space: &Space) -> Result<ByteList, AllocError>
 /// Appends the lines of events.
 fn put_events(text: &mut ByteList, space: Uid, events: &SpaceEvents) -> Result<(), AllocError>
     requires { events.now.stored ≡ true }
-    ensures text { OnOk result (text.new ≡ text.old ++ flat_map (written.event_line space) events.now.items) }
-    ensures fits { OnOk result (AllByRecursion (λ e. e.moment < END_OF_TIME → written.EventFits e) events.now.items) }
+    ensures text { OnOk result
+        (text.new ≡ text.old ++ flat_map (written.event_line space) events.now.items) }
+    ensures fits { OnOk result
+        (AllByRecursion (λ e. e.moment < END_OF_TIME → written.EventFits e) events.now.items) }
 {
     for place in 0..events.len() {
         put_line_at(text, space, events, place)?;
@@ -51,8 +55,12 @@ fn put_line_at(
 ) -> Result<(), AllocError>
     requires stored { events.now.stored ≡ true }
     requires place { place < length events.now.items }
-    ensures text { OnOk result ((e : Event) → slice_get events.now.items place ≡ Some e → text.new ≡ text.old ++ written.event_line space e) }
-    ensures fits { OnOk result ((e : Event) → slice_get events.now.items place ≡ Some e → e.moment < END_OF_TIME → written.EventFits e) }
+    ensures text { OnOk result
+        ((e : Event) → slice_get events.now.items place ≡ Some e
+        → text.new ≡ text.old ++ written.event_line space e) }
+    ensures fits { OnOk result
+        ((e : Event) → slice_get events.now.items place ≡ Some e → e.moment < END_OF_TIME
+        → written.EventFits e) }
 {
     let view = events.event(place)?;
     let put = put_event_line(text, space, view.event());

@@ -45,9 +45,12 @@ impl Space {
         requires some_ack { 1 ≤ config.now.ack_ms }
         requires short_ack { config.now.ack_ms ≤ MAX_DURATION_MS }
         requires moments { AllByRecursion (λ e. e.moment < END_OF_TIME) events.items }
-        ensures collector { IfOk result (λ p. CollectsEach config.now [] [] (take (length p.1.turns.items) events.items) p.0.events p.0.rows) }
-        ensures rows { IfOk result (λ p. p.0.rows ≡ rows_after_each config.now [] [] (take (length p.1.turns.items) events.items)) }
-        ensures taken { IfOk result (λ p. TakesFront config.now [] events.items p.1.turns.items p.1.refused p.0.events) }
+        ensures collector { IfOk result (λ p. CollectsEach config.now [] []
+            (take (length p.1.turns.items) events.items) p.0.events p.0.rows) }
+        ensures rows { IfOk result (λ p. p.0.rows ≡ rows_after_each config.now [] []
+            (take (length p.1.turns.items) events.items)) }
+        ensures taken { IfOk result
+            (λ p. TakesFront config.now [] events.items p.1.turns.items p.1.refused p.0.events) }
         ensures config { IfOk result (λ p. p.0.configuration ≡ config.now) }
         ensures legal { IfOk result (λ p. IsLegal config.now p.0.events) }
     {
@@ -62,9 +65,14 @@ impl Space {
     /// memory for the list of the turns; then no event was taken.
     pub fn turns(&mut self, events: Vec<Event>) -> Result<Turns, AllocError>
         requires moments { AllByRecursion (λ e. e.moment < END_OF_TIME) events.items }
-        ensures collector { IfOk result (λ t. CollectsEach self.old.configuration self.old.events self.old.rows (take (length t.turns.items) events.items) self.new.events self.new.rows) }
-        ensures rows { IfOk result (λ t. self.new.rows ≡ rows_after_each self.old.configuration self.old.events self.old.rows (take (length t.turns.items) events.items)) }
-        ensures taken { IfOk result (λ t. TakesFront self.old.configuration self.old.events events.items t.turns.items t.refused self.new.events) }
+        ensures collector { IfOk result (λ t. CollectsEach self.old.configuration self.old.events
+            self.old.rows (take (length t.turns.items) events.items) self.new.events
+            self.new.rows) }
+        ensures rows { IfOk result (λ t. self.new.rows
+            ≡ rows_after_each self.old.configuration self.old.events self.old.rows
+            (take (length t.turns.items) events.items)) }
+        ensures taken { IfOk result (λ t. TakesFront self.old.configuration self.old.events
+            events.items t.turns.items t.refused self.new.events) }
         ensures config { self.new.configuration ≡ self.old.configuration }
         ensures err { OnErr result (self.new ≡ self.old) }
     {
@@ -91,11 +99,15 @@ impl Space {
     /// memory for the list of the answers; then none was asked.
     pub fn answers(&mut self, events: Vec<Event>) -> Result<Vec<Result<Turn, Refused>>, AllocError>
         requires moments { AllByRecursion (λ e. e.moment < END_OF_TIME) events.items }
-        ensures answered { IfOk result (λ answers. Steps self.old.configuration self.old.events events.items answers.items self.new.events) }
+        ensures answered { IfOk result (λ answers. Steps self.old.configuration self.old.events
+            events.items answers.items self.new.events) }
 
         // No memory wanting, there is one list of answers.
-        ensures exact { IfOk result (λ answers. AllByRecursion (λ a. a ≢ Err Refused.OutOfMemory) answers.items →
-            answers.items ≡ answers_to (limits self.old.configuration) self.old.configuration self.old.events events.items) }
+        ensures exact { IfOk result (λ answers. AllByRecursion (λ a. a ≢ Err Refused.OutOfMemory)
+            answers.items
+            → answers.items
+            ≡ answers_to (limits self.old.configuration) self.old.configuration self.old.events
+            events.items) }
         ensures config { self.new.configuration ≡ self.old.configuration }
         ensures err { OnErr result (self.new ≡ self.old) }
     {
@@ -111,7 +123,8 @@ impl Space {
     /// history's table.
     pub fn kind_of(&self, object: ObjId) -> Option<u32>
         ensures rows { result ≡ kind_among self.now.rows object }
-        ensures table { result ≡ kind_among (table self.now.configuration (places self.now.configuration self.now.events)) object }
+        ensures table { result ≡ kind_among
+            (table self.now.configuration (places self.now.configuration self.now.events)) object }
     {
         self.tables.exports.find(object)
     }
@@ -120,7 +133,9 @@ impl Space {
     /// refused only for want of memory.
     pub fn exported_objects(&self) -> Result<Vec<ObjectKind>, AllocError>
         ensures rows { IfOk result (λ objects. objects.items ≡ map with_kind self.now.rows) }
-        ensures table { IfOk result (λ objects. objects.items ≡ map with_kind (table self.now.configuration (places self.now.configuration self.now.events))) }
+        ensures table { IfOk result (λ objects. objects.items
+            ≡ map with_kind
+            (table self.now.configuration (places self.now.configuration self.now.events))) }
     {
         let rows = self
             .tables

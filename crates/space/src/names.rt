@@ -28,12 +28,14 @@ pub(crate) fn settle(
     ask: &Ask,
 ) -> Result<(), Refused>
     requires { now < END_OF_TIME }
-    ensures ok { OnOk result (ForEachLogBy now leases.old (λ lease calls.
-        StandsFor lease leases.new now (call_with (is_exported exports.now.rows) now ask.now ++ calls))) }
+    ensures ok { OnOk result
+        (ForEachLogBy now leases.old (λ lease calls. StandsFor lease leases.new now
+        (call_with (is_exported exports.now.rows) now ask.now ++ calls))) }
     ensures names { OnOk result (names.new ≡ acted_names effective ask.now names.old) }
-    ensures refusal { ForEachLogBy now leases.old (λ lease calls.
-        Agrees (told_refusal lease now calls (call_with (is_exported exports.now.rows) now ask.now)
-        (length names.old) (option_and_then (object_of names.old) (name_in ask.now)) effective ask.now) result) }
+    ensures refusal { ForEachLogBy now leases.old (λ lease calls. Agrees
+        (told_refusal lease now calls (call_with (is_exported exports.now.rows) now ask.now)
+        (length names.old) (option_and_then (object_of names.old) (name_in ask.now)) effective
+        ask.now) result) }
     ensures err { OnErr result (leases.new ≡ leases.old) }
     ensures kept { OnErr result (names.new ≡ names.old) }
 {
@@ -61,7 +63,9 @@ fn changes_name(ask: &Ask) -> bool
 /// Binds or unbinds the name in an ask. After a refusal the names are as they were.
 fn rename(alloc: Global, names: &mut Names, effective: bool, ask: &Ask) -> Result<(), Refused>
     ensures ok { OnOk result (names.new ≡ acted_names effective ask.now names.old) }
-    ensures refusal { Agrees (name_refusal (length names.old) (option_and_then (object_of names.old) (name_in ask.now)) effective ask.now) result }
+    ensures refusal { Agrees
+        (name_refusal (length names.old) (option_and_then (object_of names.old) (name_in ask.now))
+        effective ask.now) result }
     ensures err { OnErr result (names.new ≡ names.old) }
 {
     if !effective {
@@ -81,7 +85,8 @@ fn rename(alloc: Global, names: &mut Names, effective: bool, ask: &Ask) -> Resul
 /// Binds a name, whatever it stood for.
 fn bind(alloc: Global, names: &mut Names, name: &Name, object: ObjId) -> Result<(), Refused>
     ensures ok { OnOk result (names.new ≡ with_binding names.old name.now object) }
-    ensures refusal { Agrees (binding_refusal (length names.old) (object_of names.old name.now) true) result }
+    ensures refusal { Agrees
+        (binding_refusal (length names.old) (object_of names.old name.now) true) result }
     ensures err { OnErr result (names.new ≡ names.old) }
 {
     let name = name.copy(alloc)?;

@@ -33,10 +33,15 @@ impl Space {
         ask: Ask,
     ) -> Result<(Result<Turn, Refused>, Asked), AllocError>
         requires moment { moment < END_OF_TIME }
-        ensures step { IfOk result (λ x. Step self.old.configuration self.old.events (event_of by moment ask) x.0 self.new.events) }
-        ensures collector { IfOk result (λ x. OnOk x.0 (Collects self.old.configuration self.old.events self.old.rows (event_of by moment ask) self.new.events self.new.rows)) }
+        ensures step { IfOk result (λ x. Step self.old.configuration self.old.events
+            (event_of by moment ask) x.0 self.new.events) }
+        ensures collector { IfOk result (λ x. OnOk x.0
+            (Collects self.old.configuration self.old.events self.old.rows (event_of by moment ask)
+            self.new.events self.new.rows)) }
         ensures noted { IfOk result (λ x. x.1 ≡ entry_of moment ask x.0) }
-        ensures row { IfOk result (λ x. IsAnswerTo (λ o. 0 < running_calls_by (places self.old.configuration self.old.events) by o) ask x.0) }
+        ensures row { IfOk result (λ x. IsAnswerTo
+            (λ o. 0 < running_calls_by (places self.old.configuration self.old.events) by o) ask
+            x.0) }
         ensures known { IfOk result (λ x. x.0 ≢ Err Refused.OutOfMemory) }
         ensures refused { IfOk result (λ x. OnErr x.0 (self.new ≡ self.old)) }
         ensures config { self.new.configuration ≡ self.old.configuration }

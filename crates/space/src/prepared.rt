@@ -29,13 +29,19 @@ pub(crate) struct Admitted {
 /// Looks up what an ask's name stands for, and whether the ask of this connection is effective. It is refused where there is no room for it in the
 /// history, or among the exported objects.
 pub(crate) fn admit(tables: &Tables, by: u32, ask: &Ask) -> Result<Admitted, Refused>
-    ensures stood { IfOk result (λ a. a.stood ≡ option_and_then (object_of tables.now.names) (name_in ask.now)) }
-    ensures effective { IfOk result (λ a. a.effective ≡ effective_by tables.now.exports.rows tables.now.runs.items a.stood by ask.now) }
-    ensures room { IfOk result (λ a. room_refusal tables.now.config.stored tables.now.units (length tables.now.runs.items) (length tables.now.exports.rows) a.effective ask.now ≡ None) }
+    ensures stood { IfOk result
+        (λ a. a.stood ≡ option_and_then (object_of tables.now.names) (name_in ask.now)) }
+    ensures effective { IfOk result (λ a. a.effective
+        ≡ effective_by tables.now.exports.rows tables.now.runs.items a.stood by ask.now) }
+    ensures room { IfOk result (λ a. room_refusal tables.now.config.stored tables.now.units
+        (length tables.now.runs.items) (length tables.now.exports.rows) a.effective ask.now
+        ≡ None) }
     ensures refused { IfErr result (λ refused.
         let stood = option_and_then (object_of tables.now.names) (name_in ask.now) in
-        let effective = effective_by tables.now.exports.rows tables.now.runs.items stood by ask.now in
-        room_refusal tables.now.config.stored tables.now.units (length tables.now.runs.items) (length tables.now.exports.rows) effective ask.now ≡ Some refused) }
+        let effective = effective_by tables.now.exports.rows tables.now.runs.items stood by
+        ask.now in
+        room_refusal tables.now.config.stored tables.now.units (length tables.now.runs.items)
+        (length tables.now.exports.rows) effective ask.now ≡ Some refused) }
 {
     let stood = stood_for(&tables.names, ask);
     let effective = is_effective(&tables.exports, &tables.runs, stood, by, ask);
@@ -143,7 +149,8 @@ impl Prepared {
     /// The turn at a place, and a copy of the objects that it tells as gone, where one is asked for: there is room for it.
     pub(crate) fn into_turn(self, alloc: Global, place: u64, noted: bool) -> (Turn, ObjIds)
         requires { noted ≡ true → length self.untold.gone.items ≤ vec_capacity self.untold.spare }
-        ensures turn { result.0 ≡ record { place = place; reply = self.reply; gone = self.untold.gone.items } }
+        ensures turn { result.0 ≡ record
+            { place = place; reply = self.reply; gone = self.untold.gone.items } }
         ensures copy { noted ≡ true → result.1 ≡ result.0.gone }
     {
         let Prepared {
@@ -173,15 +180,25 @@ pub(crate) fn prepare(
     requires told { tables.now.withdrawn.told ≤ tables.now.reported }
     requires reported { tables.now.reported ≤ length tables.now.withdrawn.items }
     ensures opened { IfOk result (λ p. p.opened ≡ opens effective ask.now) }
-    ensures objects { IfOk result (λ p. p.objects ≡ length tables.now.exports.rows + opens effective ask.now) }
-    ensures references { IfOk result (λ p. p.listed.references.items ≡ returned_by tables.now.config.uid tables.now.added tables.now.exports.rows stood effective ask.now) }
+    ensures objects { IfOk result
+        (λ p. p.objects ≡ length tables.now.exports.rows + opens effective ask.now) }
+    ensures references { IfOk result (λ p. p.listed.references.items
+        ≡ returned_by tables.now.config.uid tables.now.added tables.now.exports.rows stood effective
+        ask.now) }
     ensures doubtful { IfOk result (λ p. AreInDoubt tables.now.leases now tables.now.exports.waits
-        (taken_by tables.now.exports.waits (id_at tables.now.config.uid tables.now.added) stood p.listed.references.items ask.now) p.listed.doubtful.items) }
-    ensures gone { IfOk result (λ p. p.untold.gone.items ≡ map (λ w. w.object) (drop tables.now.reported tables.now.withdrawn.items)) }
-    ensures room { IfOk result (λ p. vec_len p.untold.gone + length p.listed.doubtful.items ≤ vec_capacity p.untold.gone) }
-    ensures spare { IfOk result (λ p. noted ≡ true → vec_len p.untold.gone + length p.listed.doubtful.items ≤ vec_capacity p.untold.spare) }
-    ensures reply { IfOk result (λ p. p.reply ≡ reply_at tables.now.config tables.now.added tables.now.exports.rows (names_in tables.now.names) stood effective ask.now) }
-    ensures refusal { Agrees (await_refusal now tables.now.exports.rows tables.now.exports.waits stood effective ask.now) result }
+        (taken_by tables.now.exports.waits (id_at tables.now.config.uid tables.now.added) stood
+        p.listed.references.items ask.now) p.listed.doubtful.items) }
+    ensures gone { IfOk result (λ p. p.untold.gone.items
+        ≡ map (λ w. w.object) (drop tables.now.reported tables.now.withdrawn.items)) }
+    ensures room { IfOk result
+        (λ p. vec_len p.untold.gone + length p.listed.doubtful.items ≤ vec_capacity p.untold.gone) }
+    ensures spare { IfOk result (λ p. noted ≡ true
+        → vec_len p.untold.gone + length p.listed.doubtful.items ≤ vec_capacity p.untold.spare) }
+    ensures reply { IfOk result (λ p. p.reply ≡ reply_at tables.now.config tables.now.added
+        tables.now.exports.rows (names_in tables.now.names) stood effective ask.now) }
+    ensures refusal { Agrees
+        (await_refusal now tables.now.exports.rows tables.now.exports.waits stood effective ask.now)
+        result }
 {
     let opened = opens(effective, ask);
     let objects = tables.exports.count() as usize + opened as usize;
@@ -218,13 +235,21 @@ fn listed_and_untold(
     requires countable { tables.now.added + opens effective ask.now < END_OF_OBJECT_COUNT }
     requires told { tables.now.withdrawn.told ≤ tables.now.reported }
     requires reported { tables.now.reported ≤ length tables.now.withdrawn.items }
-    ensures references { IfOk result (λ x. x.0.references.items ≡ returned_by tables.now.config.uid tables.now.added tables.now.exports.rows stood effective ask.now) }
+    ensures references { IfOk result (λ x. x.0.references.items
+        ≡ returned_by tables.now.config.uid tables.now.added tables.now.exports.rows stood effective
+        ask.now) }
     ensures doubtful { IfOk result (λ x. AreInDoubt tables.now.leases now tables.now.exports.waits
-        (taken_by tables.now.exports.waits (id_at tables.now.config.uid tables.now.added) stood x.0.references.items ask.now) x.0.doubtful.items) }
-    ensures gone { IfOk result (λ x. x.1.gone.items ≡ map (λ w. w.object) (drop tables.now.reported tables.now.withdrawn.items)) }
-    ensures room { IfOk result (λ x. vec_len x.1.gone + length x.0.doubtful.items ≤ vec_capacity x.1.gone) }
-    ensures spare { IfOk result (λ x. noted ≡ true → vec_len x.1.gone + length x.0.doubtful.items ≤ vec_capacity x.1.spare) }
-    ensures refusal { Agrees (await_refusal now tables.now.exports.rows tables.now.exports.waits stood effective ask.now) result }
+        (taken_by tables.now.exports.waits (id_at tables.now.config.uid tables.now.added) stood
+        x.0.references.items ask.now) x.0.doubtful.items) }
+    ensures gone { IfOk result (λ x. x.1.gone.items
+        ≡ map (λ w. w.object) (drop tables.now.reported tables.now.withdrawn.items)) }
+    ensures room { IfOk result
+        (λ x. vec_len x.1.gone + length x.0.doubtful.items ≤ vec_capacity x.1.gone) }
+    ensures spare { IfOk result (λ x. noted ≡ true
+        → vec_len x.1.gone + length x.0.doubtful.items ≤ vec_capacity x.1.spare) }
+    ensures refusal { Agrees
+        (await_refusal now tables.now.exports.rows tables.now.exports.waits stood effective ask.now)
+        result }
 {
     let listed = listed_by(tables, stood, effective, now, ask)?;
     let untold = untold_with(tables, noted, listed.doubtful.len())?;
@@ -241,10 +266,15 @@ fn listed_by(
     ask: &Ask,
 ) -> Result<Listed, Refused>
     requires countable { tables.now.added + opens effective ask.now < END_OF_OBJECT_COUNT }
-    ensures references { IfOk result (λ l. l.references.items ≡ returned_by tables.now.config.uid tables.now.added tables.now.exports.rows stood effective ask.now) }
+    ensures references { IfOk result (λ l. l.references.items
+        ≡ returned_by tables.now.config.uid tables.now.added tables.now.exports.rows stood effective
+        ask.now) }
     ensures doubtful { IfOk result (λ l. AreInDoubt tables.now.leases now tables.now.exports.waits
-        (taken_by tables.now.exports.waits (id_at tables.now.config.uid tables.now.added) stood l.references.items ask.now) l.doubtful.items) }
-    ensures refusal { Agrees (await_refusal now tables.now.exports.rows tables.now.exports.waits stood effective ask.now) result }
+        (taken_by tables.now.exports.waits (id_at tables.now.config.uid tables.now.added) stood
+        l.references.items ask.now) l.doubtful.items) }
+    ensures refusal { Agrees
+        (await_refusal now tables.now.exports.rows tables.now.exports.waits stood effective ask.now)
+        result }
 {
     let alloc = tables.alloc;
     let exports = &tables.exports;
@@ -280,7 +310,8 @@ fn listed_by(
 fn untold_with(tables: &Tables, noted: bool, most: usize) -> Result<Untold, AllocError>
     requires told { tables.now.withdrawn.told ≤ tables.now.reported }
     requires reported { tables.now.reported ≤ length tables.now.withdrawn.items }
-    ensures gone { IfOk result (λ u. u.gone.items ≡ map (λ w. w.object) (drop tables.now.reported tables.now.withdrawn.items)) }
+    ensures gone { IfOk result (λ u.
+        u.gone.items ≡ map (λ w. w.object) (drop tables.now.reported tables.now.withdrawn.items)) }
     ensures room { IfOk result (λ u. vec_len u.gone + most ≤ vec_capacity u.gone) }
     ensures spare { IfOk result (λ u. noted ≡ true → vec_len u.gone + most ≤ vec_capacity u.spare) }
 {

@@ -36,8 +36,10 @@ pub(crate) fn returned_objects(
     ask: &Ask,
 ) -> Result<Vec<ObjId>, Refused>
     requires { k + opens effective ask.now < END_OF_OBJECT_COUNT }
-    ensures objects { IfOk result (λ objects. objects.items ≡ returned_by space k exports.now.rows stood effective ask.now) }
-    ensures refusal { Agrees (await_refusal now exports.now.rows exports.now.waits stood effective ask.now) result }
+    ensures objects { IfOk result
+        (λ objects. objects.items ≡ returned_by space k exports.now.rows stood effective ask.now) }
+    ensures refusal { Agrees
+        (await_refusal now exports.now.rows exports.now.waits stood effective ask.now) result }
 {
     match ask {
         Ask::Finish {
@@ -66,7 +68,8 @@ fn of_lookup(
     uid: &Uid,
 ) -> Result<Vec<ObjId>, Refused>
     ensures objects { IfOk result (λ objects. objects.items ≡ option_to_list stood) }
-    ensures refusal { Agrees (return_refusal now uid.now 0 (option_to_list stood) exports.now.waits) result }
+    ensures refusal { Agrees (return_refusal now uid.now 0 (option_to_list stood) exports.now.waits)
+        result }
 {
     let found = list_of(alloc, stood)?;
     if is_past(alloc, exports, now, uid, 0, &found) {
@@ -75,6 +78,7 @@ fn of_lookup(
     Ok(found)
 }
 
+/// Returns the list of an object, or of none.
 pub(crate) fn list_of(alloc: Global, object: Option<ObjId>) -> Result<Vec<ObjId>, AllocError>
     ensures { IfOk result (λ objects. objects.items ≡ option_to_list object) }
 {
@@ -96,7 +100,8 @@ fn of_return(
     uid: &Uid,
 ) -> Result<Vec<ObjId>, Refused>
     requires { k + length made.now < END_OF_OBJECT_COUNT }
-    ensures objects { IfOk result (λ objects. objects.items ≡ new_ids space k made.now ++ filter (is_exported exports.now.rows) listed.now) }
+    ensures objects { IfOk result (λ objects. objects.items
+        ≡ new_ids space k made.now ++ filter (is_exported exports.now.rows) listed.now) }
     ensures refusal { let live = filter (is_exported exports.now.rows) listed.now in
         Agrees (return_refusal now uid.now (length made.now) live exports.now.waits) result }
 {
@@ -151,7 +156,8 @@ fn is_past(
     made: usize,
     live: &[ObjId],
 ) -> bool
-    ensures { result ≡ nat_lt MAX_AWAITING (awaiting_after now uid.now made live.now exports.now.waits) }
+    ensures { result ≡ nat_lt MAX_AWAITING
+        (awaiting_after now uid.now made live.now exports.now.waits) }
 {
     let waiting = u128::from(exports.waiting_count(now)) + made as u128;
     let most = u128::from(MAX_AWAITING);
@@ -162,7 +168,9 @@ fn is_past(
 /// Returns the number of these objects, each counted once, that do not wait at a moment as listed in a return. It
 /// counts many with memory. Where there is none, it counts them one by one.
 fn new_waits(alloc: Global, exports: &Exports, now: u64, uid: &Uid, live: &[ObjId]) -> usize
-    ensures value { result ≡ length (filter (λ o. not (is_waiting now o uid.now exports.now.waits)) (distinct same_id live.now)) }
+    ensures value { result ≡ length
+        (filter (λ o. not (is_waiting now o uid.now exports.now.waits))
+        (distinct same_id live.now)) }
     ensures bound { result ≤ length live.now }
 {
     if live.len() > FEW {
@@ -178,7 +186,9 @@ fn new_waits(alloc: Global, exports: &Exports, now: u64, uid: &Uid, live: &[ObjI
 /// Returns the number of these objects, each counted once, that do not wait at a moment as listed in a return. It
 /// compares each with all that follow.
 fn counted_one_by_one(exports: &Exports, now: u64, uid: &Uid, live: &[ObjId]) -> usize
-    ensures value { result ≡ length (filter (λ o. not (is_waiting now o uid.now exports.now.waits)) (distinct same_id live.now)) }
+    ensures value { result ≡ length
+        (filter (λ o. not (is_waiting now o uid.now exports.now.waits))
+        (distinct same_id live.now)) }
     ensures bound { result ≤ length live.now }
 {
     let mut count = 0;
@@ -199,7 +209,9 @@ fn counted_with_memory(
     uid: &Uid,
     live: &[ObjId],
 ) -> Result<usize, AllocError>
-    ensures value { IfOk result (λ count. count ≡ length (filter (λ o. not (is_waiting now o uid.now exports.now.waits)) (distinct same_id live.now))) }
+    ensures value { IfOk result (λ count. count ≡ length
+        (filter (λ o. not (is_waiting now o uid.now exports.now.waits))
+        (distinct same_id live.now))) }
     ensures bound { IfOk result (λ count. count ≤ length live.now) }
 {
     let mut seen = IndexSet::new(alloc);
@@ -216,7 +228,9 @@ fn counted_from_last(
     live: &[ObjId],
 ) -> Result<usize, AllocError>
     requires { (o : ObjId) → contains same_key seen.old o ≡ false }
-    ensures value { IfOk result (λ count. count ≡ length (filter (λ o. not (is_waiting now o uid.now exports.now.waits)) (distinct same_id live.now))) }
+    ensures value { IfOk result (λ count. count ≡ length
+        (filter (λ o. not (is_waiting now o uid.now exports.now.waits))
+        (distinct same_id live.now))) }
     ensures bound { IfOk result (λ count. count ≤ length live.now) }
 {
     let mut count = 0;
@@ -238,8 +252,13 @@ fn is_first_new_wait(
     uid: &Uid,
     object: &ObjId,
 ) -> Result<bool, AllocError>
-    ensures value { IfOk result (λ first. first ≡ (not (contains same_key seen.old object.now) && not (is_waiting now object.now uid.now exports.now.waits))) }
-    ensures seen { OnOk result ((o : ObjId) → contains same_key seen.new o ≡ cond (same_key object.now o) true (contains same_key seen.old o)) }
+    ensures value { IfOk result (λ first. first
+        ≡ (not (contains same_key seen.old object.now)
+        && not (is_waiting now object.now uid.now exports.now.waits))) }
+    ensures seen { OnOk result
+        ((o : ObjId)
+        → contains same_key seen.new o
+        ≡ cond (same_key object.now o) true (contains same_key seen.old o)) }
 {
     let is_new = seen.insert(*object)?;
     Ok(is_new && !exports.is_waiting(*object, *uid, now))
@@ -247,7 +266,9 @@ fn is_first_new_wait(
 
 /// Returns whether an object does not wait at a moment as listed in a return, and is none of the others.
 fn is_new_wait(exports: &Exports, now: u64, uid: &Uid, object: &ObjId, others: &[ObjId]) -> bool
-    ensures { result ≡ (not (list_any (same_id object.now) others.now) && not (is_waiting now object.now uid.now exports.now.waits)) }
+    ensures { result
+        ≡ (not (list_any (same_id object.now) others.now)
+        && not (is_waiting now object.now uid.now exports.now.waits)) }
 {
     !is_among(object, others) && !exports.is_waiting(*object, *uid, now)
 }

@@ -20,7 +20,8 @@ pub(crate) fn room_for_all(
 ) -> Result<(), Refused>
     requires few_runs { length runs.old.items < 2 ^ 32 }
     requires few_opened { opened < 2 ^ 32 }
-    ensures event { OnOk result (length events.new.items + length runs.new.items + 2 ≤ events.new.capacity) }
+    ensures event { OnOk result
+        (length events.new.items + length runs.new.items + 2 ≤ events.new.capacity) }
     ensures spare { OnOk result (events.new.spare ≡ true) }
     ensures run { OnOk result (0 < runs.new.room) }
     ensures withdrawals { OnOk result (length withdrawn.new.items + objects ≤ withdrawn.new.room) }
@@ -44,7 +45,8 @@ pub(crate) fn room_for_all(
 /// Makes room for an event, for the events that end the calls that then run, and for a call that it starts.
 fn room_for_event(events: &mut SpaceEvents, runs: &mut Runs) -> Result<(), Refused>
     requires { length runs.old.items < 2 ^ 32 }
-    ensures event { OnOk result (length events.new.items + length runs.new.items + 2 ≤ events.new.capacity) }
+    ensures event { OnOk result
+        (length events.new.items + length runs.new.items + 2 ≤ events.new.capacity) }
     ensures spare { OnOk result (events.new.spare ≡ true) }
     ensures run { OnOk result (0 < runs.new.room) }
     ensures refusal { IfErr result (λ refused. refused ≡ OutOfMemory) }

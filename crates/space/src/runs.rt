@@ -174,7 +174,8 @@ fn raise(counts: &mut Counts, run: Run)
 fn lower(counts: &mut Counts, run: &Run) -> bool
     requires { ArePositive counts.old }
     ensures ended { result ≡ list_any (is_run run.now.by run.now.object) (all_calls counts.old) }
-    ensures rest { AreSame (all_calls counts.new) (without_first (is_run run.now.by run.now.object) (all_calls counts.old)) }
+    ensures rest { AreSame (all_calls counts.new)
+        (without_first (is_run run.now.by run.now.object) (all_calls counts.old)) }
     ensures positive { ArePositive counts.new }
 {
     match counts.get_index_of(run) {
@@ -190,7 +191,8 @@ fn lower(counts: &mut Counts, run: &Run) -> bool
 fn lower_at(counts: &mut Counts, at: usize)
     requires within { at < index_map_len counts.old }
     requires positive { ArePositive counts.old }
-    ensures rest { (e : Run × ℕ) → slice_get counts.old.entries at ≡ Some e → LacksOneOf e counts.old.entries counts.new.entries }
+    ensures rest { (e : Run × ℕ) → slice_get counts.old.entries at ≡ Some e
+        → LacksOneOf e counts.old.entries counts.new.entries }
     ensures positive { ArePositive counts.new }
 {
     let count = counts[at];

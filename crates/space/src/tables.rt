@@ -63,12 +63,15 @@ impl Tables {
     ) -> Result<(Turn, ObjIds), Refused>
         requires moment { moment < END_OF_TIME }
         requires whole { IsWhole self.old }
-        ensures taken { IfOk result (λ x. let e = event_of by moment ask.now in
-            Step self.old.config self.old.events.items e (Ok x.0) (self.old.events.items ++ e ∷ [])) }
+        ensures taken { IfOk result (λ x.
+            let e = event_of by moment ask.now in
+            Step self.old.config self.old.events.items e (Ok x.0)
+            (self.old.events.items ++ e ∷ [])) }
         ensures copy { IfOk result (λ x. noted ≡ true → x.1 ≡ x.0.gone) }
         ensures refused { IfErr result (λ refused. let e = event_of by moment ask.now in
             Step self.old.config self.old.events.items e (Err refused) self.old.events.items) }
-        ensures with_event { OnOk result (IsWholeWith self.new (self.new.events.items ++ event_of by moment ask.now ∷ [])) }
+        ensures with_event { OnOk result
+            (IsWholeWith self.new (self.new.events.items ++ event_of by moment ask.now ∷ [])) }
         ensures whole { OnErr result (IsWhole self.new) }
         ensures events { self.new.events.items ≡ self.old.events.items }
         ensures spare { OnOk result (self.new.events.spare ≡ true) }
@@ -111,9 +114,11 @@ impl Tables {
     ) -> (Turn, ObjIds)
         requires ready { IsReady self.old (event_of by moment ask.now) admitted ready noted }
         ensures taken { let e = event_of by moment ask.now in
-            Step self.old.config self.old.events.items e (Ok result.0) (self.old.events.items ++ e ∷ []) }
+            Step self.old.config self.old.events.items e (Ok result.0)
+            (self.old.events.items ++ e ∷ []) }
         ensures copy { noted ≡ true → result.1 ≡ result.0.gone }
-        ensures with_event { IsWholeWith self.new (self.new.events.items ++ event_of by moment ask.now ∷ []) }
+        ensures with_event { IsWholeWith self.new
+            (self.new.events.items ++ event_of by moment ask.now ∷ []) }
         ensures events { self.new.events ≡ self.old.events }
         ensures config { self.new.config ≡ self.old.config }
     {

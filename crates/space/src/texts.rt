@@ -44,7 +44,8 @@ pub fn standing(alloc: Global, space: &Space) -> Result<ByteList, AllocError>
 /// Appends the outline of a space.
 fn put_outline(alloc: Global, text: &mut ByteList, space: &Space) -> Result<(), AllocError>
     requires stored { space.now.configuration.stored ≡ true }
-    ensures { OnOk result (text.new ≡ text.old ++ lines.outline space.now.configuration space.now.events) }
+    ensures { OnOk result
+        (text.new ≡ text.old ++ lines.outline space.now.configuration space.now.events) }
 {
     put_standing(alloc, text, space)?;
     put_withdrawals(text, &space.tables.config, &space.tables.withdrawn)
@@ -52,7 +53,8 @@ fn put_outline(alloc: Global, text: &mut ByteList, space: &Space) -> Result<(), 
 
 /// Appends the outline of a space without its withdrawals.
 fn put_standing(alloc: Global, text: &mut ByteList, space: &Space) -> Result<(), AllocError>
-    ensures { OnOk result (text.new ≡ text.old ++ standing space.now.configuration space.now.events) }
+    ensures { OnOk result
+        (text.new ≡ text.old ++ standing space.now.configuration space.now.events) }
 {
     put_events_line(
         text,
@@ -81,9 +83,12 @@ fn put_exports(
     exports: &Exports,
     now: u64,
 ) -> Result<(), AllocError>
-    ensures { OnOk result (ForEachLog leases.now (λ lease moment calls.
+    ensures { OnOk result
+        (ForEachLog leases.now (λ lease moment calls.
         let rows = map (row_at now exports.now.waits) exports.now.rows in
-        text.new ≡ text.old ++ flat_map (λ x. lines.object_line config.now (held_row lease (max now moment) calls x)) rows)) }
+        text.new
+        ≡ text.old ++ flat_map
+        (λ x. lines.object_line config.now (held_row lease (max now moment) calls x)) rows)) }
 {
     let rows = exports.rows(alloc, now)?;
     put_objects(text, config, leases, now, rows.as_slice())
@@ -97,8 +102,11 @@ fn put_objects(
     now: u64,
     objects: &[ExportRow],
 ) -> Result<(), AllocError>
-    ensures { OnOk result (ForEachLog leases.now (λ lease moment calls.
-        text.new ≡ text.old ++ flat_map (λ x. lines.object_line config.now (held_row lease (max now moment) calls x)) objects.now)) }
+    ensures { OnOk result
+        (ForEachLog leases.now (λ lease moment calls. text.new
+        ≡ text.old ++ flat_map
+        (λ x. lines.object_line config.now (held_row lease (max now moment) calls x))
+        objects.now)) }
 {
     for object in objects {
         let row = row_of(leases, now, object);
@@ -109,7 +117,8 @@ fn put_objects(
 
 /// Returns the outline's row of an exported object.
 fn row_of(leases: &Leases, now: u64, object: &ExportRow) -> ObjectRow
-    ensures { ForEachLog leases.now (λ lease moment calls. result ≡ held_row lease (max now moment) calls object.now) }
+    ensures { ForEachLog leases.now
+        (λ lease moment calls. result ≡ held_row lease (max now moment) calls object.now) }
 {
     ObjectRow {
         object: object.id,
@@ -129,8 +138,9 @@ fn put_leases(
     leases: &Leases,
     now: u64,
 ) -> Result<(), AllocError>
-    ensures { OnOk result (ForEachLog leases.now (λ lease moment calls.
-        text.new ≡ text.old ++ flat_map lines.lease_line (lease_rows lease (max now moment) calls))) }
+    ensures { OnOk result
+        (ForEachLog leases.now (λ lease moment calls. text.new
+        ≡ text.old ++ flat_map lines.lease_line (lease_rows lease (max now moment) calls))) }
 {
     let rows = leases.clients(alloc, now)?;
     put_rows(text, rows.as_slice())
@@ -179,7 +189,8 @@ fn put_withdrawals(
     withdrawn: &Withdrawals,
 ) -> Result<(), AllocError>
     requires { withdrawn.now.told ≡ 0 }
-    ensures { OnOk result (text.new ≡ text.old ++ flat_map (lines.withdrawal_line config.now) withdrawn.now.items) }
+    ensures { OnOk result
+        (text.new ≡ text.old ++ flat_map (lines.withdrawal_line config.now) withdrawn.now.items) }
 {
     for k in 0..withdrawn.len() {
         let withdrawal = withdrawn.get(k);

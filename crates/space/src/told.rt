@@ -31,7 +31,8 @@ impl Model for ToldWithdrawals {
 
     ghost view = { λ t. flat_map batch_withdrawals t.batches.items };
 
-    ghost invariant = { λ t. (t.count ≡ length (flat_map batch_withdrawals t.batches.items)) × (t.count ≤ 2 ^ 62) };
+    ghost invariant = { λ t. (t.count ≡ length (flat_map batch_withdrawals t.batches.items))
+        × (t.count ≤ 2 ^ 62) };
 }
 
 impl ToldWithdrawals {

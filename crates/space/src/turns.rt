@@ -25,8 +25,9 @@ use std::fmt;
 use std::marker::Model;
 
 /// A space of exported objects. Contracts see it as a `SpaceHistory`: its configuration, the list of the events that it took, the oldest
-/// first, whether they are stored or exist in proofs alone, and the rows of its export table, one for each object that is exported. All else that it answers follows from these.
+/// first, and the rows of its export table, one for each exported object. All else that it answers follows from these.
 pub struct Space {
+    /// The tables that answer its turns.
     pub(crate) tables: Tables,
 }
 
@@ -63,9 +64,8 @@ impl Model for Space {
 }
 
 impl Space {
-    /// The space without events. Its leases and its times to acknowledge last from 1 to 2^40 milliseconds. Whether it keeps its events, and the
-    /// withdrawals that it told as gone, the configuration says in `stored`. A space that doesn't takes no memory for them: they exist in proofs
-    /// alone.
+    /// Returns the space without events. Its leases and its times to acknowledge last from 1 to 2^40 milliseconds. The configuration's `stored` says
+    /// whether the space keeps its events, and the withdrawals that it reported as gone. If not, they exist in proofs alone and take no memory.
     pub fn fresh(alloc: Global, config: &SpaceConfig) -> Space
         requires some_lease { 1 ≤ config.now.lease_ms }
         requires short_lease { config.now.lease_ms ≤ MAX_DURATION_MS }
@@ -97,16 +97,21 @@ impl Space {
     /// this order, exactly where the entries of these tables would. OutOfMemory may come in place of any answer.
     pub fn turn(&mut self, by: u32, moment: u64, ask: Ask) -> Result<Turn, Refused>
         requires moment { moment < END_OF_TIME }
-        ensures step { Step self.old.configuration self.old.events (record { by = by; moment = moment; ask = ask }) result self.new.events }
+        ensures step { Step self.old.configuration self.old.events
+            (record { by = by; moment = moment; ask = ask }) result self.new.events }
 
         // Of the objects that were exported, and of those that the event exports, the space keeps what there is a reason to keep, and the
         // rest is withdrawn.
-        ensures collector { OnOk result (Collects self.old.configuration self.old.events self.old.rows (event_of by moment ask) self.new.events self.new.rows) }
+        ensures collector { OnOk result
+            (Collects self.old.configuration self.old.events self.old.rows (event_of by moment ask)
+            self.new.events self.new.rows) }
         ensures config { self.new.configuration ≡ self.old.configuration }
         ensures err { OnErr result (self.new ≡ self.old) }
 
         // The answer is one that its ask may have.
-        ensures row { IsAnswerTo (λ o. 0 < running_calls_by (places self.old.configuration self.old.events) by o) ask result }
+        ensures row { IsAnswerTo
+            (λ o. 0 < running_calls_by (places self.old.configuration self.old.events) by o) ask
+            result }
     {
         let _count = self.tables.names.len();
         match self.turn_with(by, moment, ask, false) {
@@ -125,9 +130,12 @@ impl Space {
         noted: bool,
     ) -> Result<(Turn, ObjIds), Refused>
         requires moment { moment < END_OF_TIME }
-        ensures step { Step self.old.configuration self.old.events (event_of by moment ask) (turn_answer result) self.new.events }
+        ensures step { Step self.old.configuration self.old.events (event_of by moment ask)
+            (turn_answer result) self.new.events }
         ensures copy { IfOk result (λ x. noted ≡ true → x.1 ≡ x.0.gone) }
-        ensures collector { OnOk result (Collects self.old.configuration self.old.events self.old.rows (event_of by moment ask) self.new.events self.new.rows) }
+        ensures collector { OnOk result
+            (Collects self.old.configuration self.old.events self.old.rows (event_of by moment ask)
+            self.new.events self.new.rows) }
         ensures config { self.new.configuration ≡ self.old.configuration }
         ensures err { OnErr result (self.new ≡ self.old) }
     {
@@ -160,7 +168,8 @@ impl Space {
 
     /// Returns the number of calls of an object that a connection runs.
     pub fn running(&self, by: u32, object: ObjId) -> u32
-        ensures { result ≡ running_calls_by (places self.now.configuration self.now.events) by object }
+        ensures { result ≡ running_calls_by (places self.now.configuration self.now.events) by
+            object }
     {
         self.tables.runs.count(by, &object) as u32
     }
@@ -170,8 +179,10 @@ impl Space {
     pub fn len(&self) -> u64
         ensures value { result ≡ length self.now.events }
         ensures legal { IsLegal self.now.configuration self.now.events }
-        ensures rows { self.now.rows ≡ table self.now.configuration (places self.now.configuration self.now.events) }
-        ensures early { place_words.now (places self.now.configuration self.now.events) < END_OF_TIME }
+        ensures rows { self.now.rows
+            ≡ table self.now.configuration (places self.now.configuration self.now.events) }
+        ensures early { place_words.now (places self.now.configuration self.now.events)
+            < END_OF_TIME }
     {
         self.tables.events.len() as u64
     }

@@ -108,7 +108,8 @@ impl Withdrawals {
     ) -> Result<Vec<ObjId>, AllocError>
         requires told { self.now.told ≤ reported }
         requires within { reported ≤ length self.now.items }
-        ensures items { IfOk result (λ gone. gone.items ≡ map (λ w. w.object) (drop reported self.now.items)) }
+        ensures items { IfOk result
+            (λ gone. gone.items ≡ map (λ w. w.object) (drop reported self.now.items)) }
         ensures room { IfOk result (λ gone. vec_len gone + more ≤ vec_capacity gone) }
     {
         let mut gone = rest_of(alloc, &self.objects, reported - self.told.len())?;
@@ -120,7 +121,8 @@ impl Withdrawals {
     pub fn note(&mut self, gone: &[ObjId], from: usize, place: u64)
         requires within { from ≤ length gone.now }
         requires room { length self.old.items + length (drop from gone.now) ≤ self.old.room }
-        ensures items { self.new.items ≡ self.old.items ++ map (withdrawal_at place) (drop from gone.now) }
+        ensures items { self.new.items
+            ≡ self.old.items ++ map (withdrawal_at place) (drop from gone.now) }
         ensures room { self.old.room ≤ self.new.room }
         ensures told { self.new.told ≡ self.old.told }
     {
@@ -152,16 +154,20 @@ impl Withdrawals {
             let held = held_by lease (max now moment) calls in
             let rows = filter (is_row_kept now held exports.old.waits) exports.old.rows in
             let waits = still_waiting now exports.old.waits in
-            exports.new ≡ record exports.old { rows = rows; waits = waits; room = exports.new.room }) }
+            exports.new
+            ≡ record exports.old { rows = rows; waits = waits; room = exports.new.room }) }
         ensures gone { ForEachLog leases.old (λ lease moment calls.
             let held = held_by lease (max now moment) calls in
-            gone.new.items ≡ gone.old.items ++ withdrawn_ids now held exports.old.waits exports.old.rows) }
+            gone.new.items
+            ≡ gone.old.items ++ withdrawn_ids now held exports.old.waits exports.old.rows) }
         ensures dropped { ForEachLog leases.old (λ lease moment calls.
             let held = held_by lease (max now moment) calls in
             let dropped = withdrawn_ids now held exports.old.waits exports.old.rows in
             StandsFor lease leases.new moment (map (without_all dropped) calls)) }
         ensures few { length gone.new.items ≤ length gone.old.items + length doubtful.now }
-        ensures noted { self.new.items ≡ self.old.items ++ map (withdrawal_at place) (drop (length gone.old.items) gone.new.items) }
+        ensures noted { self.new.items
+            ≡ self.old.items
+            ++ map (withdrawal_at place) (drop (length gone.old.items) gone.new.items) }
         ensures room { self.old.room ≤ self.new.room }
         ensures told { self.new.told ≡ self.old.told }
     {
@@ -191,8 +197,11 @@ impl Withdrawals {
             let held = held_by lease (max now moment) calls in
             let rows = filter (is_row_kept now held exports.old.waits) exports.old.rows in
             let waits = still_waiting now exports.old.waits in
-            exports.new ≡ record exports.old { rows = rows; waits = waits; room = exports.new.room }) }
-        ensures goes { (gone : List ObjId) × (self.new.items ≡ self.old.items ++ map (withdrawal_at place) gone) × ForEachLog leases.old (λ lease moment calls.
+            exports.new
+            ≡ record exports.old { rows = rows; waits = waits; room = exports.new.room }) }
+        ensures goes { (gone : List ObjId)
+            × (self.new.items ≡ self.old.items ++ map (withdrawal_at place) gone)
+            × ForEachLog leases.old (λ lease moment calls.
             let held = held_by lease (max now moment) calls in
             gone ≡ withdrawn_ids now held exports.old.waits exports.old.rows) }
         ensures dropped { ForEachLog leases.old (λ lease moment calls.

@@ -1,5 +1,5 @@
 -- An object has as many parts as its class's chain has descriptions.
-use Rattle.std.proofs.Common.{◌≡◌, ◌⊎◌, ◌&&◌, ◌||◌, not, ℕ, zero, suc, ◌-◌, ◌≤◌, Bool, true, false, List, [], ◌∷◌, length, Option, Some, slice_get, refl, ap, arith, inl, inr}
+use Rattle.std.proofs.Common.{◌≡◌, ◌⊎◌, ◌&&◌, ◌||◌, not, ℕ, zero, suc, ◌≤◌, Bool, true, false, List, [], ◌∷◌, length, Option, Some, slice_get, refl, ap, arith, inl, inr}
 use Rattle.std.specs.Prelude.{is_some}
 use Rattle.std.proofs.lemmas.Bool.{and_parts}
 use Rattle.class_desc.specs.declared.slot.Slot.{Slot}
@@ -15,6 +15,7 @@ use Rattle.ser_values.specs.Numbered.{IsGraph}
 use Rattle.ser_values.specs.Shape.{fits_part, fits_above, fits_chain, is_external, fits_object, is_shaped}
 use Rattle.stream_grammar.proofs.Mirror.{parts_room}
 use Rattle.stream_grammar.proofs.Shaped.{graph_shaped}
+use Rattle.stream_grammar.proofs.Sizes.{sizes_len}
 
 up_len : (above : Slot → Bool) (up : Slot → List ℕ) (n k : ℕ) → ((s : Slot) → above s ≡ true → length (up s) ≡ n) → (o : Option Part) (i : Option Node) → fits_above above o i ≡ true → length (up_from up k i) ≡ suc n
 up_len above up n k f o (Some (Desc d)) h =
@@ -54,6 +55,7 @@ unfolding is_shaped
 parts_by_chain nodes items g number class parts is =
     let room = parts_room nodes number (Object class parts) is in
     let all = g.few_parts in
+    let lens = sizes_len parts in
     elim (object_is (slice_get nodes class) parts (fits_chain nodes parts (length parts) (slots.Node class)) (graph_shaped nodes items g number (Object class parts) is)) [
       | inl fits ↦ inl (chain_len nodes parts (length parts) 1048576 (slots.Node class) (omega arith) fits)
       | inr other ↦ inr other

@@ -26,6 +26,7 @@ use Rattle.stream_grammar.proofs.Plains.{units_are, number_back_32, short_back, 
 use Rattle.stream_grammar.proofs.Steps.{ReadsIn, IsComplete, spells_one}
 use Rattle.stream_grammar.proofs.Notes.{items_reads}
 use Rattle.stream_grammar.proofs.Objects.{object_row, external_row}
+use Rattle.stream_grammar.proofs.Sizes.{sizes_len}
 use Rattle.stream_grammar.proofs.Constructs.{text_reads, desc_reads}
 use Rattle.stream_grammar.proofs.Classes.{proxy_reads, class_reads, object_reads, array_reads, class_of_reads, enum_reads}
 
@@ -151,19 +152,20 @@ fresh_reads F given S inner complete begin sh end at unread k i code bs ts now b
     let n = length now.nodes in
     let e : k ≡ n = h1.1 in
     let g = subst (λ (l : List ℕ). SpellsAll (S (inside unread n (Proxy p))) (proxy_tokens p) (suc n) l rest m) (sym h1.0) (after_at S unread (Proxy p) (proxy_tokens p) n k b1 rest m e h2) in
-    at_number F unread now n k rest m _ e (proxy_reads F S inner complete begin unread sh end p shaped (units_in F given.units k (Proxy p) is) now b rest m (here_at F (Proxy p) n k e is) g ready)
+    at_number F unread now n k rest m _ e (proxy_reads F S inner complete begin unread sh end at p shaped (units_in F given.units k (Proxy p) is) now b rest m (here_at F (Proxy p) n k e is) g ready)
 fresh_reads F given S inner complete begin sh end at unread k i code bs ts now b b1 rest m is few shaped (an_object c ps chained) h1 h2 ready =
     class_reads F S inner complete unread at (object_at end at (inner places.Reference unread)) c k (slots.Node k) now b b1 rest m h1 few ready (λ later len r up. (
     let e : k ≡ length later.nodes = sym len in
     let room = parts_room F k (Object c ps) is in
     let all = given.parts in
+    let lens = sizes_len ps in
     let row = object_row F later.nodes c ps up (omega arith) chained shaped in
-    at_number F unread later (length later.nodes) k rest m _ e (object_reads F S inner complete begin unread (sh unread) end at c ps (part_tokens (writers F (length ps) (slots.Node c)) ps) later b1 rest m row given.parts (node_fits F given.numbers k (Object c ps) is) (here_at F (Object c ps) (length later.nodes) k e is) (after_at S unread (Object c ps) (part_tokens (writers F (length ps) (slots.Node c)) ps) (length later.nodes) k b1 rest m e h2) r)))
+    at_number F unread later (length later.nodes) k rest m _ e (object_reads F S inner complete begin unread (sh unread) end at c ps (part_tokens (writers F (length ps) (slots.Node c)) ps) later b1 rest m row (node_fits F given.numbers k (Object c ps) is) (here_at F (Object c ps) (length later.nodes) k e is) (after_at S unread (Object c ps) (part_tokens (writers F (length ps) (slots.Node c)) ps) (length later.nodes) k b1 rest m e h2) r)))
 fresh_reads F given S inner complete begin sh end at unread k i code bs ts now b b1 rest m is few shaped (an_external c p d is_class external none) h1 h2 ready =
     class_reads F S inner complete unread at (object_at end at (inner places.Reference unread)) c k (slots.Node k) now b b1 rest m h1 few ready (λ later len r up. (
     let e : k ≡ length later.nodes = sym len in
     let row = external_row F later.nodes c p d up is_class external none shaped in
-    at_number F unread later (length later.nodes) k rest m _ e (object_reads F S inner complete begin unread (sh unread) end at c (p ∷ []) (note p.note ∷ []) later b1 rest m row given.parts (node_fits F given.numbers k (Object c (p ∷ [])) is) (here_at F (Object c (p ∷ [])) (length later.nodes) k e is) (after_at S unread (Object c (p ∷ [])) (note p.note ∷ []) (length later.nodes) k b1 rest m e h2) r)))
+    at_number F unread later (length later.nodes) k rest m _ e (object_reads F S inner complete begin unread (sh unread) end at c (p ∷ []) (note p.note ∷ []) later b1 rest m row (node_fits F given.numbers k (Object c (p ∷ [])) is) (here_at F (Object c (p ∷ [])) (length later.nodes) k e is) (after_at S unread (Object c (p ∷ [])) (note p.note ∷ []) (length later.nodes) k b1 rest m e h2) r)))
 fresh_reads F given S inner complete begin sh end at unread k i code bs ts now b b1 rest m is few shaped (an_array c v) h1 h2 ready =
     class_reads F S inner complete unread at (array_at end at (inner places.Reference unread)) c k (slots.Node k) now b b1 rest m h1 few ready (λ later len r up. (
     let e : k ≡ length later.nodes = sym len in
@@ -269,11 +271,12 @@ magic_read end contents = refl
 pub stream_complete : (nodes : List Node) (items : List Item) (bytes : List ℕ) → IsStream nodes items bytes → stream_of bytes ≡ Ok (nodes, items)
 unfolding stream_of has parts_in
 stream_complete F is bytes h =
-    let given : Given F = record { few = stream_few F is bytes h; parts = h.few_parts; numbers = h.numbers; units = h.units } in
+    let limit = h.few_parts in
+    let given : Given F = record { few = stream_few F is bytes h; parts = omega arith; numbers = h.numbers; units = h.units } in
     let end = length bytes in
     let start : Progress = record { nodes = []; parts = 0 } in
-    let ready : Ready F [] start = record { parts = refl; below = λ k e. absurd cc; known = λ k i lt e is d. absurd (omega arith); texts = λ k i lt is t. absurd (omega arith) } in
+    let ready : Ready F [] start = record { few = omega arith; below = λ k e. absurd cc; known = λ k i lt e is d. absurd (omega arith); texts = λ k i lt is t. absurd (omega arith) } in
     let magic : magic_at end (0xAC ∷ 0xED ∷ 0x00 ∷ 0x05 ∷ []) bytes ≡ Ok h.contents = ap (magic_at end (0xAC ∷ 0xED ∷ 0x00 ∷ 0x05 ∷ [])) h.headed ∙ magic_read end h.contents in
-    let r = items_reads F (Spells F 200) (slot_at end 200) (slots_complete F given end 200) (spells_begin F 200) [] (spells_shrink F 200 []) end false is start h.contents [] [] (length F) h.spelled (refl, refl) ready in
+    let r = items_reads F (Spells F 200) (slot_at end 200) (slots_complete F given end 200) (spells_begin F 200) [] (spells_shrink F 200 []) end false is start h.contents [] [] (length F) h.spelled (refl, refl) ready (omega arith) in
     let same : F ≡ r.later.nodes = same_list F r.later.nodes (sym r.len) (λ k lt. r.after.agrees k (omega arith) (let e : length r.later.nodes ≡ length F = r.len in omega arith)) in
     rw magic (rw r.is (ap (λ (l : List Node). answer l is) (sym same)))

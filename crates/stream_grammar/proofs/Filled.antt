@@ -14,7 +14,7 @@ use Rattle.stream_grammar.specs.Reading.{Progress, push, fill}
 use Rattle.ser_values.proofs.Lists.{slice_get-append_seam, slice_get-set_other, length_push, fills, some_same, still_not}
 use Rattle.stream_grammar.proofs.Chains.{parent_of}
 use Rattle.stream_grammar.proofs.PlainSound.{AreBytes}
-use Rattle.stream_grammar.proofs.Solid.{WholeSlot, IsGood, Solid, Sees, Agrees, Got, Free, free_solid, Within, was_no, not_free}
+use Rattle.stream_grammar.proofs.Solid.{WholeSlot, IsGood, Solid, Sees, Agrees, GotBy, Got, Free, free_solid, Within, was_no, not_free}
 
 -- what stands of node n and the others, once n was written over
 record Filled (now last : Progress) (i j : Node) (added : List Node) : Type 0 where
@@ -49,8 +49,8 @@ carry unread now last i j added d kind f (slots.Node q) w =
     let ne = not_free unread (length now.nodes) q j w.node last.nodes d kind f.free w.read w.is w.desc in
     record { read = was_no unread (length now.nodes) q d w.read; node = w.node; is = f.same q ne ∙ w.is; desc = w.desc }
 
-pub got_filled : (unread : List ℕ) (now mid last : Progress) (rest : List ℕ) (P Q : List Node → Type 0) (i j : Node) (d : Bool) → Solid unread now → is_desc i ≡ d → is_text j ≡ false → Free unread now mid j d → Got (Within unread (length now.nodes) d) mid last rest P
-    → (is_desc i ≡ true → WholeSlot last.nodes (Within unread (length now.nodes) d) (parent_of (Some i))) → IsGood i → InRange i → mid.parts ≡ now.parts + parts_of i
+pub got_filled : {own : ℕ} (unread : List ℕ) (now mid last : Progress) (rest : List ℕ) (P Q : List Node → Type 0) (i j : Node) (d : Bool) → Solid unread now → is_desc i ≡ d → is_text j ≡ false → Free unread now mid j d → GotBy own (Within unread (length now.nodes) d) mid last rest P
+    → (is_desc i ≡ true → WholeSlot last.nodes (Within unread (length now.nodes) d) (parent_of (Some i))) → IsGood i → InRange i → mid.parts + own ≡ now.parts + parts_of i
     → ((F : List Node) → Sees F last.nodes (Within unread (length now.nodes) d) → slice_get F (length now.nodes) ≡ Some i → P F → Q F) → Got unread now (fill last (length now.nodes) i) rest Q
 unfolding parts_in
 got_filled unread now mid last rest P Q i j d solid kind blank_text free g up good ranged parts f =

@@ -13,6 +13,7 @@ pub mod Mirror
 pub mod Plains
 pub mod Steps
 pub mod Shrinks
+pub mod Sizes
 pub mod Notes
 pub mod Objects
 pub mod Constructs

@@ -1,6 +1,6 @@
 -- The nodes that were read so far, beside those of the whole graph.
-use Rattle.std.proofs.Common.{◌≡◌, ◌≢◌, ℕ, zero, suc, ◌+◌, ◌<◌, ◌≤◌, ◌⊎◌, Bool, true, false, cond, List, [], ◌∷◌, ◌++◌, length, take, Some, None, Option, Result, Ok, slice_get, refl, sym, ap, subst, ◌∙◌, arith, inl, inr}
-use Rattle.std.proofs.lemmas.Bool.{cases_lt, cases_eq}
+use Rattle.std.proofs.Common.{◌≡◌, ◌≢◌, ℕ, zero, suc, ◌+◌, ◌<◌, ◌≤◌, ◌⊎◌, Bool, true, false, cond, List, [], ◌∷◌, ◌++◌, length, drop, Some, None, Option, Result, Ok, slice_get, refl, sym, ap, subst, ◌∙◌, arith, inl, inr}
+use Rattle.std.proofs.lemmas.Bool.{cases_lt, cases_eq, le-ltb}
 use Rattle.class_desc.specs.declared.slot.Slot.{Slot}
 use Rattle.class_desc.specs.declared.slot.Slot.TheVariants as slots
 use Rattle.ser_values.specs.declared.node.Node.{Node}
@@ -9,7 +9,7 @@ use Rattle.ser_values.specs.declared.node.SlotPlace.{SlotPlace}
 use Rattle.ser_values.specs.declared.node.SlotPlace.TheVariants as places
 use Rattle.ser_values.specs.Node.{has, is_desc, is_text, inside}
 use Rattle.ser_values.specs.Shape.{parts_of, parts_in}
-use Rattle.stream_grammar.specs.Reading.{Fault, ◌>>=◌, Progress}
+use Rattle.stream_grammar.specs.Reading.{Fault, ◌>>=◌, Progress, add_parts, counting}
 use Rattle.ser_values.proofs.Lists.{slice_get-append_left, slice_get-append_seam, has-append_no, has-append_other, length_push, some_same, still_not}
 use Rattle.stream_grammar.proofs.Leading.{SameAbove, SameChain, SameUp}
 
@@ -46,23 +46,32 @@ Settled F N places.Text s = (k : ℕ) → s ≡ slots.Node k → slice_get F k �
 
 -- ---- states
 
+-- The parts that were counted, with those of the nodes to come.
+abbrev pub total : List Node → Progress → ℕ
+total F now = now.parts + parts_in (drop (length now.nodes) F)
+
 pub record Ready (F : List Node) (unread : List ℕ) (now : Progress) : Type 0 where
-  pub parts : now.parts ≡ parts_in (take (length now.nodes) F)
+  pub few : total F now ≤ 1048576
   pub below : (k : ℕ) → has unread k ≡ true → k < length now.nodes
   pub known : (k : ℕ) (i : Node) → k < length now.nodes → has unread k ≡ false → slice_get F k ≡ Some i → is_desc i ≡ true → SameUp F now.nodes (slots.Node k)
   pub texts : (k : ℕ) (i : Node) → k < length now.nodes → slice_get F k ≡ Some i → is_text i ≡ true → slice_get F k ≡ slice_get now.nodes k
 
-pub record After (F : List Node) (unread : List ℕ) (now later : Progress) : Type 0 where
+-- What was read has so many parts beside those of the nodes that it added.
+pub record AfterBy (own : ℕ) (F : List Node) (unread : List ℕ) (now later : Progress) : Type 0 where
   pub ordered : length now.nodes ≤ length later.nodes
   pub ready : Ready F unread later
   pub keeps : Keeps F now.nodes later.nodes
   pub agrees : (j : ℕ) → length now.nodes ≤ j → j < length later.nodes → slice_get F j ≡ slice_get later.nodes j
+  pub sum : total F later ≡ own + total F now
+
+abbrev pub After : List Node → List ℕ → Progress → Progress → Type 0
+After F unread now later = AfterBy 0 F unread now later
 
 pub after_none : (F : List Node) (unread : List ℕ) (now : Progress) → Ready F unread now → After F unread now now
-after_none F unread now r = record { ordered = omega arith; ready = r; keeps = λ j e. e; agrees = λ j low high. absurd (omega arith) }
+after_none F unread now r = record { ordered = omega arith; ready = r; keeps = λ j e. e; agrees = λ j low high. absurd (omega arith); sum = omega arith }
 
-pub after_two : (F : List Node) (unread : List ℕ) (a b c : Progress) → After F unread a b → After F unread b c → After F unread a c
-after_two F unread a b c p q = record {
+pub after_sum : {o r : ℕ} (own : ℕ) → own ≡ o + r → (F : List Node) (unread : List ℕ) (a b c : Progress) → AfterBy o F unread a b → AfterBy r F unread b c → AfterBy own F unread a c
+after_sum {o} {r} own e F unread a b c p q = record {
   ordered = let x = p.ordered in let y = q.ordered in omega arith;
   ready = q.ready;
   keeps = λ j e. q.keeps j (p.keeps j e);
@@ -70,14 +79,31 @@ after_two F unread a b c p q = record {
     | inl less ↦ q.keeps j (p.agrees j low less)
     | inr more ↦ q.agrees j more high
   ];
+  sum = let x = p.sum in let y = q.sum in omega arith;
 }
 
--- The reading gives this, with so many nodes then, and these bytes left.
-pub record Reads {A : Type 0} (F : List Node) (unread : List ℕ) (now : Progress) (x : A) (rest : List ℕ) (m : ℕ) (r : Result (A × Progress × List ℕ) Fault) : Type 0 where
+pub after_two : (F : List Node) (unread : List ℕ) (a b c : Progress) → After F unread a b → After F unread b c → After F unread a c
+after_two F unread a b c p q = after_sum 0 (omega arith) F unread a b c p q
+
+pub ready_add : (F : List Node) (unread : List ℕ) (now : Progress) (n : ℕ) → total F now + n ≤ 1048576 → Ready F unread now → Ready F unread (add_parts n now)
+ready_add F unread now n few r = record { few = omega arith; below = r.below; known = r.known; texts = r.texts }
+
+-- parts that are counted where they have room
+pub after_add : (F : List Node) (unread : List ℕ) (now : Progress) (n : ℕ) → total F now + n ≤ 1048576 → Ready F unread now → AfterBy n F unread now (add_parts n now)
+after_add F unread now n few r = record { ordered = omega arith; ready = ready_add F unread now n few r; keeps = λ j e. e; agrees = λ j low high. absurd (omega arith); sum = omega arith }
+
+pub counting_is : {A : Type 0} (F : List Node) (n at : ℕ) (now : Progress) (f : Progress → Result A Fault) → total F now + n ≤ 1048576 → counting n at now f ≡ f (add_parts n now)
+counting_is F n at now f few = rw (le-ltb 1048576 (now.parts + n) (omega arith)) refl
+
+-- The reading gives this, with so many nodes then, and these bytes left; it has so many parts beside those of its nodes.
+pub record ReadsBy {A : Type 0} (own : ℕ) (F : List Node) (unread : List ℕ) (now : Progress) (x : A) (rest : List ℕ) (m : ℕ) (r : Result (A × Progress × List ℕ) Fault) : Type 0 where
   pub later : Progress
   pub is : r ≡ Ok (x, later, rest)
   pub len : length later.nodes ≡ m
-  pub after : After F unread now later
+  pub after : AfterBy own F unread now later
+
+abbrev pub Reads : {A : Type 0} → List Node → List ℕ → Progress → A → List ℕ → ℕ → Result (A × Progress × List ℕ) Fault → Type 0
+Reads F unread now x rest m r = ReadsBy 0 F unread now x rest m r
 
 pub reads_done : {A : Type 0} (F : List Node) (unread : List ℕ) (now : Progress) (x : A) (rest : List ℕ) (m : ℕ) → m ≡ length now.nodes → Ready F unread now → Reads F unread now x rest m (Ok (x, now, rest))
 reads_done F unread now x rest m e r = record { later = now; is = refl; len = sym e; after = after_none F unread now r }
@@ -86,6 +112,14 @@ pub reads_then : {A B : Type 0} (F : List Node) (unread : List ℕ) (now : Progr
     → (h : Reads F unread now x b k r) → Reads F unread h.later y rest m (f (x, h.later, b)) → Reads F unread now y rest m (r >>= f)
 reads_then F unread now x b k r f y rest m h g = record { later = g.later; is = rw h.is g.is; len = g.len; after = after_two F unread now h.later g.later h.after g.after }
 
+pub reads_sum : {A B : Type 0} {o p : ℕ} (own : ℕ) → own ≡ o + p → (F : List Node) (unread : List ℕ) (now : Progress) (x : A) (b : List ℕ) (k : ℕ) (r : Result (A × Progress × List ℕ) Fault) (f : A × Progress × List ℕ → Result (B × Progress × List ℕ) Fault) (y : B) (rest : List ℕ) (m : ℕ)
+    → (h : ReadsBy o F unread now x b k r) → ReadsBy p F unread h.later y rest m (f (x, h.later, b)) → ReadsBy own F unread now y rest m (r >>= f)
+reads_sum own e F unread now x b k r f y rest m h g = record { later = g.later; is = rw h.is g.is; len = g.len; after = after_sum own e F unread now h.later g.later h.after g.after }
+
+pub reads_counting : {A : Type 0} {p : ℕ} (own n at : ℕ) → own ≡ n + p → (F : List Node) (unread : List ℕ) (now : Progress) (f : Progress → Result (A × Progress × List ℕ) Fault) (y : A) (rest : List ℕ) (m : ℕ) → total F now + n ≤ 1048576 → Ready F unread now
+    → ReadsBy p F unread (add_parts n now) y rest m (f (add_parts n now)) → ReadsBy own F unread now y rest m (counting n at now f)
+reads_counting own n at e F unread now f y rest m few r g = record { later = g.later; is = counting_is F n at now f few ∙ g.is; len = g.len; after = after_sum own e F unread now (add_parts n now) g.later (after_add F unread now n few r) g.after }
+
 -- ---- a node that gets a handle
 
 pub none_at_end : (N : List Node) (j : ℕ) → length N ≤ j → slice_get N j ≡ None
@@ -93,13 +127,17 @@ none_at_end [] j h = refl
 none_at_end (x ∷ N) zero h = absurd (omega arith)
 none_at_end (x ∷ N) (suc j) h = none_at_end N j (omega arith)
 
-parts_take : (F : List Node) (k : ℕ) (i : Node) → slice_get F k ≡ Some i → parts_in (take (suc k) F) ≡ parts_in (take k F) + parts_of i
+pub drop_parts : (F : List Node) (k : ℕ) (i : Node) → slice_get F k ≡ Some i → parts_in (drop k F) ≡ parts_of i + parts_in (drop (suc k) F)
 unfolding parts_in
-parts_take [] k i e = absurd cc
-parts_take (x ∷ F) zero i e = let same : x ≡ i = some_same x i e in rw same (omega arith)
-parts_take (x ∷ F) (suc k) i e = let more : parts_in (take (suc k) F) ≡ parts_in (take k F) + parts_of i = parts_take F k i e in omega arith
+drop_parts [] k i e = absurd cc
+drop_parts (x ∷ F) zero i e = let same : x ≡ i = some_same x i e in rw same refl
+drop_parts (x ∷ F) (suc k) i e = drop_parts F k i e
 
-pub parts_room : (F : List Node) (k : ℕ) (i : Node) → slice_get F k ≡ Some i → parts_in (take k F) + parts_of i ≤ parts_in F
+-- what counting the node's parts makes of it
+pub mid_total : (F : List Node) (now mid : Progress) (i : Node) → slice_get F (length now.nodes) ≡ Some i → length mid.nodes ≡ suc (length now.nodes) → total F mid + parts_of i + now.parts ≡ total F now + mid.parts
+mid_total F now mid i here len = let e = drop_parts F (length now.nodes) i here in let same : parts_in (drop (length mid.nodes) F) ≡ parts_in (drop (suc (length now.nodes)) F) = ap (λ k. parts_in (drop k F)) len in omega arith
+
+pub parts_room : (F : List Node) (k : ℕ) (i : Node) → slice_get F k ≡ Some i → parts_of i ≤ parts_in F
 unfolding parts_in
 parts_room [] k i e = absurd cc
 parts_room (x ∷ F) zero i e = let same : x ≡ i = some_same x i e in rw same (omega arith)
@@ -117,14 +155,14 @@ push_keeps F N i j here z e = elim (cases_lt z (length N)) [
       ]
 ]
 
-ready_desc : (F : List Node) (unread : List ℕ) (now later : Progress) (i j : Node) → Ready F unread now → slice_get F (length now.nodes) ≡ Some i → later.nodes ≡ now.nodes ++ j ∷ [] → later.parts ≡ now.parts + parts_of i → is_desc i ≡ true → is_text i ≡ false
+ready_desc : (F : List Node) (unread : List ℕ) (now later : Progress) (i j : Node) → Ready F unread now → slice_get F (length now.nodes) ≡ Some i → later.nodes ≡ now.nodes ++ j ∷ [] → later.parts ≤ now.parts + parts_of i → is_desc i ≡ true → is_text i ≡ false
     → Ready F (unread ++ length now.nodes ∷ []) later
 ready_desc F unread now later i j r here grown parts d t =
     let k = length now.nodes in
     let len : length later.nodes ≡ suc k = ap (λ (N : List Node). length N) grown ∙ length_push now.nodes j in
     let keeps : Keeps F now.nodes later.nodes = rw grown (push_keeps F now.nodes i j here) in
     record {
-      parts = rw (parts, len) (ap (λ n. n + parts_of i) r.parts ∙ sym (parts_take F k i here));
+      few = let t = mid_total F now later i here len in let few = r.few in omega arith;
       below = λ z h. elim (cases_lt z k) [
         | inl less ↦ omega arith
         | inr more ↦ elim (cases_eq z k) [
@@ -150,14 +188,14 @@ ready_desc F unread now later i j r here grown parts d t =
         go true e = inl e
         go false e = absurd (let no_one : has (unread ++ length now.nodes ∷ []) z ≡ false = has-append_other unread (length now.nodes) z e other in cc)
 
-ready_other : (F : List Node) (unread : List ℕ) (now later : Progress) (i j : Node) → Ready F unread now → slice_get F (length now.nodes) ≡ Some i → later.nodes ≡ now.nodes ++ j ∷ [] → later.parts ≡ now.parts + parts_of i → is_desc i ≡ false → (is_text i ≡ true → j ≡ i)
+ready_other : (F : List Node) (unread : List ℕ) (now later : Progress) (i j : Node) → Ready F unread now → slice_get F (length now.nodes) ≡ Some i → later.nodes ≡ now.nodes ++ j ∷ [] → later.parts ≤ now.parts + parts_of i → is_desc i ≡ false → (is_text i ≡ true → j ≡ i)
     → Ready F unread later
 ready_other F unread now later i j r here grown parts d t =
     let k = length now.nodes in
     let len : length later.nodes ≡ suc k = ap (λ (N : List Node). length N) grown ∙ length_push now.nodes j in
     let keeps : Keeps F now.nodes later.nodes = rw grown (push_keeps F now.nodes i j here) in
     record {
-      parts = rw (parts, len) (ap (λ n. n + parts_of i) r.parts ∙ sym (parts_take F k i here));
+      few = let t = mid_total F now later i here len in let few = r.few in omega arith;
       below = λ z h. (let lt : z < k = r.below z h in omega arith);
       known = λ z i2 lt h is d2. elim (cases_lt z k) [
         | inl less ↦ up_keeps F now.nodes later.nodes keeps (slots.Node z) (r.known z i2 less h is d2)
@@ -188,22 +226,22 @@ no_text (Array c vs) h = refl
 no_text (Class c) h = refl
 no_text (Enum c t) h = refl
 
-ready_by : (F : List Node) (unread : List ℕ) (now later : Progress) (i j : Node) (d : Bool) → is_desc i ≡ d → Ready F unread now → slice_get F (length now.nodes) ≡ Some i → later.nodes ≡ now.nodes ++ j ∷ [] → later.parts ≡ now.parts + parts_of i → (is_text i ≡ true → j ≡ i)
+ready_by : (F : List Node) (unread : List ℕ) (now later : Progress) (i j : Node) (d : Bool) → is_desc i ≡ d → Ready F unread now → slice_get F (length now.nodes) ≡ Some i → later.nodes ≡ now.nodes ++ j ∷ [] → later.parts ≤ now.parts + parts_of i → (is_text i ≡ true → j ≡ i)
     → Ready F (cond d (unread ++ length now.nodes ∷ []) unread) later
 ready_by F unread now later i j true e r here grown parts t = ready_desc F unread now later i j r here grown parts e (no_text i e)
 ready_by F unread now later i j false e r here grown parts t = ready_other F unread now later i j r here grown parts e t
 
-pub ready_push : (F : List Node) (unread : List ℕ) (now later : Progress) (i j : Node) → Ready F unread now → slice_get F (length now.nodes) ≡ Some i → later.nodes ≡ now.nodes ++ j ∷ [] → later.parts ≡ now.parts + parts_of i → (is_text i ≡ true → j ≡ i)
+pub ready_push : (F : List Node) (unread : List ℕ) (now later : Progress) (i j : Node) → Ready F unread now → slice_get F (length now.nodes) ≡ Some i → later.nodes ≡ now.nodes ++ j ∷ [] → later.parts ≤ now.parts + parts_of i → (is_text i ≡ true → j ≡ i)
     → Ready F (inside unread (length now.nodes) i) later
 ready_push F unread now later i j r here grown parts t = ready_by F unread now later i j (is_desc i) refl r here grown parts t
 
 -- ---- a node that was read
 
 -- The node is in its place, and what was read after its handle stands as it was.
-pub after_node : (F : List Node) (unread : List ℕ) (now mid last made : Progress) (i j : Node) → Ready F unread now → slice_get F (length now.nodes) ≡ Some i → mid.nodes ≡ now.nodes ++ j ∷ [] → After F (inside unread (length now.nodes) i) mid last
+pub after_node : {own : ℕ} (F : List Node) (unread : List ℕ) (now mid last made : Progress) (i j : Node) → mid.parts + own ≡ now.parts + parts_of i → Ready F unread now → slice_get F (length now.nodes) ≡ Some i → mid.nodes ≡ now.nodes ++ j ∷ [] → AfterBy own F (inside unread (length now.nodes) i) mid last
     → length made.nodes ≡ length last.nodes → made.parts ≡ last.parts → ((z : ℕ) → z ≢ length now.nodes → slice_get made.nodes z ≡ slice_get last.nodes z) → slice_get made.nodes (length now.nodes) ≡ Some i
     → ((n : ℕ) → SameAbove (SameChain F last.nodes n) (Some i)) → After F unread now made
-after_node F unread now mid last made i j r here grown after len parts same is up =
+after_node F unread now mid last made i j counted r here grown after len parts same is up =
     let k = length now.nodes in
     let mid_len : length mid.nodes ≡ suc k = ap (λ (N : List Node). length N) grown ∙ length_push now.nodes j in
     let le : suc k ≤ length last.nodes = let o = after.ordered in omega arith in
@@ -216,7 +254,7 @@ after_node F unread now mid last made i j r here grown after len parts same is u
     record {
       ordered = omega arith;
       ready = record {
-        parts = parts ∙ (after.ready.parts ∙ ap (λ n. parts_in (take n F)) (sym len));
+        few = (let few = after.ready.few in let drops = at_end len in omega arith);
         below = λ z h. (let lt : z < k = r.below z h in omega arith);
         known = λ z i2 lt h is2 d. elim (cases_eq z k) [
           | inl at ↦ rw at ups
@@ -229,8 +267,12 @@ after_node F unread now mid last made i j r here grown after len parts same is u
         | inl at ↦ rw at (here ∙ sym is)
         | inr other ↦ filled z (after.agrees z (omega arith) (omega arith))
       ];
+      sum = (let t = mid_total F now mid i here mid_len in let s = after.sum in let drops = at_end len in omega arith);
     }
   where
+    at_end : length made.nodes ≡ length last.nodes → parts_in (drop (length made.nodes) F) ≡ parts_in (drop (length last.nodes) F)
+    at_end e = ap (λ n. parts_in (drop n F)) e
+
     up_all : (k : ℕ) → suc k ≤ length last.nodes → Keeps F last.nodes made.nodes → (n : ℕ) → SameAbove (SameChain F made.nodes n) (Some i)
     up_all k le filled n = above_keeps F last.nodes made.nodes n (chain_keeps F last.nodes made.nodes filled n) (Some i) (up n)
 

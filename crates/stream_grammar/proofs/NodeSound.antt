@@ -1,6 +1,6 @@
 -- Texts and descriptions that are read are spelled, and are in range.
-use Rattle.std.proofs.Common.{◌≡◌, ◌||◌, ℕ, suc, ◌<◌, ◌≤◌, ◌^◌, true, false, eqb, ltb, List, [], ◌∷◌, ◌++◌, length, Some, Ok, slice_get, refl, sym, ap, subst, ◌∙◌, arith}
-use Rattle.std.proofs.lemmas.Bool.{lt-ltb}
+use Rattle.std.proofs.Common.{◌≡◌, ◌||◌, ℕ, suc, ◌+◌, ◌<◌, ◌≤◌, ◌^◌, true, false, eqb, ltb, List, [], ◌∷◌, ◌++◌, length, Some, Ok, slice_get, refl, sym, ap, subst, ◌∙◌, arith}
+use Rattle.std.proofs.lemmas.Bool.{lt-ltb, ltb-false}
 use Rattle.std.specs.Prelude.{All, FitsSigned}
 use Rattle.std.proofs.lemmas.Int.{of_z-to_z}
 use borrow.Author.Gap.{read_sfits}
@@ -16,18 +16,18 @@ use Rattle.ser_values.specs.declared.node.Node.{Node}
 use Rattle.ser_values.specs.declared.node.Node.TheVariants.{Text, Desc}
 use Rattle.ser_values.specs.declared.node.SlotPlace.TheVariants as places
 use Rattle.ser_values.specs.Node.{is_desc, is_text, inside}
-use Rattle.ser_values.specs.Shape.{is_short, are_typed, is_joined, is_shaped}
+use Rattle.ser_values.specs.Shape.{is_short, are_typed, is_joined, is_shaped, refs_in, parts_of}
 use Rattle.ser_values.specs.Ranges.{ItemFits, ItemsFit, TextFits, NameFits, InRange}
 use Rattle.stream_grammar.specs.Spelled.{Token, want, note, number, short_text, long_text, field_tokens, Form, a_text, a_long_text, a_desc, One, SpellsItems, SpellsToken, SpellsAll, Spelling}
-use Rattle.stream_grammar.specs.Reading.{◌>>=◌, byte_at, number_at, size_at, short_at, long_at, Progress, Slots, many_at, push, fill, blank, items_at, field_at, text_at, desc_after, desc_at}
+use Rattle.stream_grammar.specs.Reading.{◌>>=◌, too_many, byte_at, number_at, size_at, short_at, long_at, Progress, add_parts, Slots, many_at, push, fill, blank, items_at, field_at, text_at, desc_after, desc_at}
 use Rattle.ser_values.proofs.Lists.{length_push, slice_get-append_seam}
 use Rattle.std.proofs.lemmas.List.{length-set}
 use Rattle.std.proofs.lemmas.List.Elements.{All-nil, All-cons}
 use Rattle.stream_grammar.proofs.Steps.{field_toks, fields_flat}
 use Rattle.stream_grammar.proofs.Forms.{desc_tokens}
 use Rattle.stream_grammar.proofs.Constructs.{set_here}
-use Rattle.stream_grammar.proofs.PlainSound.{AreBytes, bind_ok, passed, ok_is, number_sound_16, number_sound_64, size_sound, short_sound, long_sound}
-use Rattle.stream_grammar.proofs.Solid.{WholeSlot, Solid, Got, got_two, got_map, got_self, grown_length, Free, free_solid}
+use Rattle.stream_grammar.proofs.PlainSound.{AreBytes, bind_ok, guarded, passed, ok_is, number_sound_16, number_sound_64, size_sound, short_sound, long_sound}
+use Rattle.stream_grammar.proofs.Solid.{WholeSlot, Solid, GotBy, Got, got_sum, got_map, got_self, grown_length, Free, free_solid, solid_add, got_add}
 use Rattle.ser_values.proofs.Ranged.{units_all}
 use Rattle.stream_grammar.proofs.Filled.{got_filled, got_pushed}
 use Rattle.stream_grammar.proofs.StepSound.{IsSound, spells_join, spells_last, Each, many_sound, byte_spells, back, FieldOk}
@@ -136,7 +136,7 @@ record GotDesc (S : List Node → Spelling) (unread name : List ℕ) (suid flags
   names : All NameFits y.0.fields
   note_fits : ItemsFit y.0.note
   parent : WholeSlot y.1.nodes unread y.0.parent
-  got : Got unread now y.1 y.2 (λ F. SpellsAll (S F unread) (number w16 (length y.0.fields) ∷ (field_tokens y.0.fields ++ (note y.0.note ∷ want (places.Parent, y.0.parent) ∷ []))) (length now.nodes) bs y.2 (length y.1.nodes) × (are_typed F y.0.fields ≡ true))
+  got : GotBy (parts_of (Desc y.0)) unread now y.1 y.2 (λ F. SpellsAll (S F unread) (number w16 (length y.0.fields) ∷ (field_tokens y.0.fields ++ (note y.0.note ∷ want (places.Parent, y.0.parent) ∷ []))) (length now.nodes) bs y.2 (length y.1.nodes) × (are_typed F y.0.fields ≡ true))
 
 abbrev desc_with : List ℕ → ℕ → ℕ → List FieldDesc → List Item → Slot → ClassDesc
 desc_with name suid flags fs is p = record { name = name; suid = cast_signed w64 suid; flags = flags; fields = fs; note = is; parent = p }
@@ -152,7 +152,10 @@ desc_after_sound S inner sound unread end at name suid flags now bs y e solid by
     let one = inner places.Reference unread in
     let step = field_at end at (inner places.Text unread) in
     let a = bind_ok (size_at end w16 32768 bs) _ y e in
-    let b = bind_ok (many_at step a.0.0 now a.0.1) _ y a.2 in
+    let count = guarded (ltb 1048576 (now.parts + a.0.0)) (too_many at) _ y a.2 in
+    let room : now.parts + a.0.0 ≤ 1048576 = ltb-false 1048576 (now.parts + a.0.0) count.0 in
+    let next = add_parts a.0.0 now in
+    let b = bind_ok (many_at step a.0.0 next a.0.1) _ y count.1 in
     let fs = b.0 in
     let c = passed (is_good_desc (desc_with name suid flags fs.0 [] slots.Null)) _ _ y b.2 in
     let d = bind_ok (items_at end one true fs.1 fs.2) (λ is. inner places.Parent unread is.1 is.2 >>= λ p. Ok (desc_with name suid flags fs.0 is.0 p.0, p.1, p.2)) y c.1 in
@@ -160,15 +163,17 @@ desc_after_sound S inner sound unread end at name suid flags now bs y e solid by
     let f = bind_ok (inner places.Parent unread is.1 is.2) (λ p. Ok (desc_with name suid flags fs.0 is.0 p.0, p.1, p.2)) y d.2 in
     let p = f.0 in
     let n = size_sound end w16 32768 (2 ^ 16) number_sound_16 bs a.0 a.1 bytes in
-    let g = many_sound S unread step field_toks FieldOk (field_sound S inner sound unread end at) a.0.0 now a.0.1 fs b.1 solid n.left in
+    let g = many_sound S unread step field_toks FieldOk (field_sound S inner sound unread end at) a.0.0 next a.0.1 fs b.1 (solid_add unread now a.0.0 solid room) n.left in
     let h = items_sound S inner sound unread end true fs.1 fs.2 is d.1 g.got.solid g.got.left in
     let k = sound unread places.Parent is.1 is.2 p f.1 h.got.solid h.got.left in
     let below = n.below in
-    let noted : Got unread fs.1 is.1 is.2 (λ F. SpellsItems (S F unread) is.0 (length fs.1.nodes) fs.2 (0x78 ∷ is.2) (length is.1.nodes)) = got_map unread fs.1 is.1 is.2 _ _ h.got (λ F sees q. subst (λ (l : List ℕ). SpellsItems (S F unread) is.0 (length fs.1.nodes) fs.2 l (length is.1.nodes)) h.ends q) in
-    let tail = got_two unread fs.1 is.1 p.1 is.2 p.2 _ _ (λ F. SpellsAll (S F unread) (note is.0 ∷ want (places.Parent, p.0) ∷ []) (length fs.1.nodes) fs.2 p.2 (length p.1.nodes)) noted k.got
+    let noted : GotBy (refs_in is.0) unread fs.1 is.1 is.2 (λ F. SpellsItems (S F unread) is.0 (length fs.1.nodes) fs.2 (0x78 ∷ is.2) (length is.1.nodes)) = got_map unread fs.1 is.1 is.2 _ _ h.got (λ F sees q. subst (λ (l : List ℕ). SpellsItems (S F unread) is.0 (length fs.1.nodes) fs.2 l (length is.1.nodes)) h.ends q) in
+    let tail = got_sum (refs_in is.0) (omega arith) unread fs.1 is.1 p.1 is.2 p.2 _ _ (λ F. SpellsAll (S F unread) (note is.0 ∷ want (places.Parent, p.0) ∷ []) (length fs.1.nodes) fs.2 p.2 (length p.1.nodes)) noted k.got
     (λ F sees q r. (is.2, length is.1.nodes, q, spells_last (S F unread) (want (places.Parent, p.0)) (length is.1.nodes) is.2 p.2 (length p.1.nodes) r)) in
     let begins : bs ≡ to_be_bytes w16 (length fs.0) ++ a.0.1 = n.parts ∙ ap (λ k. to_be_bytes w16 k ++ a.0.1) (sym g.len) in
-    let whole = got_two unread now fs.1 p.1 fs.2 p.2 _ _ (λ F. SpellsAll (S F unread) (number w16 (length fs.0) ∷ (field_tokens fs.0 ++ (note is.0 ∷ want (places.Parent, p.0) ∷ []))) (length now.nodes) bs p.2 (length p.1.nodes) × (are_typed F fs.0 ≡ true)) g.got tail
+    let counted = got_sum a.0.0 (omega arith) unread now next fs.1 a.0.1 fs.2 _ _ _ (got_add unread now a.0.0 a.0.1 solid room n.left) g.got (λ F sees u q. q) in
+    let len = g.len in
+    let whole = got_sum (length fs.0 + refs_in is.0) (omega arith) unread now fs.1 p.1 fs.2 p.2 _ _ (λ F. SpellsAll (S F unread) (number w16 (length fs.0) ∷ (field_tokens fs.0 ++ (note is.0 ∷ want (places.Parent, p.0) ∷ []))) (length now.nodes) bs p.2 (length p.1.nodes) × (are_typed F fs.0 ≡ true)) counted tail
     (λ F sees q r. (
       (
         a.0.1,
@@ -186,7 +191,7 @@ desc_after_sound S inner sound unread end at name suid flags now bs y e solid by
       few = rw g.len below;
       good = sym (good_with name suid flags fs.0 is.0 p.0) ∙ c.0;
       joined = h.fine;
-      names = each_named fs.1.nodes fs.0 (got_self unread now fs.1 fs.2 _ g.got).1;
+      names = each_named fs.1.nodes fs.0 (got_self unread next fs.1 fs.2 _ g.got).1;
       note_fits = h.ranged;
       parent = k.whole;
       got = whole;

@@ -1,5 +1,5 @@
 -- Annotations, elements and parts that are spelled are read.
-use Rattle.std.proofs.Common.{◌≡◌, ◌&&◌, ℕ, zero, suc, ◌<◌, ◌^◌, ℤ, FitsSigned, Bool, true, false, eqb, List, [], ◌∷◌, ◌++◌, map, length, All, Some, Ok, refl, sym, ap, subst, ◌∙◌, arith, inl, inr}
+use Rattle.std.proofs.Common.{◌≡◌, ◌&&◌, ℕ, zero, suc, ◌+◌, ◌-◌, ◌<◌, ◌≤◌, ◌^◌, ℤ, FitsSigned, Bool, true, false, eqb, List, [], ◌∷◌, ◌++◌, map, length, All, Some, Ok, refl, sym, ap, subst, ◌∙◌, arith, inl, inr}
 use Rattle.std.proofs.Math.Dec.{eqb-suc-zero}
 use Rattle.std.specs.Int.{Width, w16, w32, w64, to_be_bytes, cast_unsigned, cast_signed}
 use Rattle.class_desc.specs.declared.slot.Slot.{Slot}
@@ -12,17 +12,19 @@ use Rattle.ser_values.specs.declared.value.Values.TheVariants as kinds
 use Rattle.ser_values.specs.declared.value.Part.{Part}
 use Rattle.ser_values.specs.declared.node.Node.{Node}
 use Rattle.ser_values.specs.declared.node.SlotPlace.TheVariants as places
-use Rattle.ser_values.specs.Shape.{count_of}
+use Rattle.ser_values.specs.Node.{Want, item_wants}
+use Rattle.ser_values.specs.Shape.{count_of, refs_in, notes_in}
 use Rattle.stream_grammar.specs.Spelled.{Token, raw, truth, note, number, reference, value_token, element_tokens, part_tokens, IsBlock, joined, One, SpellsBlocks, SpellsItems, SpellsAll, Spelling}
 use Rattle.ser_values.specs.Ranges.{ElementsFit, PartFits}
-use Rattle.stream_grammar.specs.Reading.{◌>>=◌, byte_at, number_at, Progress, Step, Slots, plain, map_step, many_at, blocks_at, items_at, is_true, elements_at, note_at, part, parts_at, values_at}
+use Rattle.stream_grammar.specs.Reading.{◌>>=◌, byte_at, number_at, Progress, add_parts, counting, Step, Slots, plain, map_step, many_at, blocks_at, items_at, is_true, elements_at, note_at, part, parts_at, values_at}
 use Rattle.stream_grammar.proofs.Apart.{below_16, below_32, below_64}
 use Rattle.stream_grammar.proofs.Varieties.{ElementsOf}
 use Rattle.stream_grammar.proofs.Leading.{all_rest}
 use Rattle.stream_grammar.proofs.Parted.{Row, Fitted, writes}
 use Rattle.stream_grammar.proofs.SameTokens.{AllBegin}
 use Rattle.stream_grammar.proofs.Shrinks.{Shrinks, block_len}
-use Rattle.stream_grammar.proofs.Mirror.{Ready, Reads, reads_done, reads_then}
+use Rattle.stream_grammar.proofs.Spelling.{joined_wants}
+use Rattle.stream_grammar.proofs.Mirror.{total, Ready, ready_add, ReadsBy, Reads, reads_done, reads_sum, reads_counting}
 use Rattle.stream_grammar.proofs.Plains.{take_back, number_back_16, number_back_32, number_back_64, size_back}
 use Rattle.stream_grammar.proofs.Steps.{IsComplete, spells_split, spells_one, moved, plain_reads, reads_map, StepReads, many_reads, map_flat, signed, values_reads}
 
@@ -39,7 +41,7 @@ and_none false = refl
 
 -- a reference begins here
 blocks_ref : (end : ℕ) (inner : Step Slot) (within : Bool) (most : ℕ) (now : Progress) (c : ℕ) (bs : List ℕ) → eqb c 0x78 ≡ false → eqb c 0x77 ≡ false → eqb c 0x7A ≡ false
-    → blocks_at end inner within (suc most) now (c ∷ bs) ≡ (inner now (c ∷ bs) >>= λ s. blocks_at end inner within most s.1 s.2 >>= λ is. Ok (items.Ref s.0 ∷ is.0, is.1, is.2))
+    → blocks_at end inner within (suc most) now (c ∷ bs) ≡ (inner now (c ∷ bs) >>= λ s. counting 1 (end - length (c ∷ bs)) s.1 (λ next. blocks_at end inner within most next s.2 >>= λ is. Ok (items.Ref s.0 ∷ is.0, is.1, is.2)))
 unfolding blocks_at
 blocks_ref end inner within most now c bs a b d = rw a (rw (and_none within) (rw b (rw d refl)))
 
@@ -67,33 +69,44 @@ blocks_end F unread end inner true most now x rest m e len ready = rw e (reads_d
 blocks_end F unread end inner false most now x rest m e len ready = rw (e.0, e.1) (reads_done F unread now [] [] m len ready)
 
 pub blocks_reads : (F : List Node) (S : Spelling) (inner : Slots) → IsComplete F S inner → AllBegin S → (unread : List ℕ) → Shrinks (S unread) → (end : ℕ) (within : Bool) (most : ℕ) (is : List Item) (now : Progress) (bs x rest : List ℕ) (m : ℕ) → length bs < most
-    → SpellsBlocks (S unread) is (length now.nodes) bs x m → Ends within x rest → Ready F unread now → Reads F unread now is rest m (blocks_at end (inner places.Reference unread) within most now bs)
-blocks_reads F S inner complete begin unread sh end within zero is now bs x rest m room h ends ready = absurd (omega arith)
-blocks_reads F S inner complete begin unread sh end within (suc most) [] now bs x rest m room h ends ready =
+    → SpellsBlocks (S unread) is (length now.nodes) bs x m → Ends within x rest → Ready F unread now → total F now + refs_in is ≤ 1048576 → ReadsBy (refs_in is) F unread now is rest m (blocks_at end (inner places.Reference unread) within most now bs)
+unfolding item_wants
+blocks_reads F S inner complete begin unread sh end within zero is now bs x rest m room h ends ready few = absurd (omega arith)
+blocks_reads F S inner complete begin unread sh end within (suc most) [] now bs x rest m room h ends ready few =
     subst (λ (l : List ℕ). Reads F unread now [] rest m (blocks_at end (inner places.Reference unread) within (suc most) now l)) (sym h.0) (blocks_end F unread end (inner places.Reference unread) within most now x rest m ends h.1 ready)
-blocks_reads F S inner complete begin unread sh end within (suc most) (items.Bytes p ∷ is) now bs x rest m room h ends ready =
+blocks_reads F S inner complete begin unread sh end within (suc most) (items.Bytes p ∷ is) now bs x rest m room h ends ready few =
     let less = block_len p h.0 bs h.1 h.2 h.3 in
-    let more = blocks_reads F S inner complete begin unread sh end within most is now h.1 x rest m (omega arith) h.4 ends ready in
+    let more = blocks_reads F S inner complete begin unread sh end within most is now h.1 x rest m (omega arith) h.4 ends ready few in
     let e = block_reads end (inner places.Reference unread) within most now p h.0 bs h.1 h.2 h.3 in
     rw e (reads_map F unread now (λ l. items.Bytes p ∷ l) is rest m (blocks_at end (inner places.Reference unread) within most now h.1) more)
-blocks_reads F S inner complete begin unread sh end within (suc most) (items.Ref s ∷ is) now bs x rest m room h ends ready =
+blocks_reads F S inner complete begin unread sh end within (suc most) (items.Ref s ∷ is) now bs x rest m room h ends ready few =
     let less = sh (places.Reference, s) (length now.nodes) bs h.0 h.1 h.2 in
     let b = begin unread (places.Reference, s) (length now.nodes) bs h.0 h.1 h.2 in
     let first = (complete unread places.Reference s now bs h.0 h.1 h.2 ready).reads in
     let spelled : SpellsBlocks (S unread) is (length first.later.nodes) h.0 x m = subst (λ j. SpellsBlocks (S unread) is j h.0 x m) (sym first.len) h.3 in
-    let more = blocks_reads F S inner complete begin unread sh end within most is first.later h.0 x rest m (omega arith) spelled ends first.after.ready in
-    let e : blocks_at end (inner places.Reference unread) within (suc most) now bs ≡ (inner places.Reference unread now bs >>= λ s. blocks_at end (inner places.Reference unread) within most s.1 s.2 >>= λ is. Ok (items.Ref s.0 ∷ is.0, is.1, is.2)) =
-    subst (λ (l : List ℕ). blocks_at end (inner places.Reference unread) within (suc most) now l ≡ (inner places.Reference unread now l >>= λ s. blocks_at end (inner places.Reference unread) within most s.1 s.2 >>= λ is. Ok (items.Ref s.0 ∷ is.0, is.1, is.2)))
+    let step = first.after.sum in
+    let room_one : total F first.later + 1 ≤ 1048576 = omega arith in
+    let next = add_parts 1 first.later in
+    let ready_next = ready_add F unread first.later 1 room_one first.after.ready in
+    let more = blocks_reads F S inner complete begin unread sh end within most is next h.0 x rest m (omega arith) spelled ends ready_next (omega arith) in
+    let at = end - length bs in
+    let one : ReadsBy (suc (refs_in is)) F unread first.later (items.Ref s ∷ is) rest m (counting 1 at first.later (λ next. blocks_at end (inner places.Reference unread) within most next h.0 >>= λ is. Ok (items.Ref s ∷ is.0, is.1, is.2))) =
+    reads_counting (suc (refs_in is)) 1 at (omega arith) F unread first.later (λ next. blocks_at end (inner places.Reference unread) within most next h.0 >>= λ is. Ok (items.Ref s ∷ is.0, is.1, is.2)) (items.Ref s ∷ is) rest m room_one first.after.ready
+    (reads_map F unread next (λ l. items.Ref s ∷ l) is rest m (blocks_at end (inner places.Reference unread) within most next h.0) more) in
+    let e : blocks_at end (inner places.Reference unread) within (suc most) now bs ≡ (inner places.Reference unread now bs >>= λ s. counting 1 (end - length bs) s.1 (λ next. blocks_at end (inner places.Reference unread) within most next s.2 >>= λ is. Ok (items.Ref s.0 ∷ is.0, is.1, is.2))) =
+    subst (λ (l : List ℕ). blocks_at end (inner places.Reference unread) within (suc most) now l ≡ (inner places.Reference unread now l >>= λ s. counting 1 (end - length l) s.1 (λ next. blocks_at end (inner places.Reference unread) within most next s.2 >>= λ is. Ok (items.Ref s.0 ∷ is.0, is.1, is.2))))
     (sym b.is) (blocks_ref end (inner places.Reference unread) within most now b.code b.after b.not_end b.not_block b.not_long_block) in
-    rw e (reads_then F unread now s h.0 h.1 (inner places.Reference unread now bs) _ (items.Ref s ∷ is) rest m first
-    (reads_map F unread first.later (λ l. items.Ref s ∷ l) is rest m (blocks_at end (inner places.Reference unread) within most first.later h.0) more))
+    rw e (reads_sum (suc (refs_in is)) (omega arith) F unread now s h.0 h.1 (inner places.Reference unread now bs) _ (items.Ref s ∷ is) rest m first one)
 
 pub items_reads : (F : List Node) (S : Spelling) (inner : Slots) → IsComplete F S inner → AllBegin S → (unread : List ℕ) → Shrinks (S unread) → (end : ℕ) (within : Bool) (is : List Item) (now : Progress) (bs x rest : List ℕ) (m : ℕ)
-    → SpellsItems (S unread) is (length now.nodes) bs x m → Ends within x rest → Ready F unread now → Reads F unread now is rest m (items_at end (inner places.Reference unread) within now bs)
+    → SpellsItems (S unread) is (length now.nodes) bs x m → Ends within x rest → Ready F unread now → total F now + refs_in is ≤ 1048576 → ReadsBy (refs_in is) F unread now is rest m (items_at end (inner places.Reference unread) within now bs)
 unfolding items_at
-items_reads F S inner complete begin unread sh end within is now bs x rest m h ends ready =
-    rw h.2 (reads_map F unread now joined h.0 rest m (blocks_at end (inner places.Reference unread) within (suc (length bs)) now bs)
-    (blocks_reads F S inner complete begin unread sh end within (suc (length bs)) h.0 now bs x rest m (omega arith) h.1 ends ready))
+items_reads F S inner complete begin unread sh end within is now bs x rest m h ends ready few =
+    let refs : refs_in is ≡ refs_in h.0 = ap refs_in h.2 ∙ ap (λ (l : List Want). length l) (joined_wants h.0) in
+    let read = reads_map F unread now joined h.0 rest m (blocks_at end (inner places.Reference unread) within (suc (length bs)) now bs)
+    (blocks_reads F S inner complete begin unread sh end within (suc (length bs)) h.0 now bs x rest m (omega arith) h.1 ends ready (omega arith)) in
+    subst (λ k. ReadsBy k F unread now is rest m (items_at end (inner places.Reference unread) within now bs)) (sym refs)
+    (subst (λ (l : List Item). ReadsBy (refs_in h.0) F unread now l rest m (items_at end (inner places.Reference unread) within now bs)) (sym h.2) read)
 
 -- ---- elements
 
@@ -156,25 +169,29 @@ elements_reads F S inner complete unread codes.Object v now bs rest m (x, e) fit
 -- ---- parts
 
 pub parts_reads : (F : List Node) (S : Spelling) (inner : Slots) → IsComplete F S inner → AllBegin S → (unread : List ℕ) → Shrinks (S unread) → (end : ℕ) (rs : List Row) (ps : List Part) (now : Progress) (bs rest : List ℕ) (m : ℕ) → Fitted rs ps → All PartFits ps
-    → SpellsAll (S unread) (part_tokens (writes rs) ps) (length now.nodes) bs rest m → Ready F unread now → Reads F unread now ps rest m (parts_at end (inner places.Reference unread) rs now bs)
-unfolding parts_at part_tokens note_at
-parts_reads F S inner complete begin unread sh end [] [] now bs rest m fit p h ready = rw h.0 (reads_done F unread now [] rest m h.1 ready)
-parts_reads F S inner complete begin unread sh end ((fs, true) ∷ rs) (x ∷ ps) now bs rest m fit p h ready =
+    → SpellsAll (S unread) (part_tokens (writes rs) ps) (length now.nodes) bs rest m → Ready F unread now → total F now + notes_in ps ≤ 1048576 → ReadsBy (notes_in ps) F unread now ps rest m (parts_at end (inner places.Reference unread) rs now bs)
+unfolding parts_at part_tokens note_at notes_in item_wants
+parts_reads F S inner complete begin unread sh end [] [] now bs rest m fit p h ready few = rw h.0 (reads_done F unread now [] rest m h.1 ready)
+parts_reads F S inner complete begin unread sh end ((fs, true) ∷ rs) (x ∷ ps) now bs rest m fit p h ready few =
     let s = spells_split (S unread) (map value_token x.values) (note x.note ∷ part_tokens (writes rs) ps) (length now.nodes) bs rest m h in
     let t = s.3 in
     let vs = values_reads F S inner complete unread fs x.values now bs s.0 s.1 fit.0 (p zero x (omega arith)).0 s.2 ready in
     let noted : SpellsItems (S unread) x.note (length vs.later.nodes) s.0 (0x78 ∷ t.0) t.1 = subst (λ j. SpellsItems (S unread) x.note j s.0 (0x78 ∷ t.0) t.1) (sym vs.len) t.2 in
-    let is = items_reads F S inner complete begin unread sh end true x.note vs.later s.0 (0x78 ∷ t.0) t.0 t.1 noted refl vs.after.ready in
-    let more = parts_reads F S inner complete begin unread sh end rs ps is.later t.0 rest m fit.2 (all_rest PartFits x ps p) (moved (S unread) (part_tokens (writes rs) ps) (length is.later.nodes) t.1 t.0 rest m is.len t.3) is.after.ready in
-    reads_then F unread now x.values s.0 s.1 (values_at (inner places.Reference unread) fs now bs) _ (x ∷ ps) rest m vs
-    (reads_then F unread vs.later x.note t.0 t.1 (items_at end (inner places.Reference unread) true vs.later s.0) _ (x ∷ ps) rest m is
+    let sum = vs.after.sum in
+    let is = items_reads F S inner complete begin unread sh end true x.note vs.later s.0 (0x78 ∷ t.0) t.0 t.1 noted refl vs.after.ready (omega arith) in
+    let sum_two = is.after.sum in
+    let more = parts_reads F S inner complete begin unread sh end rs ps is.later t.0 rest m fit.2 (all_rest PartFits x ps p) (moved (S unread) (part_tokens (writes rs) ps) (length is.later.nodes) t.1 t.0 rest m is.len t.3) is.after.ready (omega arith) in
+    reads_sum {o = 0} {p = notes_in (x ∷ ps)} (notes_in (x ∷ ps)) (omega arith) F unread now x.values s.0 s.1 (values_at (inner places.Reference unread) fs now bs) _ (x ∷ ps) rest m vs
+    (reads_sum {o = refs_in x.note} {p = notes_in ps} (notes_in (x ∷ ps)) refl F unread vs.later x.note t.0 t.1 (items_at end (inner places.Reference unread) true vs.later s.0) _ (x ∷ ps) rest m is
     (reads_map F unread is.later (λ l. x ∷ l) ps rest m (parts_at end (inner places.Reference unread) rs is.later t.0) more))
-parts_reads F S inner complete begin unread sh end ((fs, false) ∷ rs) (x ∷ ps) now bs rest m fit p h ready =
+parts_reads F S inner complete begin unread sh end ((fs, false) ∷ rs) (x ∷ ps) now bs rest m fit p h ready few =
     let s = spells_split (S unread) (map value_token x.values) (part_tokens (writes rs) ps) (length now.nodes) bs rest m h in
     let vs = values_reads F S inner complete unread fs x.values now bs s.0 s.1 fit.0 (p zero x (omega arith)).0 s.2 ready in
-    let more = parts_reads F S inner complete begin unread sh end rs ps vs.later s.0 rest m fit.2 (all_rest PartFits x ps p) (moved (S unread) (part_tokens (writes rs) ps) (length vs.later.nodes) s.1 s.0 rest m vs.len s.3) vs.after.ready in
+    let sum = vs.after.sum in
+    let none : refs_in x.note ≡ 0 = ap refs_in (fit.1 refl) in
+    let more = parts_reads F S inner complete begin unread sh end rs ps vs.later s.0 rest m fit.2 (all_rest PartFits x ps p) (moved (S unread) (part_tokens (writes rs) ps) (length vs.later.nodes) s.1 s.0 rest m vs.len s.3) vs.after.ready (omega arith) in
     let same : part x.values [] ≡ x = ap (λ (is : List Item). part x.values is) (sym (fit.1 refl)) in
-    reads_then F unread now x.values s.0 s.1 (values_at (inner places.Reference unread) fs now bs) _ (x ∷ ps) rest m vs
+    reads_sum {o = 0} {p = notes_in ps} (notes_in (x ∷ ps)) (omega arith) F unread now x.values s.0 s.1 (values_at (inner places.Reference unread) fs now bs) _ (x ∷ ps) rest m vs
     (rw same (reads_map F unread vs.later (λ l. x ∷ l) ps rest m (parts_at end (inner places.Reference unread) rs vs.later s.0) more))
-parts_reads F S inner complete begin unread sh end [] (x ∷ ps) now bs rest m fit p h ready = absurd fit
-parts_reads F S inner complete begin unread sh end (r ∷ rs) [] now bs rest m fit p h ready = absurd fit
+parts_reads F S inner complete begin unread sh end [] (x ∷ ps) now bs rest m fit p h ready few = absurd fit
+parts_reads F S inner complete begin unread sh end (r ∷ rs) [] now bs rest m fit p h ready few = absurd fit

@@ -1,5 +1,5 @@
 -- Objects, arrays, classes and enum constants that are read are spelled.
-use Rattle.std.proofs.Common.{◌≡◌, ◌||◌, ℕ, zero, suc, ◌+◌, ◌<◌, ◌≤◌, ◌^◌, Bool, true, false, eqb, ltb, List, [], ◌∷◌, ◌++◌, map, length, Some, None, Option, Ok, slice_get, refl, sym, ap, subst, ◌∙◌, arith}
+use Rattle.std.proofs.Common.{◌≡◌, ◌||◌, ◌&&◌, ℕ, zero, suc, ◌+◌, ◌<◌, ◌≤◌, ◌^◌, Bool, true, false, eqb, ltb, List, [], ◌∷◌, ◌++◌, map, length, Some, None, Option, Ok, slice_get, refl, sym, ap, subst, ◌∙◌, arith}
 use Rattle.std.proofs.lemmas.Bool.{lt-ltb, ltb-true, ltb-false, and_parts}
 use Rattle.std.proofs.lemmas.List.{length-set}
 use Rattle.std.proofs.lemmas.List.Elements.{All-nil}
@@ -9,6 +9,7 @@ use Rattle.class_desc.specs.declared.slot.Slot.TheVariants as slots
 use Rattle.class_desc.specs.declared.field.TypeCode.{TypeCode}
 use Rattle.class_desc.specs.declared.desc.ClassDesc.{ClassDesc}
 use Rattle.class_desc.specs.ClassDesc.{has_flag}
+use Rattle.class_desc.specs.TypeText.{is_nil}
 use Rattle.ser_values.specs.declared.value.Value.{Value}
 use Rattle.ser_values.specs.declared.value.Values.{Values}
 use Rattle.ser_values.specs.declared.value.Values.TheVariants as kinds
@@ -17,10 +18,10 @@ use Rattle.ser_values.specs.declared.node.Node.{Node}
 use Rattle.ser_values.specs.declared.node.Node.TheVariants.{Text, Desc, Proxy, Object, Array, Class, Enum}
 use Rattle.ser_values.specs.declared.node.SlotPlace.TheVariants as places
 use Rattle.ser_values.specs.Node.{is_desc, is_text, inside}
-use Rattle.ser_values.specs.Shape.{is_joined, is_shaped, fits_chain, fits_object, fit_values, fits_array, fit_elements, count_of, is_enum}
+use Rattle.ser_values.specs.Shape.{is_joined, is_shaped, fits_chain, fits_object, fit_values, fits_array, fit_elements, count_of, is_enum, sizes_in, parts_of}
 use Rattle.ser_values.specs.Ranges.{PartFits}
 use Rattle.stream_grammar.specs.Spelled.{Token, want, note, number, value_token, element_tokens, part_tokens, writers, Form, an_object, an_external, an_array, a_class, an_enum, SpellsAll, Spelling}
-use Rattle.stream_grammar.specs.Reading.{too_many, ◌>>=◌, size_at, Progress, Step, Slots, push, fill, elements_at, parts_at, Row, chain_of, rows_of, class_fault, on_class, with_class, object_after, object_at, type_in, array_of, array_at, class_at, named, enum_at}
+use Rattle.stream_grammar.specs.Reading.{too_many, ◌>>=◌, size_at, Progress, add_parts, Step, Slots, push, fill, elements_at, parts_at, Row, chain_of, rows_of, sizes_of, refs_among, class_fault, on_class, with_class, object_after, object_at, type_in, array_of, array_at, class_at, named, enum_at}
 use Rattle.ser_values.proofs.Lists.{length_push, slice_get-append_seam}
 use Rattle.stream_grammar.proofs.Leading.{SameUp}
 use Rattle.stream_grammar.proofs.Parted.{writes}
@@ -32,7 +33,9 @@ use Rattle.stream_grammar.proofs.Filled.{got_filled, got_pushed}
 use Rattle.stream_grammar.proofs.StepSound.{IsSound, spells_last}
 use Rattle.stream_grammar.proofs.FieldSound.{elements_sound}
 use Rattle.stream_grammar.proofs.NoteSound.{FitRows, parts_sound}
-use Rattle.stream_grammar.proofs.ClassSound.{fit_len, chain_fits, ClassFine, external, chained, class_fine}
+use Rattle.stream_grammar.proofs.Varieties.{elements_of}
+use Rattle.stream_grammar.proofs.Sizes.{sizes_len, values_len, elements_own}
+use Rattle.stream_grammar.proofs.ClassSound.{chain_fits, ClassFine, external, chained, class_fine}
 use Rattle.stream_grammar.proofs.NodeSound.{FreshAs, GotNode, filled_here}
 
 -- ---- a class first
@@ -147,21 +150,29 @@ object_as F N c ps up few (chained serial fine keeps) fit =
     subst (λ (rs : List Row). ObjectAs F c ps (part_tokens (writes rs) ps)) (sym row)
     (chained_as F N c ps chain.0 up few (pair_is chain serial) (λ ps. subst (λ (i : Option Node). fits_object i ps true ≡ true) (sym one.0) (fine ps)) (subst (λ (rs : List Row). FitRows rs ps) row fit))
 
+fit_sizes : (rs : List Row) (ps : List Part) → FitRows rs ps → sizes_of rs ≡ sizes_in ps
+unfolding sizes_of sizes_in
+fit_sizes [] [] h = refl
+fit_sizes (r ∷ rs) (p ∷ ps) h = let one = values_len r.0 p.values (and_parts (fit_values r.0 p.values) ((r.1 || is_nil p.note) && is_joined p.note) h.0).0 in let more = fit_sizes rs ps h.1 in omega arith
+fit_sizes [] (p ∷ ps) h = absurd h
+fit_sizes (r ∷ rs) [] h = absurd h
+
 pub object_node : (S : List Node → Spelling) (inner : Slots) → IsSound S inner → (unread : List ℕ) (end at : ℕ) → AfterClass S unread 0x73 (object_at end at (inner places.Reference unread))
 unfolding object_at object_after is_desc is_text is_shaped
 object_node S inner sound unread end at c now bs y e class solid bytes =
     let n = length now.nodes in
     let one = inner places.Reference unread in
     let rs = rows_of (slice_get now.nodes c) (chain_of 1048576 now.nodes (slots.Node c)).0 in
-    let a = guarded (ltb 1048576 (now.parts + length rs)) (too_many at) _ y e in
+    let a = guarded (ltb 1048576 (now.parts + sizes_of rs)) (too_many at) _ y e in
     let b = unless_ok (class_fault (slice_get now.nodes c) (chain_of 1048576 now.nodes (slots.Node c)).1) at _ y a.1 in
-    let mid : Progress = record { nodes = now.nodes ++ Object c [] ∷ []; parts = now.parts + length rs } in
+    let mid : Progress = record { nodes = now.nodes ++ Object c [] ∷ []; parts = now.parts + sizes_of rs } in
     let d = bind_ok (parts_at end one rs mid bs) (λ ps. Ok (slots.Node n, fill ps.1 n (Object c ps.0), ps.2)) y b.1 in
     let ps = d.0 in
-    let room : now.parts + length rs ≤ 1048576 = ltb-false 1048576 (now.parts + length rs) a.0 in
+    let room : now.parts + sizes_of rs ≤ 1048576 = ltb-false 1048576 (now.parts + sizes_of rs) a.0 in
     let free : Free unread now mid (Object c []) false = record { grown = refl; kind = refl; few = room; ranged = (All-nil PartFits, tt) } in
     let g = parts_sound S inner sound unread end rs mid bs ps d.1 (free_solid unread now mid (Object c []) false solid free) bytes in
-    let len_ps : length ps.0 ≡ length rs = fit_len rs ps.0 g.fit in
+    let sizes : sizes_of rs ≡ sizes_in ps.0 = fit_sizes rs ps.0 g.fit in
+    let lens = sizes_len ps.0 in
     let mid_len : length mid.nodes ≡ suc n = length_push now.nodes (Object c []) in
     let len : length (fill ps.1 n (Object c ps.0)).nodes ≡ length ps.1.nodes = length-set ps.1.nodes n (Object c ps.0) in
     let fine = class_fine (slice_get now.nodes c) (chain_of 1048576 now.nodes (slots.Node c)).1 b.0 in
@@ -171,7 +182,7 @@ object_node S inner sound unread end at c now bs y e class solid bytes =
       here = filled_here now mid ps.1 g.got.added (Object c ps.0) (Object c []) refl g.got.grown;
       desc = refl;
       text = refl;
-      got = got_filled unread now mid ps.1 ps.2 _ _ (Object c ps.0) (Object c []) false solid refl refl free g.got (λ no. absurd cc) tt (g.ranged, tt) (ap (λ k. now.parts + k) (sym len_ps)) (λ F sees is q. (
+      got = got_filled unread now mid ps.1 ps.2 _ _ (Object c ps.0) (Object c []) false solid refl refl free g.got (λ no. absurd cc) tt (g.ranged, tt) (omega arith) (λ F sees is q. (
           let up = whole_same F unread now solid (seen_before F unread now mid ps.1 (Object c []) g.got.added refl g.got.grown sees) (slots.Node c) class in
           let o = object_as F now.nodes c ps.0 up (omega arith) fine g.fit in
           record { is = is; shaped = o.shaped; afters = part_tokens (writes rs) ps.0; form = o.form; second = rw len (rw (sym mid_len) q) }));
@@ -195,14 +206,19 @@ unfolding array_of is_desc is_text is_shaped
 array_by S inner sound unread end at c None now bs y is_type e class solid bytes = absurd cc
 array_by S inner sound unread end at c (Some code) now bs y is_type e class solid bytes =
     let n = length now.nodes in
-    let mid = push now (Array c (kinds.Bytes [])) in
+    let begun = push now (Array c (kinds.Bytes [])) in
     let a = bind_ok (size_at end w32 (2 ^ 31) bs) _ y e in
-    let b = bind_ok (elements_at (inner places.Reference unread) code a.0.0 mid a.0.1) (λ vs. Ok (slots.Node n, fill vs.1 n (Array c vs.0), vs.2)) y a.2 in
+    let own = refs_among code a.0.0 in
+    let mid = add_parts own begun in
+    let count = guarded (ltb 1048576 (begun.parts + own)) (too_many at) _ y a.2 in
+    let limit : begun.parts + own ≤ 1048576 = ltb-false 1048576 (begun.parts + own) count.0 in
+    let b = bind_ok (elements_at (inner places.Reference unread) code a.0.0 mid a.0.1) (λ vs. Ok (slots.Node n, fill vs.1 n (Array c vs.0), vs.2)) y count.1 in
     let vs = b.0 in
     let size = size_sound end w32 (2 ^ 31) (2 ^ 32) number_sound_32 bs a.0 a.1 bytes in
-    let free : Free unread now mid (Array c (kinds.Bytes [])) false = record { grown = refl; kind = refl; few = solid.few; ranged = (All-nil _, tt) } in
+    let free : Free unread now mid (Array c (kinds.Bytes [])) false = record { grown = refl; kind = refl; few = limit; ranged = (All-nil _, tt) } in
     let g = elements_sound S inner sound unread code a.0.0 mid a.0.1 vs b.1 (free_solid unread now mid (Array c (kinds.Bytes [])) false solid free) size.left in
     let below = size.below in
+    let same : own ≡ parts_of (Array c vs.0) = ap (λ k. refs_among code k) (sym g.count) ∙ elements_own c code vs.0 (elements_of vs.0 (Some code) g.fit) in
     let few : count_of vs.0 < 2 ^ 31 = rw g.count below in
     let begins : bs ≡ to_be_bytes w32 (count_of vs.0) ++ a.0.1 = size.parts ∙ ap (λ k. to_be_bytes w32 k ++ a.0.1) (sym g.count) in
     let mid_len : length mid.nodes ≡ suc n = length_push now.nodes (Array c (kinds.Bytes [])) in

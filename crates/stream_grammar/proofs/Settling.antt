@@ -26,7 +26,7 @@ use Rattle.ser_values.specs.declared.limits.TheConstants.{LEVELS, NODES, PARTS}
 use Rattle.ser_values.specs.Node.{has}
 use Rattle.ser_values.specs.Shape.{fits_type, is_enum}
 use Rattle.stream_grammar.specs.Spelled.{joined}
-use Rattle.stream_grammar.specs.Reading.{FaultKind, negative_length, Fault, short, bad, too_many, too_deep, ◌>>=◌, byte_at, take_at, number_at, size_at, units_of, units_at, short_at, long_at, Progress, Step, Slots, plain, map_step, many_at, push, fill, blocks_at, items_at, field, field_of, field_at, is_true, value_at, values_at, elements_at, Row, chain_of, rows_of, class_fault, note_at, part, parts_at, unless, blank, text_at, desc_after, desc_at, proxy_at, on_class, with_class, object_after, object_at, type_in, array_of, array_at, class_at, named, enum_at, admits_code, fresh_at, null_at, handle_fault, handle_at, deep, coded, no_slots, slot_at, magic_at, stream_of}
+use Rattle.stream_grammar.specs.Reading.{FaultKind, negative_length, Fault, short, bad, too_many, too_deep, ◌>>=◌, byte_at, take_at, number_at, size_at, units_of, units_at, short_at, long_at, Progress, Step, Slots, plain, map_step, many_at, push, fill, add_parts, counting, sizes_of, refs_among, blocks_at, items_at, field, field_of, field_at, is_true, value_at, values_at, elements_at, Row, chain_of, rows_of, class_fault, note_at, part, parts_at, unless, blank, text_at, desc_after, desc_at, proxy_at, on_class, with_class, object_after, object_at, type_in, array_of, array_at, class_at, named, enum_at, admits_code, fresh_at, null_at, handle_fault, handle_at, deep, coded, no_slots, slot_at, magic_at, stream_of}
 use Rattle.stream_grammar.specs.Faults.{EndsEarly}
 use Rattle.ser_values.proofs.FrontLaws.{eqb_same}
 
@@ -360,11 +360,18 @@ any_slot inner h p unread now bs = weaker three (λ x. SlotOk p x.0) Any (λ e b
 -- ---- blocks
 
 -- a block or a reference whose first byte was read
-abbrev item_of : ℕ → Step Slot → ℕ → Step Item
-item_of end inner c now bs =
+abbrev item_by : ℕ → ℕ → Step Slot → ℕ → Step Item
+item_by end at inner c now bs =
     cond (eqb c 0x77) (byte_at bs >>= λ n. take_at n.0 n.1 >>= λ p. Ok (items.Bytes p.0, now, p.1))
     (cond (eqb c 0x7A) (size_at end w32 (2 ^ 31) bs >>= λ n. take_at n.0 n.1 >>= λ p. Ok (items.Bytes p.0, now, p.1))
-    (inner now (c ∷ bs) >>= λ s. Ok (items.Ref s.0, s.1, s.2)))
+    (inner now (c ∷ bs) >>= λ s. counting 1 at s.1 (λ next. Ok (items.Ref s.0, next, s.2))))
+
+abbrev item_of : ℕ → Step Slot → ℕ → Step Item
+item_of end inner c now bs = item_by end (end - suc (length bs)) inner c now bs
+
+cond_then : {A B : Type 0} (b : Bool) (e : Fault) (x : A) (f : A → Result B Fault) → cond b (Err e) (f x) ≡ (cond b (Err e) (Ok x) >>= f)
+cond_then true e x f = refl
+cond_then false e x f = refl
 
 then_twice : {A B C : Type 0} (y : Result A Fault) (f : A → Result B Fault) (g : B → Result C Fault) → (y >>= λ x. f x >>= g) ≡ (y >>= f) >>= g
 then_twice (Ok x) f g = refl
@@ -386,21 +393,31 @@ one_more end inner in_note most c now bs = ap (λ y. cond (in_note && eqb c 0x78
     block : (n : ℕ × List ℕ) → (take_at n.0 n.1 >>= λ p. blocks_at end inner in_note most now p.1 >>= λ is. Ok (items.Bytes p.0 ∷ is.0, is.1, is.2)) ≡ (take_at n.0 n.1 >>= λ p. Ok (items.Bytes p.0, now, p.1)) >>= (and_more end inner in_note most)
     block n = then_twice (take_at n.0 n.1) (λ p. Ok (items.Bytes p.0, now, p.1)) (and_more end inner in_note most)
 
+    ref : (s : Slot × Progress × List ℕ) → counting 1 (end - suc (length bs)) s.1 (λ next. blocks_at end inner in_note most next s.2 >>= λ is. Ok (items.Ref s.0 ∷ is.0, is.1, is.2)) ≡ (counting 1 (end - suc (length bs)) s.1 (λ next. Ok (items.Ref s.0, next, s.2)) >>= and_more end inner in_note most)
+    ref s = cond_then (ltb PARTS (s.1.parts + 1)) (too_many (end - suc (length bs))) (items.Ref s.0, add_parts 1 s.1, s.2) (and_more end inner in_note most)
+
     by : (a b : Bool) → cond a (byte_at bs >>= λ n. take_at n.0 n.1 >>= λ p. blocks_at end inner in_note most now p.1 >>= λ is. Ok (items.Bytes p.0 ∷ is.0, is.1, is.2))
-        (cond b (size_at end w32 (2 ^ 31) bs >>= λ n. take_at n.0 n.1 >>= λ p. blocks_at end inner in_note most now p.1 >>= λ is. Ok (items.Bytes p.0 ∷ is.0, is.1, is.2)) (inner now (c ∷ bs) >>= λ s. blocks_at end inner in_note most s.1 s.2 >>= λ is. Ok (items.Ref s.0 ∷ is.0, is.1, is.2)))
-        ≡ cond a (byte_at bs >>= λ n. take_at n.0 n.1 >>= λ p. Ok (items.Bytes p.0, now, p.1)) (cond b (size_at end w32 (2 ^ 31) bs >>= λ n. take_at n.0 n.1 >>= λ p. Ok (items.Bytes p.0, now, p.1)) (inner now (c ∷ bs) >>= λ s. Ok (items.Ref s.0, s.1, s.2))) >>= (and_more end inner in_note most)
+        (cond b (size_at end w32 (2 ^ 31) bs >>= λ n. take_at n.0 n.1 >>= λ p. blocks_at end inner in_note most now p.1 >>= λ is. Ok (items.Bytes p.0 ∷ is.0, is.1, is.2)) (inner now (c ∷ bs) >>= λ s. counting 1 (end - suc (length bs)) s.1 (λ next. blocks_at end inner in_note most next s.2 >>= λ is. Ok (items.Ref s.0 ∷ is.0, is.1, is.2))))
+        ≡ cond a (byte_at bs >>= λ n. take_at n.0 n.1 >>= λ p. Ok (items.Bytes p.0, now, p.1)) (cond b (size_at end w32 (2 ^ 31) bs >>= λ n. take_at n.0 n.1 >>= λ p. Ok (items.Bytes p.0, now, p.1)) (inner now (c ∷ bs) >>= λ s. counting 1 (end - suc (length bs)) s.1 (λ next. Ok (items.Ref s.0, next, s.2)))) >>= (and_more end inner in_note most)
     by true b = then_same (byte_at bs) _ _ block ∙ then_twice (byte_at bs) (λ n. take_at n.0 n.1 >>= λ p. Ok (items.Bytes p.0, now, p.1)) (and_more end inner in_note most)
     by false true = then_same (size_at end w32 (2 ^ 31) bs) _ _ block ∙ then_twice (size_at end w32 (2 ^ 31) bs) (λ n. take_at n.0 n.1 >>= λ p. Ok (items.Bytes p.0, now, p.1)) (and_more end inner in_note most)
-    by false false = then_twice (inner now (c ∷ bs)) (λ s. Ok (items.Ref s.0, s.1, s.2)) (and_more end inner in_note most)
+    by false false = then_same (inner now (c ∷ bs)) _ _ ref ∙ then_twice (inner now (c ∷ bs)) (λ s. counting 1 (end - suc (length bs)) s.1 (λ next. Ok (items.Ref s.0, next, s.2))) (and_more end inner in_note most)
 
-item_settles : (inner : ℕ → Slots) → SlotsSettle inner → (p : SlotPlace) (unread : List ℕ) (c : ℕ) → StepSettles {A = Item} Any (λ e. item_of e.end (inner e.end p unread) c)
-item_settles inner h p unread c now bs =
+item_by_settles : (inner : ℕ → Slots) → SlotsSettle inner → (p : SlotPlace) (unread : List ℕ) (c : ℕ) → StepSettles {A = Item} Any (λ e. item_by e.end e.at (inner e.end p unread) c)
+item_by_settles inner h p unread c now bs =
     cond_settles three Any (eqb c 0x77) _ _ bs (λ e. bytes_then Any (λ e. byte_at) _ bs (byte_settles bs) block) (λ e.
     cond_settles three Any (eqb c 0x7A) _ _ bs (λ e. bytes_then Any (λ e. size_at e.end w32 (2 ^ 31)) _ bs (size_settles w32 (2 ^ 31) bs) block)
-    (λ e. step_then (SlotOk p) Any (λ e b. inner e.end p unread now (c ∷ b)) _ bs (h.coded p unread now c bs) (λ s after left q le. none_settles Any (items.Ref s) after left tt)))
+    (λ e. step_then (SlotOk p) Any (λ e b. inner e.end p unread now (c ∷ b)) _ bs (h.coded p unread now c bs) (λ s after left q le. cond_settles three Any (ltb PARTS (after.parts + 1)) _ _ left (λ many. refused_settles three Any _ left (λ e b. tt)) (λ few. none_settles Any (items.Ref s) (add_parts 1 after) left tt))))
   where
     block : (n : ℕ) (left : List ℕ) → length left ≤ length bs → Settles three (λ (x : Item × Progress). Unit {0}) (λ e b. take_at n b >>= λ p. Ok (items.Bytes p.0, now, p.1)) left
     block n left le = bytes_then Any (λ e. take_at n) (λ e p. Ok (items.Bytes p.0, now, p.1)) left (take_settles n left) (λ p rest less. none_settles Any (items.Bytes p) now rest tt)
+
+-- the position of a code whose byte was read
+abbrev at_code : Env → List ℕ → Env
+at_code e b = record { end = e.end; at = e.end - suc (length b); fuel = e.fuel }
+
+item_settles : (inner : ℕ → Slots) → SlotsSettle inner → (p : SlotPlace) (unread : List ℕ) (c : ℕ) → StepSettles {A = Item} Any (λ e. item_of e.end (inner e.end p unread) c)
+item_settles inner h p unread c now bs = at_settles three Any (λ e b. item_by e.end e.at (inner e.end p unread) c now b) at_code bs (λ e b v. v) (item_by_settles inner h p unread c now bs)
 
 -- one less may come
 fuel_less : (e : Env) (n : ℕ) → suc n ≤ e.fuel → e.fuel ≡ suc (e.fuel - 1)
@@ -493,12 +510,13 @@ desc_after_settles : (inner : ℕ → Slots) → SlotsSettle inner → (unread n
 unfolding desc_after
 desc_after_settles inner h unread name suid flags now bs =
     bytes_then Any (λ e. size_at e.end w16 32768) _ bs (size_settles w16 32768 bs) (λ n left le.
-    step_then Any Any (λ e b. many_at (field_at e.end e.at (inner e.end places.Text unread)) n now b) _ left (many_settles (λ e. field_at e.end e.at (inner e.end places.Text unread)) (field_settles inner h unread) n now left) (λ fs one rest q less.
+    cond_settles three Any (ltb PARTS (now.parts + n)) _ _ left (λ many. refused_settles three Any _ left (λ e b. tt)) (λ few.
+    step_then Any Any (λ e b. many_at (field_at e.end e.at (inner e.end places.Text unread)) n (add_parts n now) b) _ left (many_settles (λ e. field_at e.end e.at (inner e.end places.Text unread)) (field_settles inner h unread) n (add_parts n now) left) (λ fs one rest q less.
     cond_settles three Any (is_good_desc (record { name = name; suid = cast_signed w64 suid; flags = flags; fields = fs; note = []; parent = slots.Null })) _ _ rest (λ good.
     step_then Any Any (λ e b. items_at e.end (inner e.end places.Reference unread) true one b) _ rest (items_settle inner h places.Reference unread one rest) (λ is another more k fewer.
     step_then Any Any (λ e b. inner e.end places.Parent unread another b) _ more (any_slot inner h places.Parent unread another more) (λ s last end m least.
     none_settles Any (record { name = name; suid = cast_signed w64 suid; flags = flags; fields = fs; note = is; parent = s }) last end tt)))
-    (λ bad. refused_settles three Any _ rest (λ e b. tt))))
+    (λ bad. refused_settles three Any _ rest (λ e b. tt)))))
 
 desc_settles : (inner : ℕ → Slots) → SlotsSettle inner → (unread : List ℕ) → StepSettles IsNode (λ e. desc_at e.end e.at (inner e.end) unread)
 unfolding desc_at
@@ -509,14 +527,15 @@ desc_settles inner h unread now bs =
     step_then Any IsNode (λ e b. desc_after e.end e.at (inner e.end) (unread ++ length now.nodes ∷ []) name suid flags (push now (Desc blank)) b) _ rest (desc_after_settles inner h (unread ++ length now.nodes ∷ []) name suid flags (push now (Desc blank)) rest) (λ d last left q least.
     none_settles IsNode (slots.Node (length now.nodes)) (fill last (length now.nodes) (Desc d)) left tt))))
 
-proxy_settles : (inner : ℕ → Slots) → SlotsSettle inner → (unread : List ℕ) → StepSettles IsNode (λ e. proxy_at e.end (inner e.end) unread)
+proxy_settles : (inner : ℕ → Slots) → SlotsSettle inner → (unread : List ℕ) → StepSettles IsNode (λ e. proxy_at e.end e.at (inner e.end) unread)
 unfolding proxy_at
 proxy_settles inner h unread now bs =
     bytes_then IsNode (λ e. size_at e.end w32 (2 ^ 31)) _ bs (size_settles w32 (2 ^ 31) bs) (λ n one le.
-    step_then Any IsNode (λ e b. many_at (plain (short_at e.end)) n (push now (Desc blank)) b) _ one (many_settles (λ e. plain (short_at e.end)) (plain_settles (λ e. short_at e.end) short_settles) n (push now (Desc blank)) one) (λ names a another q less.
+    cond_settles three (λ x. IsNode x.0) (ltb PARTS (now.parts + n)) _ _ one (λ many. refused_settles three (λ x. IsNode x.0) _ one (λ e b. tt)) (λ few.
+    step_then Any IsNode (λ e b. many_at (plain (short_at e.end)) n (add_parts n (push now (Desc blank))) b) _ one (many_settles (λ e. plain (short_at e.end)) (plain_settles (λ e. short_at e.end) short_settles) n (add_parts n (push now (Desc blank))) one) (λ names a another q less.
     step_then Any IsNode (λ e b. items_at e.end (inner e.end places.Reference (unread ++ length now.nodes ∷ [])) true a b) _ another (items_settle inner h places.Reference (unread ++ length now.nodes ∷ []) a another) (λ is c rest k fewer.
     step_then Any IsNode (λ e b. inner e.end places.Parent (unread ++ length now.nodes ∷ []) c b) _ rest (any_slot inner h places.Parent (unread ++ length now.nodes ∷ []) c rest) (λ s last left m least.
-    none_settles IsNode (slots.Node (length now.nodes)) (fill last (length now.nodes) (Proxy (record { names = names; note = is; parent = s }))) left tt))))
+    none_settles IsNode (slots.Node (length now.nodes)) (fill last (length now.nodes) (Proxy (record { names = names; note = is; parent = s }))) left tt)))))
 
 class_then : (inner : ℕ → Slots) → SlotsSettle inner → (unread : List ℕ) (f : Env → ℕ → Step Slot) → ((k : ℕ) → StepSettles IsNode (λ e. f e k)) → StepSettles IsNode (λ e. with_class (inner e.end) unread e.at (f e))
 unfolding with_class
@@ -534,8 +553,8 @@ object_settles : (inner : ℕ → Slots) → SlotsSettle inner → (unread : Lis
 unfolding object_at object_after
 object_settles inner h unread class now bs =
     let rows = rows_of (slice_get now.nodes class) (chain_of PARTS now.nodes (slots.Node class)).0 in
-    let mid : Progress = record { nodes = now.nodes ++ Object class [] ∷ []; parts = now.parts + length rows } in
-    cond_settles three (λ x. IsNode x.0) (ltb PARTS (now.parts + length rows)) _ _ bs (λ many. refused_settles three (λ x. IsNode x.0) _ bs (λ e b. tt)) (λ few.
+    let mid : Progress = record { nodes = now.nodes ++ Object class [] ∷ []; parts = now.parts + sizes_of rows } in
+    cond_settles three (λ x. IsNode x.0) (ltb PARTS (now.parts + sizes_of rows)) _ _ bs (λ many. refused_settles three (λ x. IsNode x.0) _ bs (λ e b. tt)) (λ few.
     unless_settles three (λ x. IsNode x.0) (class_fault (slice_get now.nodes class) (chain_of PARTS now.nodes (slots.Node class)).1) _ bs
     (step_then Any IsNode (λ e b. parts_at e.end (inner e.end places.Reference unread) rows mid b) _ bs (parts_settle inner h places.Reference unread rows mid bs) (λ ps last left q le. none_settles IsNode (slots.Node (length now.nodes)) (fill last (length now.nodes) (Object class ps)) left tt)))
 
@@ -546,8 +565,9 @@ array_settles inner h unread class now bs = by (type_in (slice_get now.nodes cla
     by : (o : Option TypeCode) → Settles three (λ (x : Slot × Progress). IsNode x.0) (λ e b. array_of e.end e.at (inner e.end places.Reference unread) class o now b) bs
     by None = refused_settles three (λ x. IsNode x.0) _ bs (λ e b. tt)
     by (Some code) = bytes_then IsNode (λ e. size_at e.end w32 (2 ^ 31)) _ bs (size_settles w32 (2 ^ 31) bs) (λ n left le.
-        step_then Any IsNode (λ e b. elements_at (inner e.end places.Reference unread) code n (push now (Array class (kinds.Bytes []))) b) _ left (elements_settle inner h places.Reference unread code n (push now (Array class (kinds.Bytes []))) left) (λ vs last rest q less.
-        none_settles IsNode (slots.Node (length now.nodes)) (fill last (length now.nodes) (Array class vs)) rest tt))
+        cond_settles three (λ x. IsNode x.0) (ltb PARTS (now.parts + refs_among code n)) _ _ left (λ many. refused_settles three (λ x. IsNode x.0) _ left (λ e b. tt)) (λ few.
+        step_then Any IsNode (λ e b. elements_at (inner e.end places.Reference unread) code n (add_parts (refs_among code n) (push now (Array class (kinds.Bytes [])))) b) _ left (elements_settle inner h places.Reference unread code n (add_parts (refs_among code n) (push now (Array class (kinds.Bytes [])))) left) (λ vs last rest q less.
+        none_settles IsNode (slots.Node (length now.nodes)) (fill last (length now.nodes) (Array class vs)) rest tt)))
 
 class_settles : (class : ℕ) → StepSettles IsNode (λ e. class_at class)
 unfolding class_at
@@ -600,10 +620,6 @@ coded_settles left inner h p unread code now bs =
     cond_settles three (λ x. SlotOk p x.0) (admits_code p code) _ _ bs (λ e. deep_settles p left _ bs (λ n some.
     cond_settles three (λ x. SlotOk p x.0) (ltb (length now.nodes) NODES) _ _ bs (λ room. weaker three (λ x. IsNode x.0) (λ x. SlotOk p x.0) _ bs (λ x q. node_ok p x.0 q) (fresh_settles inner (h n some) unread code now bs)) (λ full. refused_settles three (λ x. SlotOk p x.0) _ bs (λ e b. tt))))
     (λ other. refused_settles three (λ x. SlotOk p x.0) _ bs (λ e b. tt))))
-
--- the position of a code whose byte was read
-abbrev at_code : Env → List ℕ → Env
-at_code e b = record { end = e.end; at = e.end - suc (length b); fuel = e.fuel }
 
 no_78 : (end left : ℕ) (inner : Slots) (p : SlotPlace) (unread : List ℕ) (at : ℕ) (now : Progress) (b : List ℕ) → Refused (coded end left inner p unread at 0x78 now b)
 unfolding coded

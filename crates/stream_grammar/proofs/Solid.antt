@@ -15,7 +15,7 @@ use Rattle.ser_values.specs.declared.node.SlotPlace.TheVariants as places
 use Rattle.ser_values.specs.Node.{has, is_desc, is_text}
 use Rattle.ser_values.specs.Shape.{parts_in}
 use Rattle.ser_values.specs.Ranges.{InRange}
-use Rattle.stream_grammar.specs.Reading.{Progress}
+use Rattle.stream_grammar.specs.Reading.{Progress, add_parts}
 use Rattle.ser_values.proofs.Lists.{slice_get-append_left, slice_get-append_seam, has-append_no, has-append_other, length_push, some_same, still_not}
 use Rattle.stream_grammar.proofs.Leading.{SameAbove, SameChain, SameUp}
 use Rattle.stream_grammar.proofs.Chains.{parent_of}
@@ -90,14 +90,18 @@ whole_same F unread now solid sees (slots.Node k) w (suc n) =
 
 -- ---- what a step does
 
--- These nodes were added, with so many bytes left; and each graph that has what was read has it spelled.
-pub record Got (unread : List ℕ) (now later : Progress) (rest : List ℕ) (Spelled : List Node → Type 0) : Type 0 where
+-- These nodes were added, with so many bytes left, and so many parts were counted beside theirs; and each graph that has what was read has it
+-- spelled.
+pub record GotBy (own : ℕ) (unread : List ℕ) (now later : Progress) (rest : List ℕ) (Spelled : List Node → Type 0) : Type 0 where
   pub added : List Node
   pub grown : later.nodes ≡ now.nodes ++ added
-  pub parts : later.parts ≡ now.parts + parts_in added
+  pub parts : later.parts ≡ now.parts + (own + parts_in added)
   pub solid : Solid unread later
   pub left : AreBytes rest
   pub spelled : (F : List Node) → Sees F later.nodes unread → Agrees F later.nodes (length now.nodes) → Spelled F
+
+abbrev pub Got : List ℕ → Progress → Progress → List ℕ → (List Node → Type 0) → Type 0
+Got unread now later rest P = GotBy 0 unread now later rest P
 
 pub grown_length : (N added M : List Node) → M ≡ N ++ added → length M ≡ length N + length added
 grown_length N added M e = let l : length M ≡ length (N ++ added) = ap (λ (l : List Node). length l) e in simp length-append at l
@@ -124,12 +128,12 @@ pub got_none : (unread : List ℕ) (now : Progress) (rest : List ℕ) (P : List 
 unfolding parts_in
 got_none unread now rest P solid left f = record { added = []; grown = sym (append-nil now.nodes); parts = omega arith; solid = solid; left = left; spelled = λ F sees agrees. f F sees }
 
-pub got_two : (unread : List ℕ) (a b c : Progress) (y z : List ℕ) (P Q R : List Node → Type 0) → Got unread a b y P → Got unread b c z Q → ((F : List Node) → Sees F c.nodes unread → P F → Q F → R F) → Got unread a c z R
-got_two unread a b c y z P Q R g h f =
+pub got_sum : {o p : ℕ} (own : ℕ) → own ≡ o + p → (unread : List ℕ) (a b c : Progress) (y z : List ℕ) (P Q R : List Node → Type 0) → GotBy o unread a b y P → GotBy p unread b c z Q → ((F : List Node) → Sees F c.nodes unread → P F → Q F → R F) → GotBy own unread a c z R
+got_sum own e unread a b c y z P Q R g h f =
     let whole : c.nodes ≡ a.nodes ++ (g.added ++ h.added) = h.grown ∙ (ap (λ (l : List Node). l ++ h.added) g.grown ∙ append_assoc a.nodes g.added h.added) in
     let sum = parts_append g.added h.added in
-    let p = g.parts in
-    let q = h.parts in
+    let more = g.parts in
+    let most = h.parts in
     let le : length a.nodes ≤ length b.nodes = let l = grown_length a.nodes g.added b.nodes g.grown in omega arith in
     record {
       added = g.added ++ h.added;
@@ -140,11 +144,22 @@ got_two unread a b c y z P Q R g h f =
       spelled = λ F sees agrees. f F sees (g.spelled F (sees_front F b.nodes h.added c.nodes unread h.grown sees) (agrees_front F b.nodes h.added c.nodes (length a.nodes) h.grown agrees)) (h.spelled F sees (λ k low lt. agrees k (omega arith) lt));
     }
 
+pub got_two : (unread : List ℕ) (a b c : Progress) (y z : List ℕ) (P Q R : List Node → Type 0) → Got unread a b y P → Got unread b c z Q → ((F : List Node) → Sees F c.nodes unread → P F → Q F → R F) → Got unread a c z R
+got_two unread a b c y z P Q R g h f = got_sum 0 (omega arith) unread a b c y z P Q R g h f
+
+pub solid_add : (unread : List ℕ) (now : Progress) (n : ℕ) → Solid unread now → now.parts + n ≤ 1048576 → Solid unread (add_parts n now)
+solid_add unread now n solid room = record { above = solid.above; good = solid.good; below = solid.below; few = room; ranged = solid.ranged }
+
+-- parts that are counted
+pub got_add : (unread : List ℕ) (now : Progress) (n : ℕ) (rest : List ℕ) → Solid unread now → now.parts + n ≤ 1048576 → AreBytes rest → GotBy n unread now (add_parts n now) rest (λ F. Unit {0})
+unfolding parts_in
+got_add unread now n rest solid room left = record { added = []; grown = sym (append-nil now.nodes); parts = omega arith; solid = solid_add unread now n solid room; left = left; spelled = λ F sees agrees. tt }
+
 -- what holds in each graph that has what was read, holds of the nodes that were read
-pub got_self : (unread : List ℕ) (now later : Progress) (rest : List ℕ) (P : List Node → Type 0) → Got unread now later rest P → P later.nodes
+pub got_self : {own : ℕ} (unread : List ℕ) (now later : Progress) (rest : List ℕ) (P : List Node → Type 0) → GotBy own unread now later rest P → P later.nodes
 got_self unread now later rest P g = g.spelled later.nodes (record { descs = λ k i gone is desc. is; texts = λ k i is t. is; long = omega arith }) (λ k low lt. refl)
 
-pub got_map : (unread : List ℕ) (now later : Progress) (rest : List ℕ) (P Q : List Node → Type 0) → Got unread now later rest P → ((F : List Node) → Sees F later.nodes unread → P F → Q F) → Got unread now later rest Q
+pub got_map : {own : ℕ} (unread : List ℕ) (now later : Progress) (rest : List ℕ) (P Q : List Node → Type 0) → GotBy own unread now later rest P → ((F : List Node) → Sees F later.nodes unread → P F → Q F) → GotBy own unread now later rest Q
 got_map unread now later rest P Q g f = record { added = g.added; grown = g.grown; parts = g.parts; solid = g.solid; left = g.left; spelled = λ F sees agrees. f F sees (g.spelled F sees agrees) }
 
 -- ---- a place that is kept free

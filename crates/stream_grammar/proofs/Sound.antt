@@ -44,7 +44,7 @@ fresh_sound S inner sound unread end at code now bs y e solid bytes room =
               | inr t ↦ elim (chosen (eqb code 0x7C) _ _ _ t.1) [
                 | inl u ↦ by 0x7C u.0 (long_node S unread end now bs y u.1 solid bytes room)
                 | inr u ↦ elim (chosen (eqb code 0x7D) _ _ _ u.1) [
-                  | inl v ↦ by 0x7D v.0 (proxy_node S inner sound unread end now bs y v.1 solid bytes room)
+                  | inl v ↦ by 0x7D v.0 (proxy_node S inner sound unread end at now bs y v.1 solid bytes room)
                   | inr v ↦
                       let w = passed (eqb code 0x7E) (with_class inner unread at (enum_at at (inner places.Text unread)) now bs) (bad bad_code at) y v.1 in
                       by 0x7E w.0 (class_node S inner sound unread at 0x7E (enum_at at (inner places.Text unread)) (enum_node S inner sound unread at) now bs y w.1 solid bytes)

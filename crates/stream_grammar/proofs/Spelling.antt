@@ -36,7 +36,7 @@ token_wants (truth b ∷ ts) = token_wants ts
 token_wants (want w ∷ ts) = w ∷ token_wants ts
 token_wants (note is ∷ ts) = item_wants is ++ token_wants ts
 
-joined_wants : (is : List Item) → item_wants (joined is) ≡ item_wants is
+pub joined_wants : (is : List Item) → item_wants (joined is) ≡ item_wants is
 unfolding item_wants
 joined_wants [] = refl
 joined_wants (items.Bytes p ∷ is) = put_wants p (joined is) ∙ joined_wants is

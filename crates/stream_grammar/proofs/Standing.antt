@@ -31,10 +31,10 @@ use Rattle.ser_values.specs.declared.node.SlotPlace.TheVariants as places
 use Rattle.ser_values.specs.Node.{has, is_desc, is_text, admits, admits_null}
 use Rattle.ser_values.specs.Shape.{fits_node, fits_type, is_enum}
 use Rattle.stream_grammar.specs.Spelled.{joined}
-use Rattle.stream_grammar.specs.Reading.{FaultKind, bad_code, bad_handle, wrong_handle_kind, bad_desc, bad_utf, reset, inner_exception, old_external, Fault, short, bad, too_many, too_deep, ◌>>=◌, Plain, byte_at, take_at, number_at, size_at, units_of, units_at, short_at, long_at, Progress, Step, Slots, plain, map_step, many_at, push, fill, blocks_at, items_at, field_of, field_at, is_true, value_at, values_at, elements_at, Row, chain_of, rows_of, class_fault, note_at, parts_at, unless, roomy, blank, text_at, desc_after, desc_at, proxy_at, on_class, with_class, object_after, object_at, type_in, array_of, array_at, class_at, named, enum_at, gives_handle, admits_code, code_fault, fresh_at, null_at, handle_fault, handle_at, deep, coded, no_slots, slot_at, magic_at, stream_of}
+use Rattle.stream_grammar.specs.Reading.{FaultKind, bad_code, bad_handle, wrong_handle_kind, bad_desc, bad_utf, negative_length, reset, inner_exception, old_external, Fault, short, bad, too_many, too_deep, ◌>>=◌, Plain, byte_at, take_at, number_at, size_at, units_of, units_at, short_at, long_at, Progress, Step, Slots, plain, map_step, many_at, push, fill, add_parts, counting, sizes_of, refs_among, blocks_at, items_at, field_of, field_at, is_true, value_at, values_at, elements_at, Row, chain_of, rows_of, class_fault, note_at, parts_at, unless, roomy, blank, text_at, desc_after, desc_at, proxy_at, on_class, with_class, object_after, object_at, type_in, array_of, array_at, class_at, named, enum_at, gives_handle, admits_code, code_fault, fresh_at, null_at, handle_fault, handle_at, deep, coded, no_slots, slot_at, magic_at, stream_of}
 use Rattle.stream_grammar.specs.Faults.{Asking, slot_but, stream_but, ComesTo, HasNumber, HasByte, IsNoCode, NamesHandle, IsNegative, ReadsClass, LacksObjects, LacksArrays, LacksConstants, HasTooMany, DescHead, desc_head_at, IsNoLetter, NamesType, HasNoType, IsBroken, BreaksDesc, IsBadDesc, IsPastNodes, IsPastParts, IsNotGiven, IsOfWrongKind, IsUnread, IsRefused, Shows, StandsAt, IsGiven, IsConstruct, IsOneTooMany, IsTooDeep, FaultStands}
 use Rattle.ser_values.proofs.Lists.{length_push, some_same}
-use Rattle.stream_grammar.proofs.PlainSound.{bind_ok, chosen}
+use Rattle.stream_grammar.proofs.PlainSound.{bind_ok, passed, chosen}
 use Rattle.ser_values.proofs.FrontLaws.{eqb_same}
 use Rattle.stream_grammar.proofs.Settling.{ends_early}
 
@@ -430,7 +430,43 @@ module _ (start : ℕ) (whole : List ℕ) where
   behind_code : {A : Type 0} (left c : ℕ) (now : Progress) (bs : List ℕ) (r : Reads A) → Here whole left now (c ∷ bs) → (Here whole left now bs → Goes start whole bs (Good now bs) r) → Goes start whole (c ∷ bs) (Good now (c ∷ bs)) r
   behind_code left c now bs r w h = longer bs (c ∷ bs) (Good now (c ∷ bs)) r (omega arith) (after_code left c now bs r w h)
 
-  blocks_goes : (left : ℕ) (inner : Steps Slot) → StepGoes left inner → (in_note : Bool) (most : ℕ) → StepGoes left (λ o. blocks_at (start + length whole) (inner o) in_note most)
+  -- what is read of one place, as references are, with a stop where they begin
+  record IsReference (left : ℕ) (step : Steps Slot) : Type 0 where
+    unread : List ℕ
+    reads : (now : Progress) (bs : List ℕ) → step None now bs ≡ slot_at (start + length whole) left places.Reference unread now bs
+    stops : (t : Stop) (now : Progress) (c : ℕ) (bs : List ℕ) → (start + length whole) - length (c ∷ bs) ≡ t.position → step (Some t) now (c ∷ bs) ≡ Err (t.fault (record { left = left; place = places.Reference; unread = unread; now = now }))
+
+  abbrev ItemsGo : ℕ → Steps Slot → Type 0
+  ItemsGo left step = StepGoes left step × IsReference left step
+
+  -- parts that are counted
+  here_add : (left n : ℕ) (now : Progress) (bs : List ℕ) → Here whole left now bs → Here whole left (add_parts n now) bs
+  here_add left n now bs w = record { rest = w.rest; few = w.few; count = w.count; level = w.level }
+
+  -- what comes behind a reference
+  abbrev ref_then : Steps Slot → Bool → ℕ → ℕ → List ℕ → Option Stop → Slot × Progress × List ℕ → Result (List Item × Progress × List ℕ) Fault
+  ref_then inner in_note most c bs o s = counting 1 ((start + length whole) - length (c ∷ bs)) s.1 (λ later. blocks_at (start + length whole) (inner o) in_note most later s.2 >>= λ is. Ok (items.Ref s.0 ∷ is.0, is.1, is.2))
+
+  ref_goes : (left : ℕ) (inner : Steps Slot) → ItemsGo left inner → (in_note : Bool) (most : ℕ) → StepGoes left (λ o. blocks_at (start + length whole) (inner o) in_note most) → (c : ℕ) (now : Progress) (bs : List ℕ) → Here whole left now (c ∷ bs)
+      → Goes start whole (c ∷ bs) (Good now (c ∷ bs)) (λ o. inner o now (c ∷ bs) >>= ref_then inner in_note most c bs o)
+  ref_goes left inner h in_note most more c now bs w = record { run = λ comes. (known_ref comes).run comes }
+    where
+      asking : Asking
+      asking = record { left = left; place = places.Reference; unread = h.1.unread; now = now }
+
+      past : Comes (start + length whole) whole (c ∷ bs) (λ o. inner o now (c ∷ bs) >>= ref_then inner in_note most c bs o) → (s : Slot × Progress × List ℕ) → inner None now (c ∷ bs) ≡ Ok s → 1048576 < s.1.parts + 1 → Stood start whole (too_many ((start + length whole) - length (c ∷ bs)))
+      past comes s read many = stands (IsOneTooMany (start + length whole) (λ a. ComesTo (start + length whole) whole ((start + length whole) - length (c ∷ bs)) a)) (c ∷ bs) w.rest (λ front l. record {
+        asking = asking;
+        known = λ fault. (let t : Stop = record { position = (start + length whole) - length (c ∷ bs); fault = fault } in comes t (fault asking) (omega arith) (ap (λ u. u >>= ref_then inner in_note most c bs (Some t)) (h.1.stops t now c bs refl)));
+        refused = inr (record { place = refl; found = s.0; later = s.1; more = s.2; read = sym (h.1.reads now (c ∷ bs)) ∙ read; past = many });
+      })
+
+      known_ref : Comes (start + length whole) whole (c ∷ bs) (λ o. inner o now (c ∷ bs) >>= ref_then inner in_note most c bs o) → Goes start whole (c ∷ bs) (Good now (c ∷ bs)) (λ o. inner o now (c ∷ bs) >>= ref_then inner in_note most c bs o)
+      known_ref comes = step_known left now (c ∷ bs) w (λ o. inner o now (c ∷ bs)) (ref_then inner in_note most c bs) (h.0 now (c ∷ bs) w) (λ s read v.
+          cond_goes s.2 (Good s.1 s.2) (ltb 1048576 (s.1.parts + 1)) _ _ (λ many. fails s.2 (Good s.1 s.2) (too_many ((start + length whole) - length (c ∷ bs))) (past comes s read (ltb-true 1048576 (s.1.parts + 1) many))) (λ few.
+          step_then left (add_parts 1 s.1) s.2 (here_add left 1 s.1 s.2 v) (λ o. blocks_at (start + length whole) (inner o) in_note most (add_parts 1 s.1) s.2) _ (more (add_parts 1 s.1) s.2 (here_add left 1 s.1 s.2 v)) (λ is u. none_goes left is.1 is.2 u)))
+
+  blocks_goes : (left : ℕ) (inner : Steps Slot) → ItemsGo left inner → (in_note : Bool) (most : ℕ) → StepGoes left (λ o. blocks_at (start + length whole) (inner o) in_note most)
   unfolding blocks_at
   blocks_goes left inner h in_note zero now bs w = fails bs (Good now bs) short tt
   blocks_goes left inner h true (suc most) now [] w = fails [] (Good now []) short tt
@@ -439,9 +475,9 @@ module _ (start : ℕ) (whole : List ℕ) where
       cond_goes (c ∷ bs) (Good now (c ∷ bs)) (in_note && eqb c 0x78) _ _ (λ e. behind_code {A = List Item} left c now bs (λ o. Ok ([], now, bs)) w (λ v. none_goes left now bs v)) (λ e.
       cond_goes (c ∷ bs) (Good now (c ∷ bs)) (eqb c 0x77) _ _ (λ e. behind_code left c now bs _ w (λ v. bytes_then left now bs v (byte_at bs) _ (byte_goes bs) (λ n u. block_goes left inner in_note most (blocks_goes left inner h in_note most) n.0 now n.1 u))) (λ e.
       cond_goes (c ∷ bs) (Good now (c ∷ bs)) (eqb c 0x7A) _ _ (λ e. behind_code left c now bs _ w (λ v. bytes_then left now bs v (size_at (start + length whole) w32 (2 ^ 31) bs) _ (size_goes w32 (2 ^ 31) negative_32 bs v.rest) (λ n u. block_goes left inner in_note most (blocks_goes left inner h in_note most) n.0 now n.1 u)))
-      (λ e. step_then left now (c ∷ bs) w (λ o. inner o now (c ∷ bs)) _ (h now (c ∷ bs) w) (λ s v. step_then left s.1 s.2 v (λ o. blocks_at (start + length whole) (inner o) in_note most s.1 s.2) _ (blocks_goes left inner h in_note most s.1 s.2 v) (λ is u. none_goes left is.1 is.2 u)))))
+      (λ e. ref_goes left inner h in_note most (blocks_goes left inner h in_note most) c now bs w)))
 
-  items_goes : (left : ℕ) (inner : Steps Slot) → StepGoes left inner → (in_note : Bool) → StepGoes left (λ o. items_at (start + length whole) (inner o) in_note)
+  items_goes : (left : ℕ) (inner : Steps Slot) → ItemsGo left inner → (in_note : Bool) → StepGoes left (λ o. items_at (start + length whole) (inner o) in_note)
   unfolding items_at
   items_goes left inner h in_note now bs w = mapped_goes left joined (λ o. blocks_at (start + length whole) (inner o) in_note (suc (length bs))) (blocks_goes left inner h in_note (suc (length bs))) now bs w
 
@@ -524,16 +560,16 @@ module _ (start : ℕ) (whole : List ℕ) where
   elements_goes left inner h codes.Array n now bs w = mapped_goes left kinds.Refs (λ o. many_at (inner o) n) (many_goes left inner h n) now bs w
   elements_goes left inner h codes.Object n now bs w = mapped_goes left kinds.Refs (λ o. many_at (inner o) n) (many_goes left inner h n) now bs w
 
-  note_goes : (left : ℕ) (inner : Steps Slot) → StepGoes left inner → (b : Bool) → StepGoes left (λ o. note_at (start + length whole) (inner o) b)
+  note_goes : (left : ℕ) (inner : Steps Slot) → ItemsGo left inner → (b : Bool) → StepGoes left (λ o. note_at (start + length whole) (inner o) b)
   unfolding note_at
   note_goes left inner h true now bs w = items_goes left inner h true now bs w
   note_goes left inner h false now bs w = none_goes left now bs w
 
-  parts_goes : (left : ℕ) (inner : Steps Slot) → StepGoes left inner → (rs : List Row) → StepGoes left (λ o. parts_at (start + length whole) (inner o) rs)
+  parts_goes : (left : ℕ) (inner : Steps Slot) → ItemsGo left inner → (rs : List Row) → StepGoes left (λ o. parts_at (start + length whole) (inner o) rs)
   unfolding parts_at
   parts_goes left inner h [] now bs w = none_goes left now bs w
   parts_goes left inner h (x ∷ rs) now bs w =
-      step_then left now bs w (λ o. values_at (inner o) x.0 now bs) _ (values_goes left inner h x.0 now bs w) (λ vs v. step_then left vs.1 vs.2 v (λ o. note_at (start + length whole) (inner o) x.1 vs.1 vs.2) _ (note_goes left inner h x.1 vs.1 vs.2 v) (λ is u.
+      step_then left now bs w (λ o. values_at (inner o) x.0 now bs) _ (values_goes left inner h.0 x.0 now bs w) (λ vs v. step_then left vs.1 vs.2 v (λ o. note_at (start + length whole) (inner o) x.1 vs.1 vs.2) _ (note_goes left inner h x.1 vs.1 vs.2 v) (λ is u.
       step_then left is.1 is.2 u (λ o. parts_at (start + length whole) (inner o) rs is.1 is.2) _ (parts_goes left inner h rs is.1 is.2 u) (λ ps t. none_goes left ps.1 ps.2 t)))
 
   -- ---- references
@@ -556,11 +592,22 @@ module _ (start : ℕ) (whole : List ℕ) where
   abbrev NodeGood : Progress → List ℕ → Slot × Progress × List ℕ → Type 0
   NodeGood now bs x = Grown whole (length bs) (suc (length now.nodes + length bs)) x.1 x.2 × IsNode x.0
 
+  -- so are those of every place
+  record AreReferences (left : ℕ) (inner : Option Stop → Slots) : Type 0 where
+    reads : inner None ≡ slot_at (start + length whole) left
+    stops : (t : Stop) (p : SlotPlace) (unread : List ℕ) (now : Progress) (c : ℕ) (bs : List ℕ) → (start + length whole) - length (c ∷ bs) ≡ t.position → inner (Some t) p unread now (c ∷ bs) ≡ Err (t.fault (record { left = left; place = p; unread = unread; now = now }))
+
+  abbrev EachGoes : ℕ → (Option Stop → Slots) → Type 0
+  EachGoes left inner = (p : SlotPlace) (unread : List ℕ) (now : Progress) (bs : List ℕ) → Here whole left now bs → Goes start whole bs (SlotGood p now bs) (λ o. inner o p unread now bs)
+
   abbrev SlotsGo : ℕ → (Option Stop → Slots) → Type 0
-  SlotsGo left inner = (p : SlotPlace) (unread : List ℕ) (now : Progress) (bs : List ℕ) → Here whole left now bs → Goes start whole bs (SlotGood p now bs) (λ o. inner o p unread now bs)
+  SlotsGo left inner = EachGoes left inner × AreReferences left inner
 
   step_of : (left : ℕ) (inner : Option Stop → Slots) → SlotsGo left inner → (p : SlotPlace) (unread : List ℕ) → StepGoes left (λ o. inner o p unread)
-  step_of left inner h p unread now bs w = weaker bs (SlotGood p now bs) (Good now bs) (λ o. inner o p unread now bs) (λ x q. q.0) (h p unread now bs w)
+  step_of left inner h p unread now bs w = weaker bs (SlotGood p now bs) (Good now bs) (λ o. inner o p unread now bs) (λ x q. q.0) (h.0 p unread now bs w)
+
+  items_of : (left : ℕ) (inner : Option Stop → Slots) → SlotsGo left inner → (unread : List ℕ) → ItemsGo left (λ o. inner o places.Reference unread)
+  items_of left inner h unread = (step_of left inner h places.Reference unread, record { unread = unread; reads = λ now bs. ap (λ (s : Slots). s places.Reference unread now bs) h.1.reads; stops = λ t now c bs e. h.1.stops t places.Reference unread now c bs e })
 
   -- the node stands there
   push_here : (left : ℕ) (now : Progress) (bs : List ℕ) (mid : Progress) → Opened whole left now bs → length mid.nodes ≡ suc (length now.nodes) → Here whole left mid bs
@@ -608,45 +655,60 @@ module _ (start : ℕ) (whole : List ℕ) where
   Owns at text first begin head = (done : ℕ) (fields : List FieldDesc) (later : Progress) (more : List ℕ) → many_at (field_at (start + length whole) at text) done first begin ≡ Ok (fields, later, more) → IsBroken (start + length whole) text head done fields later more → Stood start whole (bad bad_desc at)
 
   desc_after_goes : (left at : ℕ) (inner : Option Stop → Slots) → SlotsGo left inner → (unread name : List ℕ) (suid flags : ℕ) (now : Progress) (bs : List ℕ) → Here whole left now bs
-      → ((n : ℕ × List ℕ) → size_at (start + length whole) w16 32768 bs ≡ Ok n → Owns at (inner None places.Text unread) now n.1 (record { name = name; suid = suid; flags = flags; count = n.0; rest = n.1 }))
+      → ((n : ℕ × List ℕ) → size_at (start + length whole) w16 32768 bs ≡ Ok n → Owns at (inner None places.Text unread) (add_parts n.0 now) n.1 (record { name = name; suid = suid; flags = flags; count = n.0; rest = n.1 }))
+      → ((n : ℕ × List ℕ) → size_at (start + length whole) w16 32768 bs ≡ Ok n → 1048576 < now.parts + n.0 → Stood start whole (too_many at))
       → Goes start whole bs (Good now bs) (λ o. desc_after (start + length whole) at (inner o) unread name suid flags now bs)
   unfolding desc_after
-  desc_after_goes left at inner h unread name suid flags now bs w own =
+  desc_after_goes left at inner h unread name suid flags now bs w own past =
       bytes_known left now bs w (size_at (start + length whole) w16 32768 bs) _ (size_goes w16 32768 negative_16 bs w.rest) (λ n counted v.
-      step_known left now n.1 v (λ o. many_at (field_at (start + length whole) at (inner o places.Text unread)) n.0 now n.1) _
-      (fields_go left at (λ o. inner o places.Text unread) (step_of left inner h places.Text unread) now n.1 n.0 n.0 0 (omega arith) [] now n.1 v (none_read (field_at (start + length whole) at (inner None places.Text unread)) now n.1) (λ k fs later more lt read broken. own n counted k fs later more read (inr (lt, broken)))) (λ fs read u.
+      cond_goes n.1 (Good now n.1) (ltb 1048576 (now.parts + n.0)) _ _ (λ many. fails n.1 (Good now n.1) (too_many at) (past n counted (ltb-true 1048576 (now.parts + n.0) many))) (λ room.
+      step_known left (add_parts n.0 now) n.1 (here_add left n.0 now n.1 v) (λ o. many_at (field_at (start + length whole) at (inner o places.Text unread)) n.0 (add_parts n.0 now) n.1) _
+      (fields_go left at (λ o. inner o places.Text unread) (step_of left inner h places.Text unread) (add_parts n.0 now) n.1 n.0 n.0 0 (omega arith) [] (add_parts n.0 now) n.1 (here_add left n.0 now n.1 v) (none_read (field_at (start + length whole) at (inner None places.Text unread)) (add_parts n.0 now) n.1) (λ k fs later more lt read broken. own n counted k fs later more read (inr (lt, broken)))) (λ fs read u.
       cond_goes fs.2 (Good fs.1 fs.2) (is_good_desc (record { name = name; suid = cast_signed w64 suid; flags = flags; fields = fs.0; note = []; parent = slots.Null })) _ _ (λ e.
-      step_then left fs.1 fs.2 u (λ o. items_at (start + length whole) (inner o places.Reference unread) true fs.1 fs.2) _ (items_goes left (λ o. inner o places.Reference unread) (step_of left inner h places.Reference unread) true fs.1 fs.2 u) (λ is t.
+      step_then left fs.1 fs.2 u (λ o. items_at (start + length whole) (inner o places.Reference unread) true fs.1 fs.2) _ (items_goes left (λ o. inner o places.Reference unread) (items_of left inner h unread) true fs.1 fs.2 u) (λ is t.
       step_then left is.1 is.2 t (λ o. inner o places.Parent unread is.1 is.2) _ (step_of left inner h places.Parent unread is.1 is.2 t) (λ s z. none_goes left s.1 s.2 z)))
-      (λ e. fails fs.2 (Good fs.1 fs.2) (bad bad_desc at) (own n counted n.0 fs.0 fs.1 fs.2 read (inl (refl, first_fault (record { name = name; suid = cast_signed w64 suid; flags = flags; fields = fs.0; note = []; parent = slots.Null }) e))))))
+      (λ e. fails fs.2 (Good fs.1 fs.2) (bad bad_desc at) (own n counted n.0 fs.0 fs.1 fs.2 read (inl (refl, first_fault (record { name = name; suid = cast_signed w64 suid; flags = flags; fields = fs.0; note = []; parent = slots.Null }) e)))))))
 
   desc_goes : (left at : ℕ) (inner : Option Stop → Slots) → SlotsGo left inner → (unread : List ℕ) (now : Progress) (bs : List ℕ) → Opened whole left now bs
-      → ((head : DescHead) → desc_head_at (start + length whole) bs ≡ Ok head → Owns at (inner None places.Text (unread ++ length now.nodes ∷ [])) (push now (Desc blank)) head.rest head)
+      → ((head : DescHead) → desc_head_at (start + length whole) bs ≡ Ok head → Owns at (inner None places.Text (unread ++ length now.nodes ∷ [])) (add_parts head.count (push now (Desc blank))) head.rest head)
+      → ((head : DescHead) → desc_head_at (start + length whole) bs ≡ Ok head → 1048576 < now.parts + head.count → Stood start whole (too_many at))
       → Goes start whole bs (NodeGood now bs) (λ o. desc_at (start + length whole) at (inner o) unread now bs)
   unfolding desc_at
-  desc_goes left at inner h unread now bs o own =
+  desc_goes left at inner h unread now bs o own past =
       read_known left now bs o (short_at (start + length whole) bs) _ (short_goes bs o.here.rest) (λ name named o.
       read_known left now name.1 o (number_at w64 name.1) _ (number_goes w64 name.1) (λ suid numbered o.
       read_known left now suid.1 o (byte_at suid.1) _ (byte_goes suid.1) (λ flags flagged o.
       filled_then left now flags.1 (push now (Desc blank)) o (length_push now.nodes (Desc blank)) (λ o. desc_after (start + length whole) at (inner o) (unread ++ length now.nodes ∷ []) name.0 suid.0 flags.0 (push now (Desc blank)) flags.1) _
       (λ w. desc_after_goes left at inner h (unread ++ length now.nodes ∷ []) name.0 suid.0 flags.0 (push now (Desc blank)) flags.1 w
-      (λ n counted. own (record { name = name.0; suid = suid.0; flags = flags.0; count = n.0; rest = n.1 }) (head_read (start + length whole) bs name suid flags n named numbered flagged counted)))
+      (λ n counted. own (record { name = name.0; suid = suid.0; flags = flags.0; count = n.0; rest = n.1 }) (head_read (start + length whole) bs name suid flags n named numbered flagged counted))
+      (λ n counted many. past (record { name = name.0; suid = suid.0; flags = flags.0; count = n.0; rest = n.1 }) (head_read (start + length whole) bs name suid flags n named numbered flagged counted) many))
       (λ d k. node_done now flags.1 (length now.nodes) (fill d.1 (length now.nodes) (Desc d.0)) d.2 (fill_grown now flags.1 (push now (Desc blank)) d.1 d.2 (length now.nodes) (Desc d.0) (length_push now.nodes (Desc blank)) k)))))
 
-  proxy_goes : (left : ℕ) (inner : Option Stop → Slots) → SlotsGo left inner → (unread : List ℕ) (now : Progress) (bs : List ℕ) → Opened whole left now bs → Goes start whole bs (NodeGood now bs) (λ o. proxy_at (start + length whole) (inner o) unread now bs)
+  -- a count that was read
+  sized : (w : Width) (bound : ℕ) (bs : List ℕ) (x : ℕ × List ℕ) → size_at (start + length whole) w bound bs ≡ Ok x → HasNumber w bs x.0
+  unfolding size_at
+  sized w bound bs x e =
+      let a = bind_ok (number_at w bs) (λ n. cond (ltb n.0 bound) (Ok n) (Err (bad negative_length ((start + length whole) - length bs)))) x e in
+      let p = passed (ltb a.0.0 bound) (Ok a.0) (bad negative_length ((start + length whole) - length bs)) x a.2 in
+      let q : Numbered w bs a.0 = subst (λ r. Told start whole (Numbered w bs) r) a.1 (number_told w bs) in
+      has_number w bs x (subst (λ (z : ℕ × List ℕ). Numbered w bs z) (found_same a.0 x p.1) q)
+
+  proxy_goes : (left at : ℕ) (inner : Option Stop → Slots) → SlotsGo left inner → (unread : List ℕ) (now : Progress) (bs : List ℕ) → Opened whole left now bs → ((n : ℕ) → HasNumber w32 bs n → 1048576 < now.parts + n → Stood start whole (too_many at))
+      → Goes start whole bs (NodeGood now bs) (λ o. proxy_at (start + length whole) at (inner o) unread now bs)
   unfolding proxy_at
-  proxy_goes left inner h unread now bs o =
+  proxy_goes left at inner h unread now bs o past =
       let inside = unread ++ length now.nodes ∷ [] in
-      let mid = push now (Desc blank) in
       let l = length_push now.nodes (Desc blank) in
-      read_node left now bs o (size_at (start + length whole) w32 (2 ^ 31) bs) _ (size_goes w32 (2 ^ 31) negative_32 bs o.here.rest) (λ n o. (
+      read_known left now bs o (size_at (start + length whole) w32 (2 ^ 31) bs) _ (size_goes w32 (2 ^ 31) negative_32 bs o.here.rest) (λ n counted o. (
+      let mid = add_parts n.0 (push now (Desc blank)) in
       let w = push_here left now n.1 mid o l in
+      cond_goes n.1 (NodeGood now n.1) (ltb 1048576 (now.parts + n.0)) _ _ (λ many. fails n.1 (NodeGood now n.1) (too_many at) (past n.0 (sized w32 (2 ^ 31) bs n counted) (ltb-true 1048576 (now.parts + n.0) many))) (λ room.
       filled_then left now n.1 mid o l (λ o. many_at (plain (short_at (start + length whole))) n.0 mid n.1) _ (λ w. many_goes left (λ o. plain (short_at (start + length whole))) (plain_goes left (short_at (start + length whole)) short_goes) n.0 mid n.1 w) (λ names p. (
       let w2 = next left mid n.1 names.1 names.2 w p in
-      then_goes names.2 (Good names.1 names.2) (NodeGood now n.1) (λ o. items_at (start + length whole) (inner o places.Reference inside) true names.1 names.2) _ (items_goes left (λ o. inner o places.Reference inside) (step_of left inner h places.Reference inside) true names.1 names.2 w2) (λ is q. (
+      then_goes names.2 (Good names.1 names.2) (NodeGood now n.1) (λ o. items_at (start + length whole) (inner o places.Reference inside) true names.1 names.2) _ (items_goes left (λ o. inner o places.Reference inside) (items_of left inner h inside) true names.1 names.2 w2) (λ is q. (
       let w3 = next left names.1 names.2 is.1 is.2 w2 q in
       then_goes is.2 (Good is.1 is.2) (NodeGood now n.1) (λ o. inner o places.Parent inside is.1 is.2) _ (step_of left inner h places.Parent inside is.1 is.2 w3)
-      (λ s k. node_done now n.1 (length now.nodes) (fill s.1 (length now.nodes) (Proxy (record { names = names.0; note = is.0; parent = s.0 }))) s.2 (fill_grown now n.1 mid s.1 s.2 (length now.nodes) (Proxy (record { names = names.0; note = is.0; parent = s.0 })) l (two_steps mid n.1 names.1 names.2 s.1 s.2 p (two_steps names.1 names.2 is.1 is.2 s.1 s.2 q k))))))))))
+      (λ s k. node_done now n.1 (length now.nodes) (fill s.1 (length now.nodes) (Proxy (record { names = names.0; note = is.0; parent = s.0 }))) s.2 (fill_grown now n.1 mid s.1 s.2 (length now.nodes) (Proxy (record { names = names.0; note = is.0; parent = s.0 })) l (two_steps mid n.1 names.1 names.2 s.1 s.2 p (two_steps names.1 names.2 is.1 is.2 s.1 s.2 q k)))))))))))
 
   -- ---- a class first
 
@@ -654,7 +716,7 @@ module _ (start : ℕ) (whole : List ℕ) where
       → ((k : ℕ) (after : Progress) (rest : List ℕ) → inner None places.Class unread now bs ≡ Ok (slots.Node k, after, rest) → 65536 ≤ length whole → 65536 ≤ length after.nodes → Stood start whole (too_many at))
       → ((k : ℕ) (after : Progress) (rest : List ℕ) → inner None places.Class unread now bs ≡ Ok (slots.Node k, after, rest) → Opened whole left after rest → Goes start whole rest (NodeGood after rest) (λ o. f o k after rest)) → Goes start whole bs (NodeGood now bs) (λ o. with_class (inner o) unread at (f o) now bs)
   unfolding with_class
-  class_first left inner h unread at f now bs o many each = known_goes bs (SlotGood places.Class now bs) (NodeGood now bs) (λ o. inner o places.Class unread now bs) (λ o. on_class at (f o)) (h places.Class unread now bs o.here) by
+  class_first left inner h unread at f now bs o many each = known_goes bs (SlotGood places.Class now bs) (NodeGood now bs) (λ o. inner o places.Class unread now bs) (λ o. on_class at (f o)) (h.0 places.Class unread now bs o.here) by
     where
       by : (x : Slot × Progress × List ℕ) → SlotGood places.Class now bs x → inner None places.Class unread now bs ≡ Ok x → Goes start whole x.2 (NodeGood now bs) (λ o. on_class at (f o) x)
       by (slots.Null, after, rest) q is = absurd q.1
@@ -685,30 +747,33 @@ module _ (start : ℕ) (whole : List ℕ) where
   class_kinds (Some (Proxy p)) false at old own k e = kind_is bad_desc k at e (own refl)
   class_kinds _ serial at old own k e = kind_is bad_desc k at e (own refl)
 
-  object_goes : (left at : ℕ) (inner : Steps Slot) → StepGoes left inner → (class : ℕ) (now : Progress) (bs : List ℕ) → Opened whole left now bs → (HasTooMany class now → Stood start whole (too_many at)) → (LacksObjects old_external class now.nodes → Stood start whole (bad old_external at)) → (LacksObjects bad_desc class now.nodes → Stood start whole (bad bad_desc at))
+  object_goes : (left at : ℕ) (inner : Steps Slot) → ItemsGo left inner → (class : ℕ) (now : Progress) (bs : List ℕ) → Opened whole left now bs → (HasTooMany class now → Stood start whole (too_many at)) → (LacksObjects old_external class now.nodes → Stood start whole (bad old_external at)) → (LacksObjects bad_desc class now.nodes → Stood start whole (bad bad_desc at))
       → Goes start whole bs (NodeGood now bs) (λ o. object_at (start + length whole) at (inner o) class now bs)
   unfolding object_at object_after
   object_goes left at inner h class now bs o many old own =
       let chain = chain_of 1048576 now.nodes (slots.Node class) in
       let rows = rows_of (slice_get now.nodes class) chain.0 in
-      let mid : Progress = record { nodes = now.nodes ++ Object class [] ∷ []; parts = now.parts + length rows } in
+      let mid : Progress = record { nodes = now.nodes ++ Object class [] ∷ []; parts = now.parts + sizes_of rows } in
       let l : length mid.nodes ≡ suc (length now.nodes) = length_push now.nodes (Object class []) in
-      cond_goes bs (NodeGood now bs) (ltb 1048576 (now.parts + length rows)) _ _ (λ e. fails bs (NodeGood now bs) (too_many at) (many (ltb-true 1048576 (now.parts + length rows) e))) (λ e.
+      cond_goes bs (NodeGood now bs) (ltb 1048576 (now.parts + sizes_of rows)) _ _ (λ e. fails bs (NodeGood now bs) (too_many at) (many (ltb-true 1048576 (now.parts + sizes_of rows) e))) (λ e.
       unless_goes bs (NodeGood now bs) (class_fault (slice_get now.nodes class) chain.1) at _ (class_kinds (slice_get now.nodes class) chain.1 at old own)
       (filled_then left now bs mid o l (λ o. parts_at (start + length whole) (inner o) rows mid bs) _ (λ w. parts_goes left inner h rows mid bs w) (λ ps q. node_done now bs (length now.nodes) (fill ps.1 (length now.nodes) (Object class ps.0)) ps.2 (fill_grown now bs mid ps.1 ps.2 (length now.nodes) (Object class ps.0) l q))))
 
-  array_goes : (left at : ℕ) (inner : Steps Slot) → StepGoes left inner → (class : ℕ) (kind : Option TypeCode) (now : Progress) (bs : List ℕ) → Opened whole left now bs → (kind ≡ None → Stood start whole (bad bad_desc at)) → Goes start whole bs (NodeGood now bs) (λ o. array_of (start + length whole) at (inner o) class kind now bs)
+  array_goes : (left at : ℕ) (inner : Steps Slot) → StepGoes left inner → (class : ℕ) (kind : Option TypeCode) (now : Progress) (bs : List ℕ) → Opened whole left now bs → (kind ≡ None → Stood start whole (bad bad_desc at))
+      → ((code : TypeCode) (n : ℕ) → kind ≡ Some code → HasNumber w32 bs n → 1048576 < now.parts + refs_among code n → Stood start whole (too_many at)) → Goes start whole bs (NodeGood now bs) (λ o. array_of (start + length whole) at (inner o) class kind now bs)
   unfolding array_of
-  array_goes left at inner h class None now bs o own = fails bs (NodeGood now bs) (bad bad_desc at) (own refl)
-  array_goes left at inner h class (Some code) now bs o own =
-      let mid = push now (Array class (kinds.Bytes [])) in
+  array_goes left at inner h class None now bs o own past = fails bs (NodeGood now bs) (bad bad_desc at) (own refl)
+  array_goes left at inner h class (Some code) now bs o own past =
       let l = length_push now.nodes (Array class (kinds.Bytes [])) in
-      read_node left now bs o (size_at (start + length whole) w32 (2 ^ 31) bs) _ (size_goes w32 (2 ^ 31) negative_32 bs o.here.rest) (λ n o.
-      filled_then left now n.1 mid o l (λ o. elements_at (inner o) code n.0 mid n.1) _ (λ w. elements_goes left inner h code n.0 mid n.1 w) (λ vs p. node_done now n.1 (length now.nodes) (fill vs.1 (length now.nodes) (Array class vs.0)) vs.2 (fill_grown now n.1 mid vs.1 vs.2 (length now.nodes) (Array class vs.0) l p)))
+      read_known left now bs o (size_at (start + length whole) w32 (2 ^ 31) bs) _ (size_goes w32 (2 ^ 31) negative_32 bs o.here.rest) (λ n counted o. (
+      let mid = add_parts (refs_among code n.0) (push now (Array class (kinds.Bytes []))) in
+      cond_goes n.1 (NodeGood now n.1) (ltb 1048576 (now.parts + refs_among code n.0)) _ _ (λ many. fails n.1 (NodeGood now n.1) (too_many at) (past code n.0 refl (sized w32 (2 ^ 31) bs n counted) (ltb-true 1048576 (now.parts + refs_among code n.0) many))) (λ room.
+      filled_then left now n.1 mid o l (λ o. elements_at (inner o) code n.0 mid n.1) _ (λ w. elements_goes left inner h code n.0 mid n.1 w) (λ vs p. node_done now n.1 (length now.nodes) (fill vs.1 (length now.nodes) (Array class vs.0)) vs.2 (fill_grown now n.1 mid vs.1 vs.2 (length now.nodes) (Array class vs.0) l p)))))
 
-  typed_array : (left at : ℕ) (inner : Steps Slot) → StepGoes left inner → (class : ℕ) (now : Progress) (bs : List ℕ) → Opened whole left now bs → (LacksArrays class now.nodes → Stood start whole (bad bad_desc at)) → Goes start whole bs (NodeGood now bs) (λ o. array_at (start + length whole) at (inner o) class now bs)
+  typed_array : (left at : ℕ) (inner : Steps Slot) → StepGoes left inner → (class : ℕ) (now : Progress) (bs : List ℕ) → Opened whole left now bs → (LacksArrays class now.nodes → Stood start whole (bad bad_desc at)) → ((code : TypeCode) (n : ℕ) → type_in (slice_get now.nodes class) ≡ Some code → HasNumber w32 bs n → 1048576 < now.parts + refs_among code n → Stood start whole (too_many at))
+      → Goes start whole bs (NodeGood now bs) (λ o. array_at (start + length whole) at (inner o) class now bs)
   unfolding array_at
-  typed_array left at inner h class now bs o own = array_goes left at inner h class (type_in (slice_get now.nodes class)) now bs o own
+  typed_array left at inner h class now bs o own past = array_goes left at inner h class (type_in (slice_get now.nodes class)) now bs o own past
 
   class_goes : (left class : ℕ) (now : Progress) (bs : List ℕ) → Opened whole left now bs → Goes start whole bs (NodeGood now bs) (λ o. class_at class now bs)
   unfolding class_at
@@ -761,28 +826,32 @@ module _ (start : ℕ) (whole : List ℕ) where
   -- a node too many, or a part
   many_as : (asking : Asking) (code : ℕ) (bs : List ℕ) → Rest whole (code ∷ bs) → Known ((start + length whole) - length (code ∷ bs)) asking → IsConstruct asking.place code → ((front : List ℕ) → length whole ≡ length front + suc (length bs) → IsPastNodes (start + length whole) asking front (code ∷ bs) ⊎ IsPastParts (start + length whole) asking (code ∷ bs))
       → Stood start whole (too_many ((start + length whole) - length (code ∷ bs)))
-  many_as asking code bs r known gives h = stands (IsOneTooMany (start + length whole) (λ a. Known ((start + length whole) - length (code ∷ bs)) a)) (code ∷ bs) r (λ front l. record { asking = asking; known = known; refused = (record { byte = code; rest = bs; is = refl; that = gives }, h front l) })
+  many_as asking code bs r known gives h = stands (IsOneTooMany (start + length whole) (λ a. Known ((start + length whole) - length (code ∷ bs)) a)) (code ∷ bs) r (λ front l. record { asking = asking; known = known; refused = inl (record { byte = code; rest = bs; is = refl; that = gives }, h front l) })
 
-  fresh_goes : (place : SlotPlace) (left : ℕ) (inner : Option Stop → Slots) → inner None ≡ slot_at (start + length whole) left → SlotsGo left inner → (unread : List ℕ) (code : ℕ) (now : Progress) (bs : List ℕ) → IsConstruct place code → Opened whole left now bs → Rest whole (code ∷ bs)
+  fresh_goes : (place : SlotPlace) (left : ℕ) (inner : Option Stop → Slots) → SlotsGo left inner → (unread : List ℕ) (code : ℕ) (now : Progress) (bs : List ℕ) → IsConstruct place code → Opened whole left now bs → Rest whole (code ∷ bs)
       → Known ((start + length whole) - length (code ∷ bs)) (record { left = suc left; place = place; unread = unread; now = now })
       → Goes start whole bs (NodeGood now bs) (λ o. fresh_at (start + length whole) ((start + length whole) - length (code ∷ bs)) (inner o) unread code now bs)
   unfolding fresh_at
-  fresh_goes place left inner reads h unread code now bs gives o r known =
+  fresh_goes place left inner h unread code now bs gives o r known =
+      let reads = h.1.reads in
       let end = start + length whole in
       let at = end - length (code ∷ bs) in
       let asking : Asking = record { left = suc left; place = place; unread = unread; now = now } in
       let step = step_of left inner h places.Reference unread in
-      cond_goes bs (NodeGood now bs) (eqb code 0x72) _ _ (λ e. desc_goes left at inner h unread now bs o (λ head begins done fields later more read broken. desc_as asking code bs r known (inl (breaks_as e head begins done fields later more read broken)))) (λ e1.
-      cond_goes bs (NodeGood now bs) (eqb code 0x73) _ _ (λ e. class_first left inner h unread at (λ o. object_at end at (inner o places.Reference unread)) now bs o full_nodes (λ k after rest is u. object_goes left at (λ o. inner o places.Reference unread) step k after rest u
-      (λ many. many_as asking code bs r known gives (λ front l. inr (record { class = k; later = after; read = class_as k after rest is; that = (coded code 0x73 bs e, many) })))
+      let item = items_of left inner h unread in
+      cond_goes bs (NodeGood now bs) (eqb code 0x72) _ _ (λ e. desc_goes left at inner h unread now bs o (λ head begins done fields later more read broken. desc_as asking code bs r known (inl (breaks_as e head begins done fields later more read broken)))
+      (λ head begins past. many_as asking code bs r known gives (λ front l. inr (inr (inr (inr (record { rest = bs; is = ap (λ k. k ∷ bs) (eqb-true code 0x72 e); head = head; begins = begins; past = past }))))))) (λ e1.
+      cond_goes bs (NodeGood now bs) (eqb code 0x73) _ _ (λ e. class_first left inner h unread at (λ o. object_at end at (inner o places.Reference unread)) now bs o full_nodes (λ k after rest is u. object_goes left at (λ o. inner o places.Reference unread) item k after rest u
+      (λ many. many_as asking code bs r known gives (λ front l. inr (inl (record { class = k; later = after; read = class_as k after rest is; that = (coded code 0x73 bs e, many) }))))
       (λ old. stands (Shows end (λ a. Known at a) old_external) (code ∷ bs) r (λ front l. record { asking = asking; known = known; refused = record { class = k; later = after; read = class_as k after rest is; that = (coded code 0x73 bs e, old) } }))
       (λ own. desc_as asking code bs r known (inr (inl (record { class = k; later = after; read = class_as k after rest is; that = inl (coded code 0x73 bs e, own) })))))) (λ e2.
       cond_goes bs (NodeGood now bs) (eqb code 0x74) _ _ (λ e. text_goes left (short_at end) short_goes now bs o) (λ e3.
       cond_goes bs (NodeGood now bs) (eqb code 0x75) _ _ (λ e. class_first left inner h unread at (λ o. array_at end at (inner o places.Reference unread)) now bs o full_nodes (λ k after rest is u. typed_array left at (λ o. inner o places.Reference unread) step k after rest u
-      (λ own. desc_as asking code bs r known (inr (inl (record { class = k; later = after; read = class_as k after rest is; that = inr (inl (coded code 0x75 bs e, own)) })))))) (λ e4.
+      (λ own. desc_as asking code bs r known (inr (inl (record { class = k; later = after; read = class_as k after rest is; that = inr (inl (coded code 0x75 bs e, own)) }))))
+      (λ kind n typed number past. many_as asking code bs r known gives (λ front l. inr (inr (inl (record { array = coded code 0x75 bs e; class = k; later = after; read = class_as k after rest is; code = kind; typed = typed; count = n; number = number; past = past }))))))) (λ e4.
       cond_goes bs (NodeGood now bs) (eqb code 0x76) _ _ (λ e. class_first left inner h unread at (λ o. class_at) now bs o full_nodes (λ k after rest is u. class_goes left k after rest u)) (λ e5.
       cond_goes bs (NodeGood now bs) (eqb code 0x7C) _ _ (λ e. text_goes left (long_at end) long_goes now bs o) (λ e6.
-      cond_goes bs (NodeGood now bs) (eqb code 0x7D) _ _ (λ e. proxy_goes left inner h unread now bs o) (λ e7.
+      cond_goes bs (NodeGood now bs) (eqb code 0x7D) _ _ (λ e. proxy_goes left at inner h unread now bs o (λ n number past. many_as asking code bs r known gives (λ front l. inr (inr (inr (inl (record { rest = bs; is = ap (λ k. k ∷ bs) (eqb-true code 0x7D e); count = n; number = number; past = past }))))))) (λ e7.
       cond_goes bs (NodeGood now bs) (eqb code 0x7E) _ _ (λ e. class_first left inner h unread at (λ o. enum_at at (inner o places.Text unread)) now bs o full_nodes (λ k after rest is u. enum_goes left at (λ o. inner o places.Text unread) (step_of left inner h places.Text unread) k after rest u
       (λ own. desc_as asking code bs r known (inr (inl (record { class = k; later = after; read = class_as k after rest is; that = inr (inr (coded code 0x7E bs e, own)) }))))))
       (λ e8. absurd (code_known code gives.0 e1 e2 e3 e4 e5 e6 e7 e8)))))))))
@@ -791,10 +860,10 @@ module _ (start : ℕ) (whole : List ℕ) where
       coded code c bs e = record { byte = code; rest = bs; is = refl; that = eqb-true code c e }
 
       class_as : (k : ℕ) (after : Progress) (rest : List ℕ) → inner None places.Class unread now bs ≡ Ok (slots.Node k, after, rest) → ReadsClass (start + length whole) (record { left = suc left; place = place; unread = unread; now = now }) (code ∷ bs) k after
-      class_as k after rest is = record { code = code; rest = bs; is = refl; left = left; level = refl; more = rest; read = subst (λ (s : Slots). s places.Class unread now bs ≡ Ok (slots.Node k, after, rest)) reads is }
+      class_as k after rest is = record { code = code; rest = bs; is = refl; left = left; level = refl; more = rest; read = subst (λ (s : Slots). s places.Class unread now bs ≡ Ok (slots.Node k, after, rest)) h.1.reads is }
 
       breaks_as : eqb code 0x72 ≡ true → (head : DescHead) → desc_head_at (start + length whole) bs ≡ Ok head → (done : ℕ) (fields : List FieldDesc) (later : Progress) (more : List ℕ)
-          → many_at (field_at (start + length whole) ((start + length whole) - length (code ∷ bs)) (inner None places.Text (unread ++ length now.nodes ∷ []))) done (push now (Desc blank)) head.rest ≡ Ok (fields, later, more)
+          → many_at (field_at (start + length whole) ((start + length whole) - length (code ∷ bs)) (inner None places.Text (unread ++ length now.nodes ∷ []))) done (add_parts head.count (push now (Desc blank))) head.rest ≡ Ok (fields, later, more)
           → IsBroken (start + length whole) (inner None places.Text (unread ++ length now.nodes ∷ [])) head done fields later more → BreaksDesc (start + length whole) (record { left = suc left; place = place; unread = unread; now = now }) (code ∷ bs)
       breaks_as e head begins done fields later more read broken = record {
         rest = bs;
@@ -807,8 +876,8 @@ module _ (start : ℕ) (whole : List ℕ) where
         fields = fields;
         later = later;
         more = more;
-        read = subst (λ (s : Slots). many_at (field_at (start + length whole) ((start + length whole) - length (code ∷ bs)) (s places.Text (unread ++ length now.nodes ∷ []))) done (push now (Desc blank)) head.rest ≡ Ok (fields, later, more)) reads read;
-        broken = subst (λ (s : Slots). IsBroken (start + length whole) (s places.Text (unread ++ length now.nodes ∷ [])) head done fields later more) reads broken;
+        read = subst (λ (s : Slots). many_at (field_at (start + length whole) ((start + length whole) - length (code ∷ bs)) (s places.Text (unread ++ length now.nodes ∷ []))) done (add_parts head.count (push now (Desc blank))) head.rest ≡ Ok (fields, later, more)) h.1.reads read;
+        broken = subst (λ (s : Slots). IsBroken (start + length whole) (s places.Text (unread ++ length now.nodes ∷ [])) head done fields later more) h.1.reads broken;
       }
 
       full_nodes : (k : ℕ) (after : Progress) (rest : List ℕ) → inner None places.Class unread now bs ≡ Ok (slots.Node k, after, rest) → 65536 ≤ length whole → 65536 ≤ length after.nodes → Stood start whole (too_many ((start + length whole) - length (code ∷ bs)))
@@ -923,13 +992,13 @@ module _ (start : ℕ) (whole : List ℕ) where
   -- inside, `inside` levels may still begin, unless none may here
   record Deeper (left inside : ℕ) (inner : Option Stop → Slots) : Type 0 where
     level : (n : ℕ) → left ≡ suc n → left ≡ suc inside
-    reads : (n : ℕ) → left ≡ suc n → inner None ≡ slot_at (start + length whole) inside
+    goes : (n : ℕ) → left ≡ suc n → SlotsGo inside inner
 
-  coded_goes : (left inside : ℕ) (inner : Option Stop → Slots) → Deeper left inside inner → SlotsGo inside inner → (p : SlotPlace) (unread : List ℕ) (code : ℕ) (now : Progress) (bs : List ℕ) → Here whole left now (code ∷ bs)
+  coded_goes : (left inside : ℕ) (inner : Option Stop → Slots) → Deeper left inside inner → (p : SlotPlace) (unread : List ℕ) (code : ℕ) (now : Progress) (bs : List ℕ) → Here whole left now (code ∷ bs)
       → Known ((start + length whole) - length (code ∷ bs)) (record { left = left; place = p; unread = unread; now = now })
       → Goes start whole bs (SlotGood p now (code ∷ bs)) (λ o. coded (start + length whole) left (inner o) p unread ((start + length whole) - length (code ∷ bs)) code now bs)
   unfolding coded
-  coded_goes left inside inner d h p unread code now bs w known =
+  coded_goes left inside inner d p unread code now bs w known =
       let end = start + length whole in
       let at = end - length (code ∷ bs) in
       let asking : Asking = record { left = left; place = p; unread = unread; now = now } in
@@ -946,7 +1015,7 @@ module _ (start : ℕ) (whole : List ℕ) where
       let deeper : Known at (record { left = suc inside; place = p; unread = unread; now = now }) = subst (λ k. Known at (record { left = k; place = p; unread = unread; now = now })) same known in
       cond_goes bs (SlotGood p now (code ∷ bs)) (ltb (length now.nodes) 65536) (λ o. fresh_at end at (inner o) unread code now bs) (λ o. Err (too_many at))
       (λ room. weaker bs (NodeGood now bs) (SlotGood p now (code ∷ bs)) (λ o. fresh_at end at (inner o) unread code now bs) (λ x q. (within (length bs) (suc (length bs)) (suc (length now.nodes + length bs)) (length now.nodes + suc (length bs)) x.1 x.2 (omega arith) (omega arith) q.0, node_taken p x.0 q.1))
-      (fresh_goes p inside inner (d.reads n some) h unread code now bs gives (record { here = here; room = ltb-true (length now.nodes) 65536 room; space = c }) w.rest deeper))
+      (fresh_goes p inside inner (d.goes n some) unread code now bs gives (record { here = here; room = ltb-true (length now.nodes) 65536 room; space = c }) w.rest deeper))
       (λ full. fails bs (SlotGood p now (code ∷ bs)) (too_many at) (let most : 65536 ≤ length now.nodes = ltb-false (length now.nodes) 65536 full in many_as asking code bs w.rest known gives (λ front l. inl (omega arith, inl most)))))))
       (λ other. fails bs (SlotGood p now (code ∷ bs)) _ (refused asking code bs w.rest known e0 e1 other))))
 
@@ -978,12 +1047,17 @@ module _ (start : ℕ) (whole : List ℕ) where
       go (Ok x) k = let less = k.less in record { that = k.that; less = omega arith; same = λ t le. passed t (omega arith) ∙ k.same t le }
       go (Err e) k = k
 
-  slots_go : (left : ℕ) → SlotsGo left (slots_of (start + length whole) left)
+  references : (left : ℕ) → AreReferences left (slots_of (start + length whole) left)
+  unfolding slot_but
+  references zero = record { reads = refl; stops = λ t p unread now c bs e. rw (e, eqb_same t.position) refl }
+  references (suc left) = record { reads = refl; stops = λ t p unread now c bs e. rw (e, eqb_same t.position) refl }
+
+  slots_go : (left : ℕ) → EachGoes left (slots_of (start + length whole) left)
   unfolding slot_at slot_but
   slots_go zero p unread now [] w = record { run = λ comes. tt }
-  slots_go zero p unread now (c ∷ bs) w = met_goes (record { left = zero; place = p; unread = unread; now = now }) c bs (SlotGood p now (c ∷ bs)) _ (λ o. coded (start + length whole) zero no_slots p unread ((start + length whole) - length (c ∷ bs)) c now bs) w.rest refl (λ t. refl) (λ known. coded_goes zero zero (λ o. no_slots) (record { level = λ n e. absurd (omega arith); reads = λ n e. absurd (omega arith) }) (λ p unread now bs w. fails bs (SlotGood p now bs) short tt) p unread c now bs w known)
+  slots_go zero p unread now (c ∷ bs) w = met_goes (record { left = zero; place = p; unread = unread; now = now }) c bs (SlotGood p now (c ∷ bs)) _ (λ o. coded (start + length whole) zero no_slots p unread ((start + length whole) - length (c ∷ bs)) c now bs) w.rest refl (λ t. refl) (λ known. coded_goes zero zero (λ o. no_slots) (record { level = λ n e. absurd (omega arith); goes = λ n e. absurd (omega arith) }) p unread c now bs w known)
   slots_go (suc left) p unread now [] w = record { run = λ comes. tt }
-  slots_go (suc left) p unread now (c ∷ bs) w = met_goes (record { left = suc left; place = p; unread = unread; now = now }) c bs (SlotGood p now (c ∷ bs)) _ (λ o. coded (start + length whole) (suc left) (slots_of (start + length whole) left o) p unread ((start + length whole) - length (c ∷ bs)) c now bs) w.rest refl (λ t. refl) (λ known. coded_goes (suc left) left (slots_of (start + length whole) left) (record { level = λ n e. refl; reads = λ n e. refl }) (slots_go left) p unread c now bs w known)
+  slots_go (suc left) p unread now (c ∷ bs) w = met_goes (record { left = suc left; place = p; unread = unread; now = now }) c bs (SlotGood p now (c ∷ bs)) _ (λ o. coded (start + length whole) (suc left) (slots_of (start + length whole) left o) p unread ((start + length whole) - length (c ∷ bs)) c now bs) w.rest refl (λ t. refl) (λ known. coded_goes (suc left) left (slots_of (start + length whole) left) (record { level = λ n e. refl; goes = λ n e. (slots_go left, references left) }) p unread c now bs w known)
 
   -- ---- a whole stream
 
@@ -1007,7 +1081,7 @@ module _ (start : ℕ) (whole : List ℕ) where
 
   -- what is read behind the version
   body_goes : (bs : List ℕ) → Rest whole bs → Goes start whole bs (Good (record { nodes = []; parts = 0 }) bs) (λ o. first_step o (record { nodes = []; parts = 0 }) bs)
-  body_goes bs r = items_goes 200 (λ o. slots_of (start + length whole) 200 o places.Reference []) (step_of 200 (slots_of (start + length whole) 200) (slots_go 200) places.Reference []) false (record { nodes = []; parts = 0 }) bs (at_start bs r)
+  body_goes bs r = items_goes 200 (λ o. slots_of (start + length whole) 200 o places.Reference []) (items_of 200 (slots_of (start + length whole) 200) (slots_go 200, references 200) []) false (record { nodes = []; parts = 0 }) bs (at_start bs r)
 
   body_comes : (bs : List ℕ) → magic_at (start + length whole) (0xAC ∷ 0xED ∷ 0x00 ∷ 0x05 ∷ []) whole ≡ Ok bs → Comes (start + length whole) whole bs (λ o. first_step o (record { nodes = []; parts = 0 }) bs)
   unfolding stream_but

@@ -25,7 +25,7 @@ use Rattle.stream_grammar.proofs.Apart.{below_16, below_32, below_64}
 use Rattle.stream_grammar.proofs.Varieties.{ValueOf, value_of}
 use Rattle.stream_grammar.proofs.Leading.{all_rest}
 use Rattle.stream_grammar.proofs.Parted.{letter_back, null_type}
-use Rattle.stream_grammar.proofs.Mirror.{Ready, Reads, Settled, reads_done, reads_then}
+use Rattle.stream_grammar.proofs.Mirror.{Ready, ReadsBy, Reads, Settled, reads_done, reads_then}
 use Rattle.stream_grammar.proofs.Plains.{number_back_16, number_back_32, number_back_64, short_back}
 
 -- ---- what is read of a reference
@@ -54,9 +54,8 @@ moved S ts n k bs rest m e h = subst (λ j. SpellsAll S ts j bs rest m) (sym e) 
 pub plain_reads : {A : Type 0} (F : List Node) (unread : List ℕ) (now : Progress) (read : List ℕ → Plain A) (x : A) (bs rest : List ℕ) (m : ℕ) → read bs ≡ Ok (x, rest) → m ≡ length now.nodes → Ready F unread now → Reads F unread now x rest m (plain read now bs)
 plain_reads F unread now read x bs rest m e len ready = rw e (reads_done F unread now x rest m len ready)
 
-pub reads_map : {A B : Type 0} (F : List Node) (unread : List ℕ) (now : Progress) (f : A → B) (x : A) (rest : List ℕ) (m : ℕ) (r : Result (A × Progress × List ℕ) Fault) → Reads F unread now x rest m r → Reads F unread now (f x) rest m (r >>= λ v. Ok (f v.0, v.1, v.2))
-reads_map F unread now f x rest m r h =
-    reads_then F unread now x rest m r (λ v. Ok (f v.0, v.1, v.2)) (f x) rest m h (reads_done F unread h.later (f x) rest m (sym h.len) h.after.ready)
+pub reads_map : {A B : Type 0} {own : ℕ} (F : List Node) (unread : List ℕ) (now : Progress) (f : A → B) (x : A) (rest : List ℕ) (m : ℕ) (r : Result (A × Progress × List ℕ) Fault) → ReadsBy own F unread now x rest m r → ReadsBy own F unread now (f x) rest m (r >>= λ v. Ok (f v.0, v.1, v.2))
+reads_map F unread now f x rest m r h = record { later = h.later; is = rw h.is refl; len = h.len; after = h.after }
 
 -- a step that reads what these tokens spell
 abbrev pub StepReads : {X : Type 0} → List Node → One → List ℕ → Step X → (X → List Token) → (X → Type 0) → Type 0

@@ -20,7 +20,7 @@ use Rattle.ser_values.specs.Node.{has, is_desc}
 use Rattle.ser_values.specs.Numbered.{IsGraph}
 use Rattle.stream_grammar.specs.Spelled.{IsStream}
 use Rattle.stream_grammar.specs.Faults.{slot_but, stream_but, ComesTo}
-use Rattle.stream_grammar.specs.Reading.{Fault, short, bad, bad_magic, bad_code, bad_handle, wrong_handle_kind, bad_desc, bad_utf, negative_length, reset, inner_exception, old_external, size_at, units_at, short_at, long_at, many_at, blocks_at, items_at, field_of, field_at, elements_at, chain_of, note_at, parts_at, values_at, value_at, text_at, desc_after, desc_at, with_class, object_after, object_at, array_of, array_at, fresh_at, handle_at, coded, slot_at, magic_at, stream_of}
+use Rattle.stream_grammar.specs.Reading.{Fault, short, bad, bad_magic, bad_code, bad_handle, wrong_handle_kind, bad_desc, bad_utf, negative_length, reset, inner_exception, old_external, size_at, units_at, short_at, long_at, many_at, blocks_at, items_at, field_of, field_at, elements_at, sizes_of, chain_of, note_at, parts_at, values_at, value_at, text_at, desc_after, desc_at, with_class, object_after, object_at, array_of, array_at, fresh_at, handle_at, coded, slot_at, magic_at, stream_of}
 
 abbrev pub Answer : Type 0
 Answer = Result (List Node × List Item) Fault
@@ -67,7 +67,7 @@ an_array = refl
 
 -- an object whose field is the object itself
 a_circle : after_head (0x73 ∷ 0x72 ∷ 0x00 ∷ 0x01 ∷ 0x4E ∷ 0x00 ∷ 0x00 ∷ 0x00 ∷ 0x00 ∷ 0x00 ∷ 0x00 ∷ 0x00 ∷ 0x00 ∷ 0x02 ∷ 0x00 ∷ 0x01 ∷ 0x4C ∷ 0x00 ∷ 0x04 ∷ 0x6E ∷ 0x65 ∷ 0x78 ∷ 0x74 ∷ 0x74 ∷ 0x00 ∷ 0x03 ∷ 0x4C ∷ 0x4E ∷ 0x3B ∷ 0x70 ∷ 0x78 ∷ 0x70 ∷ 0x71 ∷ 0x00 ∷ 0x7E ∷ 0x00 ∷ 0x02 ∷ []) ≡ reads (Desc (desc (0x4E ∷ []) 0 (next ∷ [])) ∷ Text (0x4C ∷ 0x4E ∷ 0x3B ∷ []) ∷ Object 0 (own ∷ []) ∷ []) (items.Ref (slots.Node 2) ∷ [])
-unfolding stream_of magic_at items_at blocks_at slot_at coded fresh_at with_class desc_at desc_after text_at short_at units_at decoded_at front size_at many_at field_at field_of is_good_desc fit_flags are_ordered object_at object_after chain_of parts_at note_at values_at value_at element_of ends_class handle_at has
+unfolding stream_of magic_at items_at blocks_at slot_at coded fresh_at with_class desc_at desc_after text_at short_at units_at decoded_at front size_at many_at field_at field_of is_good_desc fit_flags are_ordered object_at object_after sizes_of chain_of parts_at note_at values_at value_at element_of ends_class handle_at has
 a_circle = refl
 
 -- ---- the first fault
@@ -120,7 +120,7 @@ a_text_for_a_class = refl
 
 -- an externalizable class without block data
 an_old_external : after_head (0x73 ∷ 0x72 ∷ 0x00 ∷ 0x01 ∷ 0x4E ∷ 0x00 ∷ 0x00 ∷ 0x00 ∷ 0x00 ∷ 0x00 ∷ 0x00 ∷ 0x00 ∷ 0x00 ∷ 0x04 ∷ 0x00 ∷ 0x00 ∷ 0x78 ∷ 0x70 ∷ []) ≡ fails (bad old_external 4)
-unfolding stream_of magic_at items_at blocks_at slot_at coded fresh_at with_class desc_at desc_after short_at units_at decoded_at front size_at many_at object_at chain_of is_good_desc fit_flags are_ordered
+unfolding stream_of magic_at items_at blocks_at slot_at coded fresh_at with_class desc_at desc_after short_at units_at decoded_at front size_at many_at object_at sizes_of chain_of is_good_desc fit_flags are_ordered
 an_old_external = refl
 
 -- the flag of a write method without that of a serializable class
@@ -169,7 +169,7 @@ unfolding stream_of magic_at items_at blocks_at slot_at coded fresh_at text_at s
 a_high_handle = refl
 
 -- one handle was given there, of a text
-a_handle_given : ComesTo 12 (0xAC ∷ 0xED ∷ 0x00 ∷ 0x05 ∷ 0x74 ∷ 0x00 ∷ 0x00 ∷ 0x71 ∷ 0x00 ∷ 0x7E ∷ 0x00 ∷ 0x01 ∷ []) 7 (record { left = 200; place = Reference; unread = []; now = record { nodes = Text [] ∷ []; parts = 0 } })
+a_handle_given : ComesTo 12 (0xAC ∷ 0xED ∷ 0x00 ∷ 0x05 ∷ 0x74 ∷ 0x00 ∷ 0x00 ∷ 0x71 ∷ 0x00 ∷ 0x7E ∷ 0x00 ∷ 0x01 ∷ []) 7 (record { left = 200; place = Reference; unread = []; now = record { nodes = Text [] ∷ []; parts = 1 } })
 unfolding stream_but magic_at items_at blocks_at slot_but coded fresh_at text_at short_at units_at decoded_at
 a_handle_given fault = refl
 

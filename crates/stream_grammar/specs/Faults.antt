@@ -19,7 +19,7 @@ use Rattle.ser_values.specs.declared.node.SlotPlace.TheVariants as places
 use Rattle.ser_values.specs.declared.limits.TheConstants.{LEVELS, NODES, PARTS}
 use Rattle.ser_values.specs.Node.{has, admits, admits_null}
 use Rattle.ser_values.specs.Shape.{is_enum}
-use Rattle.stream_grammar.specs.Reading.{FaultKind, bad_magic, bad_code, bad_handle, wrong_handle_kind, bad_desc, bad_utf, negative_length, reset, inner_exception, old_external, Fault, short, bad, too_many, too_deep, ◌>>=◌, byte_at, number_at, size_at, short_at, Progress, Step, Slots, many_at, push, field_at, blank, items_at, chain_of, rows_of, class_fault, type_in, gives_handle, admits_code, coded, slot_at, no_slots, magic_at, stream_of}
+use Rattle.stream_grammar.specs.Reading.{FaultKind, bad_magic, bad_code, bad_handle, wrong_handle_kind, bad_desc, bad_utf, negative_length, reset, inner_exception, old_external, Fault, short, bad, too_many, too_deep, ◌>>=◌, byte_at, number_at, size_at, short_at, Progress, Step, Slots, many_at, push, add_parts, field_at, blank, items_at, chain_of, rows_of, sizes_of, refs_among, class_fault, type_in, gives_handle, admits_code, coded, slot_at, no_slots, magic_at, stream_of}
 
 -- ---- where reading comes to a reference
 
@@ -168,7 +168,27 @@ LacksConstants class nodes = is_enum (slice_get nodes class) ≡ false
 
 -- With an object of this class there are too many parts.
 abbrev pub HasTooMany : ℕ → Progress → Type 0
-HasTooMany class now = PARTS < now.parts + length (rows_of (slice_get now.nodes class) (chain_of PARTS now.nodes (slots.Node class)).0)
+HasTooMany class now = PARTS < now.parts + sizes_of (rows_of (slice_get now.nodes class) (chain_of PARTS now.nodes (slots.Node class)).0)
+
+-- With so many elements of an array behind its class there are too many parts.
+pub record HasTooManyElements (end : ℕ) (asking : Asking) (here : List ℕ) : Type 0 where
+  pub array : HasByte (λ code. code ≡ 0x75) here
+  pub class : ℕ
+  pub later : Progress
+  pub read : ReadsClass end asking here class later
+  pub code : TypeCode
+  pub typed : type_in (slice_get later.nodes class) ≡ Some code
+  pub count : ℕ
+  pub number : HasNumber w32 read.more count
+  pub past : PARTS < later.parts + refs_among code count
+
+-- With so many names of a proxy's interfaces there are too many parts.
+pub record HasTooManyNames (asking : Asking) (here : List ℕ) : Type 0 where
+  pub rest : List ℕ
+  pub is : here ≡ 0x7D ∷ rest
+  pub count : ℕ
+  pub number : HasNumber w32 rest count
+  pub past : PARTS < asking.now.parts + count
 
 -- ---- descriptions that break a rule
 
@@ -187,6 +207,14 @@ desc_head_at end bs =
     byte_at suid.1 >>= λ flags.
     size_at end w16 32768 flags.1 >>= λ count.
     Ok (record { name = name.0; suid = suid.0; flags = flags.0; count = count.0; rest = count.1 })
+
+-- With so many fields of a description there are too many parts.
+pub record HasTooManyFields (end : ℕ) (asking : Asking) (here : List ℕ) : Type 0 where
+  pub rest : List ℕ
+  pub is : here ≡ 0x72 ∷ rest
+  pub head : DescHead
+  pub begins : desc_head_at end rest ≡ Ok head
+  pub past : PARTS < asking.now.parts + head.count
 
 -- No type has this letter.
 abbrev pub IsNoLetter : ℕ → Type 0
@@ -237,7 +265,7 @@ pub record BreaksDesc (end : ℕ) (asking : Asking) (here : List ℕ) : Type 0 w
   pub fields : List FieldDesc
   pub later : Progress
   pub more : List ℕ
-  pub read : many_at (field_at end (end - length here) (slot_at end left places.Text (asking.unread ++ length asking.now.nodes ∷ []))) done (push asking.now (Desc blank)) head.rest ≡ Ok (fields, later, more)
+  pub read : many_at (field_at end (end - length here) (slot_at end left places.Text (asking.unread ++ length asking.now.nodes ∷ []))) done (add_parts head.count (push asking.now (Desc blank))) head.rest ≡ Ok (fields, later, more)
   pub broken : IsBroken end (slot_at end left places.Text (asking.unread ++ length asking.now.nodes ∷ [])) head done fields later more
 
 -- A description that breaks a rule; an object, an array or a constant of an enum whose class has none; or the handle of a description that is unread.
@@ -282,13 +310,22 @@ IsConstruct p code = (gives_handle code ≡ true) × (admits_code p code ≡ tru
 abbrev pub IsPastNodes : ℕ → Asking → List ℕ → List ℕ → Type 0
 IsPastNodes end asking front here = (NODES ≤ length front + length here) × ((NODES ≤ length asking.now.nodes) ⊎ OfClass end asking here (λ class later. NODES ≤ length later.nodes))
 
--- With an object there are too many parts.
+-- With an object, an array, a proxy's names or a description's fields there are too many parts.
 abbrev pub IsPastParts : ℕ → Asking → List ℕ → Type 0
-IsPastParts end asking here = OfClass end asking here (λ class later. HasByte (λ code. code ≡ 0x73) here × HasTooMany class later)
+IsPastParts end asking here = OfClass end asking here (λ class later. HasByte (λ code. code ≡ 0x73) here × HasTooMany class later) ⊎ (HasTooManyElements end asking here ⊎ (HasTooManyNames asking here ⊎ HasTooManyFields end asking here))
+
+-- The reference stands where items do. Once it was read, there are as many parts as there may be, and as an item it would be one more.
+pub record IsPastItems (end : ℕ) (asking : Asking) (here : List ℕ) : Type 0 where
+  pub place : asking.place ≡ places.Reference
+  pub found : Slot
+  pub later : Progress
+  pub more : List ℕ
+  pub read : slot_at end asking.left asking.place asking.unread asking.now here ≡ Ok (found, later, more)
+  pub past : PARTS < later.parts + 1
 
 -- A node too many, or a part.
 abbrev pub IsOneTooMany : ℕ → (Asking → Type 0) → List ℕ → List ℕ → Type 0
-IsOneTooMany end comes front here = IsRefused comes (λ asking. HasByte (λ code. IsConstruct asking.place code) here × (IsPastNodes end asking front here ⊎ IsPastParts end asking here))
+IsOneTooMany end comes front here = IsRefused comes (λ asking. (HasByte (λ code. IsConstruct asking.place code) here × (IsPastNodes end asking front here ⊎ IsPastParts end asking here)) ⊎ IsPastItems end asking here)
 
 -- No level may begin here: so many have begun before it, each with a code.
 abbrev pub IsTooDeep : (Asking → Type 0) → List ℕ → List ℕ → Type 0

@@ -91,7 +91,8 @@ long_at end bs = size_at end w64 (2 ^ 63) bs >>= λ n. units_at end n.0 n.1
 
 -- ---- steps
 
--- The nodes so far, and how many parts their objects have.
+-- The nodes so far, and how many parts they have, with those parts of the nodes being read that are counted before they are read, and the
+-- references among items that were read.
 pub record Progress : Type 0 where
   pub nodes : List Node
   pub parts : ℕ
@@ -121,10 +122,19 @@ push now i = record { nodes = now.nodes ++ i ∷ []; parts = now.parts }
 abbrev pub fill : Progress → ℕ → Node → Progress
 fill now k i = record { nodes = slice_set now.nodes k i; parts = now.parts }
 
+-- ---- parts
+
+abbrev pub add_parts : ℕ → Progress → Progress
+add_parts n now = record { nodes = now.nodes; parts = now.parts + n }
+
+-- Goes on where so many further parts have room.
+abbrev pub counting : {A : Type 0} → ℕ → ℕ → Progress → (Progress → Result A Fault) → Result A Fault
+counting more at now f = if nat_lt PARTS (now.parts + more) then Err (too_many at) else f (add_parts more now)
+
 -- ---- annotations
 
 -- One block or reference after the other, as they stand, up to the end: 78 where `within` an annotation, else that of the bytes.
--- Each takes a byte at least.
+-- Each takes a byte at least. A reference is a part, which is counted once it was read: `too_many` has its position.
 unfoldable pub blocks_at : ℕ → Step Slot → Bool → ℕ → Step (List Item)
 blocks_at end inner within zero now bs = Err short
 blocks_at end inner within (suc most) now [] = if within then Err short else Ok ([], now, [])
@@ -132,7 +142,7 @@ blocks_at end inner within (suc most) now (c ∷ bs) =
     if within && nat_eq c 0x78 then Ok ([], now, bs) else
     (if nat_eq c 0x77 then (byte_at bs >>= λ n. take_at n.0 n.1 >>= λ p. blocks_at end inner within most now p.1 >>= λ is. Ok (items.Bytes p.0 ∷ is.0, is.1, is.2)) else
     (if nat_eq c 0x7A then (size_at end w32 (2 ^ 31) bs >>= λ n. take_at n.0 n.1 >>= λ p. blocks_at end inner within most now p.1 >>= λ is. Ok (items.Bytes p.0 ∷ is.0, is.1, is.2)) else
-    (inner now (c ∷ bs) >>= λ s. blocks_at end inner within most s.1 s.2 >>= λ is. Ok (items.Ref s.0 ∷ is.0, is.1, is.2))))
+    (inner now (c ∷ bs) >>= λ s. counting 1 (end - length (c ∷ bs)) s.1 (λ next. blocks_at end inner within most next s.2 >>= λ is. Ok (items.Ref s.0 ∷ is.0, is.1, is.2)))))
 
 unfoldable pub items_at : ℕ → Step Slot → Bool → Step (List Item)
 items_at end inner within now bs = map_step joined (blocks_at end inner within (suc (length bs))) now bs
@@ -206,6 +216,11 @@ abbrev pub rows_of : Option Node → List Row → List Row
 rows_of (Some (Desc d)) rows = if has_flag d.flags 4 then ([], true) ∷ [] else rows
 rows_of i rows = rows
 
+-- How many parts an object of these rows has beside those of its notes: one for each, and one for each value.
+unfoldable pub sizes_of : List Row → ℕ
+sizes_of [] = 0
+sizes_of (r ∷ rs) = suc (length r.0 + sizes_of rs)
+
 -- why the class has no objects
 abbrev pub class_fault : Option Node → Bool → Option FaultKind
 class_fault (Some (Desc d)) serial =
@@ -245,11 +260,12 @@ text_at read now bs = read bs >>= λ t. Ok (slots.Node (length now.nodes), push 
 unfoldable pub desc_after : ℕ → ℕ → Slots → List ℕ → List ℕ → ℕ → ℕ → Step ClassDesc
 desc_after end at inner unread name suid flags now bs =
     size_at end w16 32768 bs >>= λ n.
-    many_at (field_at end at (inner places.Text unread)) n.0 now n.1 >>= λ fs.
+    counting n.0 at now (λ next.
+    many_at (field_at end at (inner places.Text unread)) n.0 next n.1 >>= λ fs.
     if is_good_desc (record { name = name; suid = cast_signed w64 suid; flags = flags; fields = fs.0; note = []; parent = slots.Null }) then
     (items_at end (inner places.Reference unread) true fs.1 fs.2 >>= λ is.
     inner places.Parent unread is.1 is.2 >>= λ p.
-    Ok (record { name = name; suid = cast_signed w64 suid; flags = flags; fields = fs.0; note = is.0; parent = p.0 }, p.1, p.2)) else Err (bad bad_desc at)
+    Ok (record { name = name; suid = cast_signed w64 suid; flags = flags; fields = fs.0; note = is.0; parent = p.0 }, p.1, p.2)) else Err (bad bad_desc at))
 
 unfoldable pub desc_at : ℕ → ℕ → Slots → List ℕ → Step Slot
 desc_at end at inner unread now bs =
@@ -259,13 +275,14 @@ desc_at end at inner unread now bs =
     desc_after end at inner (unread ++ length now.nodes ∷ []) name.0 suid.0 flags.0 (push now (Desc blank)) flags.1 >>= λ d.
     Ok (slots.Node (length now.nodes), fill d.1 (length now.nodes) (Desc d.0), d.2)
 
-unfoldable pub proxy_at : ℕ → Slots → List ℕ → Step Slot
-proxy_at end inner unread now bs =
+unfoldable pub proxy_at : ℕ → ℕ → Slots → List ℕ → Step Slot
+proxy_at end at inner unread now bs =
     size_at end w32 (2 ^ 31) bs >>= λ n.
-    many_at (plain (short_at end)) n.0 (push now (Desc blank)) n.1 >>= λ names.
+    counting n.0 at (push now (Desc blank)) (λ next.
+    many_at (plain (short_at end)) n.0 next n.1 >>= λ names.
     items_at end (inner places.Reference (unread ++ length now.nodes ∷ [])) true names.1 names.2 >>= λ is.
     inner places.Parent (unread ++ length now.nodes ∷ []) is.1 is.2 >>= λ p.
-    Ok (slots.Node (length now.nodes), fill p.1 (length now.nodes) (Proxy (record { names = names.0; note = is.0; parent = p.0 })), p.2)
+    Ok (slots.Node (length now.nodes), fill p.1 (length now.nodes) (Proxy (record { names = names.0; note = is.0; parent = p.0 })), p.2))
 
 abbrev pub on_class : ℕ → (ℕ → Step Slot) → Slot × Progress × List ℕ → Result (Slot × Progress × List ℕ) Fault
 on_class at f (slots.Null, now, bs) = Err (bad bad_code at)
@@ -278,12 +295,12 @@ with_class inner unread at f now bs = inner places.Class unread now bs >>= on_cl
 -- the parts of an object, which has its handle
 unfoldable pub object_after : ℕ → Step Slot → ℕ → List Row → Step Slot
 object_after end inner class rows now bs =
-    parts_at end inner rows (record { nodes = now.nodes ++ Object class [] ∷ []; parts = now.parts + length rows }) bs >>= λ ps.
+    parts_at end inner rows (record { nodes = now.nodes ++ Object class [] ∷ []; parts = now.parts + sizes_of rows }) bs >>= λ ps.
     Ok (slots.Node (length now.nodes), fill ps.1 (length now.nodes) (Object class ps.0), ps.2)
 
 unfoldable pub object_at : ℕ → ℕ → Step Slot → ℕ → Step Slot
 object_at end at inner class now bs =
-    if nat_lt PARTS (now.parts + length (rows_of (slice_get now.nodes class) (chain_of PARTS now.nodes (slots.Node class)).0)) then Err (too_many at) else
+    if nat_lt PARTS (now.parts + sizes_of (rows_of (slice_get now.nodes class) (chain_of PARTS now.nodes (slots.Node class)).0)) then Err (too_many at) else
     unless (class_fault (slice_get now.nodes class) (chain_of PARTS now.nodes (slots.Node class)).1) at
     (object_after end inner class (rows_of (slice_get now.nodes class) (chain_of PARTS now.nodes (slots.Node class)).0) now bs)
 
@@ -292,12 +309,17 @@ abbrev pub type_in : Option Node → Option TypeCode
 type_in (Some (Desc d)) = element_of d.name
 type_in i = None
 
+-- How many parts so many elements of a type are: references alone are parts.
+abbrev pub refs_among : TypeCode → ℕ → ℕ
+refs_among code n = if is_primitive code then 0 else n
+
 unfoldable pub array_of : ℕ → ℕ → Step Slot → ℕ → Option TypeCode → Step Slot
 array_of end at inner class None now bs = Err (bad bad_desc at)
 array_of end at inner class (Some code) now bs =
     size_at end w32 (2 ^ 31) bs >>= λ n.
-    elements_at inner code n.0 (push now (Array class (kinds.Bytes []))) n.1 >>= λ vs.
-    Ok (slots.Node (length now.nodes), fill vs.1 (length now.nodes) (Array class vs.0), vs.2)
+    counting (refs_among code n.0) at (push now (Array class (kinds.Bytes []))) (λ next.
+    elements_at inner code n.0 next n.1 >>= λ vs.
+    Ok (slots.Node (length now.nodes), fill vs.1 (length now.nodes) (Array class vs.0), vs.2))
 
 unfoldable pub array_at : ℕ → ℕ → Step Slot → ℕ → Step Slot
 array_at end at inner class now bs = array_of end at inner class (type_in (slice_get now.nodes class)) now bs
@@ -335,7 +357,7 @@ fresh_at end at inner unread code now bs =
     (if nat_eq code 0x75 then with_class inner unread at (array_at end at (inner places.Reference unread)) now bs else
     (if nat_eq code 0x76 then with_class inner unread at class_at now bs else
     (if nat_eq code 0x7C then text_at (long_at end) now bs else
-    (if nat_eq code 0x7D then proxy_at end inner unread now bs else
+    (if nat_eq code 0x7D then proxy_at end at inner unread now bs else
     (if nat_eq code 0x7E then with_class inner unread at (enum_at at (inner places.Text unread)) now bs else Err (bad bad_code at))))))))
 
 abbrev pub null_at : SlotPlace → ℕ → Step Slot

@@ -23,7 +23,7 @@ use Rattle.ser_values.specs.declared.node.Node.TheVariants.{Text, Desc, Proxy, O
 use Rattle.ser_values.specs.declared.node.SlotPlace.TheVariants as places
 use Rattle.ser_values.specs.declared.limits.TheConstants.{LEVELS, NODES, PARTS}
 use Rattle.ser_values.specs.Node.{has, Want, admits, admits_null, takes, inside}
-use Rattle.ser_values.specs.Shape.{fits_chain, count_of, is_shaped, parts_in}
+use Rattle.ser_values.specs.Shape.{fits_chain, count_of, is_shaped, refs_in, parts_in}
 use Rattle.ser_values.specs.Ranges.{NumbersFit, UnitsFit}
 use Rattle.ser_values.specs.Fronts.{put_block}
 
@@ -171,12 +171,12 @@ Spells nodes zero unread w n bs rest m = Spell nodes zero never unread w n bs re
 Spells nodes (suc d) unread w n bs rest m = Spell nodes (suc d) (Spells nodes d) unread w n bs rest m
 
 -- The bytes are a stream of these items: the magic number and the version, then the items, which give these nodes their handles in order.
--- The nodes' numbers are in range, their objects have not too many parts, and the bytes are numbers of 8 bits.
+-- The nodes' numbers are in range, the nodes and items have not too many parts, and the bytes are numbers of 8 bits.
 pub record IsStream (nodes : List Node) (items : List Item) (bytes : List ℕ) : Type 0 where
   pub contents : List ℕ
   pub headed : bytes ≡ 0xAC ∷ 0xED ∷ 0x00 ∷ 0x05 ∷ contents
   pub spelled : SpellsItems (Spells nodes LEVELS []) items 0 contents [] (length nodes)
   pub numbers : NumbersFit nodes
   pub units : UnitsFit nodes
-  pub few_parts : parts_in nodes ≤ PARTS
+  pub few_parts : parts_in nodes + refs_in items ≤ PARTS
   pub are_bytes : AllByRecursion (λ b. b < 256) bytes

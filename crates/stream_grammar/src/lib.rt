@@ -23,6 +23,9 @@
 //!   reference.
 //! - A class is judged when its construct's handle is due: first the room for a node, then for
 //!   parts, then the class.
+//! - Fields, interface names, values and elements count as parts before they are read. A reference
+//!   of an annotation or of the stream counts once it was read. A part too many is a fault at the
+//!   code of the construct, or of that reference.
 //! - A field of fixed length or a text is read whole before it is judged. If the input ends in it,
 //!   it is `Truncated`.
 //! - Blocks may be cut anywhere, and empty blocks are allowed. Short texts may use the long length

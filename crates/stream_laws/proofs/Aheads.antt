@@ -11,7 +11,7 @@ use Rattle.stream_grammar.proofs.PlainSound as plain
 use Rattle.stream_grammar.proofs.PlainSound.{bind_ok, chosen, ok_is, byte_sound, size_sound, number_sound_32}
 use Rattle.stream_grammar.proofs.Plains.{size_back, number_back_32}
 use Rattle.ser_read.specs.Heads.{one_head, any_head, head_within}
-use Rattle.ser_read.specs.Wants.{WantFault, block_left, ◌▸◌, lift_fault, no_block, only_block, only_slot}
+use Rattle.ser_read.specs.Wants.{WantFault, block_left, ◌▸◌, lift_fault, no_block, only_block, counted_at, only_slot}
 use Rattle.ser_read.specs.Heading.{IsBlockHeader}
 use Rattle.ser_read.specs.WantLaws.{AreEmptyBlocks}
 use Rattle.ser_read.proofs.Empties.{Header, Empties}
@@ -46,7 +46,7 @@ as_block (of_code code at, bs) = Err (no_block code at)
 
 abbrev pub as_slot : ℕ → Progress → Ahead × List ℕ → Result (Slot × Progress × List ℕ) WantFault
 as_slot end now (of_block n, bs) = Err (block_left (end - length bs))
-as_slot end now (of_code code at, bs) = lift_fault (coded end LEVELS (slot_at end (LEVELS - 1)) places.Reference [] at code now bs)
+as_slot end now (of_code code at, bs) = lift_fault (counted_at end at code now bs)
 
 pub test_cases : (b : Bool) → (b ≡ true) ⊎ (b ≡ false)
 test_cases true = inl refl

@@ -21,19 +21,19 @@ use Rattle.ser_values.specs.declared.value.Value.TheVariants as values
 use Rattle.ser_values.specs.declared.value.Values.TheVariants as kinds
 use Rattle.ser_values.specs.declared.value.Part.{Part}
 use Rattle.ser_values.specs.declared.node.Node.{Node}
-use Rattle.ser_values.specs.declared.node.Node.TheVariants.{Desc, Array, Enum}
+use Rattle.ser_values.specs.declared.node.Node.TheVariants.{Desc, Proxy, Array, Enum}
 use Rattle.ser_values.specs.declared.node.SlotPlace.{SlotPlace}
 use Rattle.ser_values.specs.declared.node.SlotPlace.TheVariants as places
 use Rattle.ser_values.specs.declared.limits.TheConstants.{NODES, PARTS}
 use Rattle.ser_values.specs.Node.{has, admits, admits_null, is_desc, is_text}
 use Rattle.ser_values.specs.Shape.{fits_type, is_enum}
-use Rattle.stream_grammar.specs.Reading.{FaultKind, bad_code, bad_handle, wrong_handle_kind, bad_desc, negative_length, reset, inner_exception, Fault, short, bad, too_many, ◌>>=◌, Plain, byte_at, take_at, number_at, size_at, units_of, units_at, short_at, long_at, Progress, Step, Slots, plain, map_step, many_at, push, blocks_at, items_at, field_of, field_at, is_true, value_at, values_at, elements_at, Row, chain_of, class_fault, note_at, part, parts_at, unless, roomy, blank, text_at, desc_after, desc_at, proxy_at, on_class, with_class, object_after, object_at, type_in, array_of, array_at, class_at, named, enum_at, gives_handle, admits_code, code_fault, fresh_at, null_at, handle_fault, handle_at, deep, coded, no_slots, slot_at}
+use Rattle.stream_grammar.specs.Reading.{FaultKind, bad_code, bad_handle, wrong_handle_kind, bad_desc, negative_length, reset, inner_exception, Fault, short, bad, too_many, ◌>>=◌, Plain, byte_at, take_at, number_at, size_at, units_of, units_at, short_at, long_at, Progress, Step, Slots, plain, map_step, many_at, push, refs_among, sizes_of, counting, add_parts, fill, blocks_at, items_at, field_of, field_at, is_true, value_at, values_at, elements_at, Row, chain_of, class_fault, note_at, part, parts_at, unless, roomy, blank, text_at, desc_after, desc_at, proxy_at, on_class, with_class, object_after, object_at, type_in, array_of, array_at, class_at, named, enum_at, gives_handle, admits_code, code_fault, fresh_at, null_at, handle_fault, handle_at, deep, coded, no_slots, slot_at}
 use Rattle.stream_grammar.specs.Faults.{DescHead, desc_head_at}
 use Rattle.stream_grammar.proofs.PlainSound.{bind_ok, chosen, passed, guarded, unless_ok, ok_is, take_sound}
 use Rattle.stream_grammar.proofs.Plains.{take_back}
-use Rattle.stream_laws.specs.Reads.{HasNumber, HasText, References, Plainly, Many, HasBlock, BeginsReference, Follow, HasValues, HasNote, HasField, desc_of, HasFields, HasInterfaces, HasParts, rows_in, with_object, GivesHere, gives_none, Reads}
-use Rattle.stream_laws.specs.Fails.{a_reference, a_size, a_text, Says, InText, InLongText, InItems, InNote, InField, no_letter, in_name, at_type, other_type, InDesc, in_desc_name, at_count, in_field, breaks_rule, in_note, at_parent, InProxy, at_names, in_interface, in_proxy_note, at_proxy_parent, InParts, InObject, too_many_parts, no_objects, in_parts, InArray, no_array, at_size, at_element, InEnum, no_enum, at_constant, InClassed, full, in_object, in_array, in_enum, BeginsWithClass, InConstruct, in_text, in_long_text, in_desc, in_proxy, at_class, behind_class, IsForDesc, RefusesCode, no_null, low_handle, no_handle, wrong_kind, is_unread, a_reset, an_exception, no_code, no_level, no_room, FailsNext, FailsHere, fails_never, Fails}
-use Rattle.stream_laws.proofs.Reading.{ok_first, short_block, long_block, byte_has, has_byte, number_has, has_number, size_has, has_size, text_has, has_text, Same, same_many, same_text, same_values, same_note, same_note_if, same_parts, SameReferences, same_field, head_has, has_head}
+use Rattle.stream_laws.specs.Reads.{HasNumber, HasSize, HasText, References, Plainly, Many, HasBlock, BeginsReference, Follow, HasValues, HasNote, HasField, desc_of, HasFields, HasInterfaces, HasParts, rows_in, with_object, GivesHere, gives_none, Reads}
+use Rattle.stream_laws.specs.Fails.{a_reference, a_size, a_text, a_part, Says, InText, InLongText, InItems, InNote, InField, no_letter, in_name, at_type, other_type, InDesc, in_desc_name, at_count, too_many_fields, in_field, breaks_rule, in_note, at_parent, InProxy, at_names, too_many_names, in_interface, in_proxy_note, at_proxy_parent, InParts, InObject, too_many_parts, no_objects, in_parts, InArray, no_array, at_size, too_many_elements, at_element, InEnum, no_enum, at_constant, InClassed, full, in_object, in_array, in_enum, BeginsWithClass, InConstruct, in_text, in_long_text, in_desc, in_proxy, at_class, behind_class, IsForDesc, RefusesCode, no_null, low_handle, no_handle, wrong_kind, is_unread, a_reset, an_exception, no_code, no_level, no_room, FailsNext, FailsHere, fails_never, Fails}
+use Rattle.stream_laws.proofs.Reading.{ok_first, with_room, short_block, long_block, byte_has, has_byte, number_has, has_number, size_has, has_size, text_has, has_text, Same, same_many, same_text, same_values, same_note, same_note_if, same_parts, SameReferences, same_field, head_has, has_head}
 use Rattle.stream_laws.proofs.Giving.{admitted_none, no_references, first_byte, step_same, same_references}
 
 -- ---- steps that failed
@@ -274,7 +274,9 @@ module _ (end : ℕ) (f : Fault) (firm : f ≢ short) (Inner : SlotPlace → Lis
   -- ---- annotations
 
   abbrev NextItem : Bool → List ℕ → Progress → List ℕ → Type 0
-  NextItem within unread later there = (BeginsReference within there × P (a_reference places.Reference unread later) there) ⊎ ((rest : List ℕ) × (there ≡ 0x7A ∷ rest) × P (a_size w32 (2 ^ 31)) rest)
+  NextItem within unread later there = (BeginsReference within there × P (a_reference places.Reference unread later) there)
+      ⊎ ((BeginsReference within there × (x : Slot × Progress × List ℕ) × R places.Reference unread later there x × (PARTS < x.1.parts + 1) × P a_part there)
+      ⊎ ((rest : List ℕ) × (there ≡ 0x7A ∷ rest) × P (a_size w32 (2 ^ 31)) rest))
 
   -- behind fewer items than these
   record Behind (within : Bool) (unread : List ℕ) (most : ℕ) (now : Progress) (bs : List ℕ) : Type 0 where
@@ -288,8 +290,8 @@ module _ (end : ℕ) (f : Fault) (firm : f ≢ short) (Inner : SlotPlace → Lis
   behind_block : (within : Bool) (unread p : List ℕ) (most : ℕ) (now : Progress) (bs rest : List ℕ) → HasBlock p bs rest → Behind within unread most now rest → Behind within unread (suc most) now bs
   behind_block within unread p most now bs rest block h = record { before = items.Bytes p ∷ h.before; later = h.later; there = h.there; fewer = omega (arith, h.fewer); follow = (rest, block, h.follow); next = h.next }
 
-  behind_reference : (within : Bool) (unread : List ℕ) (most : ℕ) (now : Progress) (bs : List ℕ) (s : Slot × Progress × List ℕ) → BeginsReference within bs → inner places.Reference unread now bs ≡ Ok s → Behind within unread most s.1 s.2 → Behind within unread (suc most) now bs
-  behind_reference within unread most now bs s begins read h = record { before = items.Ref s.0 ∷ h.before; later = h.later; there = h.there; fewer = omega (arith, h.fewer); follow = (begins, s.1, s.2, (level.reads.at places.Reference unread).to now bs s read, h.follow); next = h.next }
+  behind_reference : (within : Bool) (unread : List ℕ) (most : ℕ) (now : Progress) (bs : List ℕ) (s : Slot × Progress × List ℕ) → BeginsReference within bs → inner places.Reference unread now bs ≡ Ok s → s.1.parts + 1 ≤ PARTS → Behind within unread most (add_parts 1 s.1) s.2 → Behind within unread (suc most) now bs
+  behind_reference within unread most now bs s begins read room h = record { before = items.Ref s.0 ∷ h.before; later = h.later; there = h.there; fewer = omega (arith, h.fewer); follow = (begins, s.1, s.2, (level.reads.at places.Reference unread).to now bs s read, room, h.follow); next = h.next }
 
   blocks_stop : (within : Bool) (unread : List ℕ) (most : ℕ) (now : Progress) (bs : List ℕ) → blocks_at end (inner places.Reference unread) within most now bs ≡ Err f → Behind within unread most now bs
   unfolding blocks_at
@@ -310,7 +312,10 @@ module _ (end : ℕ) (f : Fault) (firm : f ≢ short) (Inner : SlotPlace → Lis
             let begins : BeginsReference within (c ∷ bs) = record { code = c; rest = bs; is = refl; goes_on = λ inside. eqb-false c 0x78 (ap (λ b. b && eqb c 0x78) (sym inside) ∙ p.0); no_block = eqb-false c 0x77 q.0; no_long_block = eqb-false c 0x7A r.0 } in
             elim (bind_err (inner places.Reference unread now (c ∷ bs)) _ f r.1) [
               | inl h ↦ record { before = []; later = now; there = c ∷ bs; fewer = omega arith; follow = (refl, refl); next = inl (begins, level.down places.Reference unread now (c ∷ bs) h) }
-              | inr s ↦ behind_reference within unread most now (c ∷ bs) s.0 begins s.1 (blocks_stop within unread most s.0.1 s.0.2 (then_err (blocks_at end (inner places.Reference unread) within most s.0.1 s.0.2) _ f s.2))
+              | inr s ↦ elim (chosen (ltb PARTS (s.0.1.parts + 1)) _ _ _ s.2) [
+                | inl z ↦ record { before = []; later = now; there = c ∷ bs; fewer = omega arith; follow = (refl, refl); next = inr (inl (begins, s.0, (level.reads.at places.Reference unread).to now (c ∷ bs) s.0 s.1, ltb-true PARTS (s.0.1.parts + 1) z.0, sym (err_is _ f z.1))) }
+                | inr z ↦ behind_reference within unread most now (c ∷ bs) s.0 begins s.1 (ltb-false PARTS (s.0.1.parts + 1) z.0) (blocks_stop within unread most (add_parts 1 s.0.1) s.0.2 (then_err (blocks_at end (inner places.Reference unread) within most (add_parts 1 s.0.1) s.0.2) _ f z.1))
+              ]
             ])
       ]
     ]
@@ -319,7 +324,7 @@ module _ (end : ℕ) (f : Fault) (firm : f ≢ short) (Inner : SlotPlace → Lis
       long_stop : (within : Bool) (unread : List ℕ) (most : ℕ) → ((rest : List ℕ) → blocks_at end (inner places.Reference unread) within most now rest ≡ Err f → Behind within unread most now rest) → (c : ℕ) (bs : List ℕ) → c ∷ bs ≡ 0x7A ∷ bs
           → (size_at end w32 (2 ^ 31) bs >>= λ n. take_at n.0 n.1 >>= λ p. with_bytes within end (inner places.Reference unread) most now p) ≡ Err f → Behind within unread (suc most) now (c ∷ bs)
       long_stop within unread most rec c bs begins e = elim (bind_err (size_at end w32 (2 ^ 31) bs) _ f e) [
-        | inl h ↦ record { before = []; later = now; there = c ∷ bs; fewer = omega arith; follow = (refl, refl); next = inr (bs, begins, size_stops w32 (2 ^ 31) bs h) }
+        | inl h ↦ record { before = []; later = now; there = c ∷ bs; fewer = omega arith; follow = (refl, refl); next = inr (inr (bs, begins, size_stops w32 (2 ^ 31) bs h)) }
         | inr n ↦ (
             let t = firmly end f firm (take_at n.0.0 n.0.1) _ (take_firm end f firm n.0.0 n.0.1) n.2 in
             let block : HasBlock t.0.0 (c ∷ bs) t.0.1 = subst (λ (l : List ℕ). HasBlock t.0.0 l t.0.1) (sym begins) (long_block end bs n.0 t.0 n.1 t.1) in
@@ -353,7 +358,7 @@ module _ (end : ℕ) (f : Fault) (firm : f ≢ short) (Inner : SlotPlace → Lis
 
   -- a reference is none of blocks
   opens : (within : Bool) (unread : List ℕ) (most : ℕ) (now : Progress) (bs : List ℕ) → BeginsReference within bs
-      → blocks_at end (inner places.Reference unread) within (suc most) now bs ≡ (inner places.Reference unread now bs >>= λ s. blocks_at end (inner places.Reference unread) within most s.1 s.2 >>= λ is. Ok (items.Ref s.0 ∷ is.0, is.1, is.2))
+      → blocks_at end (inner places.Reference unread) within (suc most) now bs ≡ (inner places.Reference unread now bs >>= λ s. counting 1 (end - length bs) s.1 (λ next. blocks_at end (inner places.Reference unread) within most next s.2 >>= λ is. Ok (items.Ref s.0 ∷ is.0, is.1, is.2)))
   unfolding blocks_at
   opens within unread most now bs b = by bs b.code b.rest b.is (no_end within b.code b.goes_on) b.no_block b.no_long_block
     where
@@ -362,14 +367,16 @@ module _ (end : ℕ) (f : Fault) (firm : f ≢ short) (Inner : SlotPlace → Lis
       no_end false c h = refl
 
       by : (bs : List ℕ) (c : ℕ) (rest : List ℕ) → bs ≡ c ∷ rest → (within && eqb c 0x78) ≡ false → c ≢ 0x77 → c ≢ 0x7A
-          → blocks_at end (inner places.Reference unread) within (suc most) now bs ≡ (inner places.Reference unread now bs >>= λ s. blocks_at end (inner places.Reference unread) within most s.1 s.2 >>= λ is. Ok (items.Ref s.0 ∷ is.0, is.1, is.2))
+          → blocks_at end (inner places.Reference unread) within (suc most) now bs ≡ (inner places.Reference unread now bs >>= λ s. counting 1 (end - length bs) s.1 (λ next. blocks_at end (inner places.Reference unread) within most next s.2 >>= λ is. Ok (items.Ref s.0 ∷ is.0, is.1, is.2)))
       by bs c rest is a b d = rw is (rw a (rw (ne_eqb c 0x77 b) (rw (ne_eqb c 0x7A d) refl)))
 
   next_fails : (within : Bool) (unread : List ℕ) (most : ℕ) (later : Progress) (there : List ℕ) → NextItem within unread later there → blocks_at end (inner places.Reference unread) within (suc most) later there ≡ Err f
   unfolding blocks_at
   next_fails within unread most later there (inl (begins, h)) = opens within unread most later there begins ∙ err_first (inner places.Reference unread later there) _ f (level.up places.Reference unread later there h)
-  next_fails true unread most later there (inr (rest, is, h)) = rw is (err_first (size_at end w32 (2 ^ 31) rest) _ f (size_fails w32 (2 ^ 31) rest h))
-  next_fails false unread most later there (inr (rest, is, h)) = rw is (err_first (size_at end w32 (2 ^ 31) rest) _ f (size_fails w32 (2 ^ 31) rest h))
+  next_fails within unread most later there (inr (inl (begins, x, read, many, same))) =
+      opens within unread most later there begins ∙ ok_first (inner places.Reference unread later there) _ x _ ((level.reads.at places.Reference unread).from later there x read) (rw (lt-ltb PARTS (x.1.parts + 1) many) (ap (λ z. Err z) (sym same)))
+  next_fails true unread most later there (inr (inr (rest, is, h))) = rw is (err_first (size_at end w32 (2 ^ 31) rest) _ f (size_fails w32 (2 ^ 31) rest h))
+  next_fails false unread most later there (inr (inr (rest, is, h))) = rw is (err_first (size_at end w32 (2 ^ 31) rest) _ f (size_fails w32 (2 ^ 31) rest h))
 
   follow_fails : (within : Bool) (unread : List ℕ) (before : List Item) (most : ℕ) (now later : Progress) (bs there : List ℕ) → length before < most → Follow within (R places.Reference unread) before now bs later there → NextItem within unread later there
       → blocks_at end (inner places.Reference unread) within most now bs ≡ Err f
@@ -378,8 +385,10 @@ module _ (end : ℕ) (f : Fault) (firm : f ≢ short) (Inner : SlotPlace → Lis
   follow_fails within unread (items.Bytes p ∷ is) (suc most) now later bs there lt (rest, inl begins, h) next = rw begins (short_passes within unread p most now rest (follow_fails within unread is most now later rest there (omega arith) h next))
   follow_fails within unread (items.Bytes p ∷ is) (suc most) now later bs there lt (rest, inr (digits, four, number, low, begins), h) next =
       rw begins (long_passes within unread digits p most now rest four number low (follow_fails within unread is most now later rest there (omega arith) h next))
-  follow_fails within unread (items.Ref s ∷ is) (suc most) now later bs there lt (begins, mid, rest, read, h) next =
-      opens within unread most now bs begins ∙ ok_first (inner places.Reference unread now bs) _ (s, mid, rest) _ ((level.reads.at places.Reference unread).from now bs (s, mid, rest) read) (err_first (blocks_at end (inner places.Reference unread) within most mid rest) _ f (follow_fails within unread is most mid later rest there (omega arith) h next))
+  follow_fails within unread (items.Ref s ∷ is) (suc most) now later bs there lt (begins, mid, rest, read, room, h) next =
+      let after = add_parts 1 mid in
+      opens within unread most now bs begins ∙ ok_first (inner places.Reference unread now bs) _ (s, mid, rest) _ ((level.reads.at places.Reference unread).from now bs (s, mid, rest) read)
+      (with_room 1 (end - length bs) mid (blocks_at end (inner places.Reference unread) within most after rest >>= λ is. Ok (items.Ref s ∷ is.0, is.1, is.2)) (Err f) room (err_first (blocks_at end (inner places.Reference unread) within most after rest) _ f (follow_fails within unread is most after later rest there (omega arith) h next)))
 
   pub items_fail : (within : Bool) (unread : List ℕ) (now : Progress) (bs : List ℕ) → InItems within R unread P now bs → items_at end (inner places.Reference unread) within now bs ≡ Err f
   unfolding items_at
@@ -430,6 +439,13 @@ module _ (end : ℕ) (f : Fault) (firm : f ≢ short) (Inner : SlotPlace → Lis
   unfolding desc_head_at
   head_read bs name suid flags count a b c d = rw a (rw b (rw c (rw d refl)))
 
+  -- a description whose head was read
+  abbrev whole_desc : DescHead → List FieldDesc → List Item → Slot → ClassDesc
+  whole_desc head fields note parent = record { name = head.name; suid = cast_signed w64 head.suid; flags = head.flags; fields = fields; note = note; parent = parent }
+
+  abbrev fields_behind : ℕ → List ℕ → Progress → DescHead → Result (ClassDesc × Progress × List ℕ) Fault
+  fields_behind at unread first head = many_at (field_at end at (inner places.Text unread)) head.count first head.rest >>= λ fs. cond (is_good_desc (desc_of head fs.0)) (items_at end (inner places.Reference unread) true fs.1 fs.2 >>= λ is. inner places.Parent unread is.1 is.2 >>= λ p. Ok (whole_desc head fs.0 is.0 p.0, p.1, p.2)) (Err (bad bad_desc at))
+
   desc_stops : (at : ℕ) (unread : List ℕ) (now : Progress) (bs : List ℕ) → desc_at end at inner unread now bs ≡ Err f → InDesc at R (unread ++ length now.nodes ∷ []) P (push now (Desc blank)) bs
   unfolding desc_at desc_after
   desc_stops at unread now bs e = elim (bind_err (short_at end bs) _ f e) [
@@ -455,20 +471,19 @@ module _ (end : ℕ) (f : Fault) (firm : f ≢ short) (Inner : SlotPlace → Lis
         ]
       ]
 
-      behind_head : (at : ℕ) (unread : List ℕ) (first : Progress) (bs : List ℕ) (head : DescHead) → desc_head_at end bs ≡ Ok head
-          → (many_at (field_at end at (inner places.Text unread)) head.count first head.rest >>= λ fs. cond (is_good_desc (desc_of head fs.0)) (items_at end (inner places.Reference unread) true fs.1 fs.2 >>= λ is. inner places.Parent unread is.1 is.2 >>= λ p. Ok (record { name = head.name; suid = cast_signed w64 head.suid; flags = head.flags; fields = fs.0; note = is.0; parent = p.0 }, p.1, p.2)) (Err (bad bad_desc at))) ≡ failed {A = ClassDesc × Progress × List ℕ} f
-          → InDesc at R unread P first bs
-      behind_head at unread first bs head begins e = elim (bind_err (many_at (field_at end at (inner places.Text unread)) head.count first head.rest) _ f e) [
-        | inl h ↦ (let m = many_stops (field_at end at (inner places.Text unread)) head.count first head.rest f h in in_field head m.0 m.2.0 m.2.1 m.2.2 (head_has end bs head begins) m.1 ((fields_same at unread m.0).to first head.rest m.2 m.3) (field_stops at unread m.2.1 m.2.2 m.4))
-        | inr fs ↦ behind_fields at unread first bs (record { head = head; begins = head_has end bs head begins; fields = fs.0.0; later = fs.0.1; there = fs.0.2; read = (fields_same at unread head.count).to first head.rest fs.0 fs.1 }) fs.2
+      with_fields : (at : ℕ) (unread : List ℕ) (first : Progress) (bs : List ℕ) (head : DescHead) → desc_head_at end bs ≡ Ok head → first.parts + head.count ≤ PARTS → fields_behind at unread (add_parts head.count first) head ≡ failed f → InDesc at R unread P first bs
+      with_fields at unread first bs head begins few e =
+          let counted = add_parts head.count first in
+          elim (bind_err (many_at (field_at end at (inner places.Text unread)) head.count counted head.rest) _ f e) [
+            | inl h ↦ (let m = many_stops (field_at end at (inner places.Text unread)) head.count counted head.rest f h in in_field head m.0 m.2.0 m.2.1 m.2.2 (head_has end bs head begins) few m.1 ((fields_same at unread m.0).to counted head.rest m.2 m.3) (field_stops at unread m.2.1 m.2.2 m.4))
+            | inr fs ↦ behind_fields at unread first bs (record { head = head; begins = head_has end bs head begins; few = few; fields = fs.0.0; later = fs.0.1; there = fs.0.2; read = (fields_same at unread head.count).to counted head.rest fs.0 fs.1 }) fs.2
+          ]
+
+      behind_head : (at : ℕ) (unread : List ℕ) (first : Progress) (bs : List ℕ) (head : DescHead) → desc_head_at end bs ≡ Ok head → counting head.count at first (λ later. fields_behind at unread later head) ≡ failed f → InDesc at R unread P first bs
+      behind_head at unread first bs head begins e = elim (chosen (ltb PARTS (first.parts + head.count)) _ _ _ e) [
+        | inl p ↦ too_many_fields head (head_has end bs head begins) (ltb-true PARTS (first.parts + head.count) p.0) (sym (err_is _ f p.1))
+        | inr p ↦ with_fields at unread first bs head begins (ltb-false PARTS (first.parts + head.count) p.0) p.1
       ]
-
-  -- a description whose head was read
-  abbrev whole_desc : DescHead → List FieldDesc → List Item → Slot → ClassDesc
-  whole_desc head fields note parent = record { name = head.name; suid = cast_signed w64 head.suid; flags = head.flags; fields = fields; note = note; parent = parent }
-
-  abbrev fields_behind : ℕ → List ℕ → Progress → DescHead → Result (ClassDesc × Progress × List ℕ) Fault
-  fields_behind at unread first head = many_at (field_at end at (inner places.Text unread)) head.count first head.rest >>= λ fs. cond (is_good_desc (desc_of head fs.0)) (items_at end (inner places.Reference unread) true fs.1 fs.2 >>= λ is. inner places.Parent unread is.1 is.2 >>= λ p. Ok (whole_desc head fs.0 is.0 p.0, p.1, p.2)) (Err (bad bad_desc at))
 
   record HeadParts (bs : List ℕ) (head : DescHead) : Type 0 where
     name : List ℕ × List ℕ
@@ -490,13 +505,17 @@ module _ (end : ℕ) (f : Fault) (firm : f ≢ short) (Inner : SlotPlace → Lis
       let d = bind_ok (size_at end w16 32768 c.0.1) _ head c.2 in
       record { name = a.0; suid = b.0; flags = c.0; count = d.0; name_read = a.1; suid_read = b.1; flags_read = c.1; count_read = d.1; is = ok_is _ head d.2 }
 
-  head_fails : (at : ℕ) (unread : List ℕ) (now : Progress) (bs : List ℕ) (head : DescHead) → desc_head_at end bs ≡ Ok head → fields_behind at (unread ++ length now.nodes ∷ []) (push now (Desc blank)) head ≡ Err f → desc_at end at inner unread now bs ≡ Err f
+  head_fails : (at : ℕ) (unread : List ℕ) (now : Progress) (bs : List ℕ) (head : DescHead) → desc_head_at end bs ≡ Ok head → counting head.count at (push now (Desc blank)) (λ later. fields_behind at (unread ++ length now.nodes ∷ []) later head) ≡ Err f → desc_at end at inner unread now bs ≡ Err f
   unfolding desc_at desc_after
   head_fails at unread now bs head e h =
       let r = head_parts bs head e in
       ok_first (short_at end bs) _ r.name _ r.name_read (ok_first (number_at w64 r.name.1) _ r.suid _ r.suid_read (ok_first (byte_at r.suid.1) _ r.flags _ r.flags_read
       (err_first (desc_after end at inner (unread ++ length now.nodes ∷ []) r.name.0 r.suid.0 r.flags.0 (push now (Desc blank)) r.flags.1) _ f
-      (ok_first (size_at end w16 32768 r.flags.1) _ r.count _ r.count_read (subst (λ (d : DescHead). fields_behind at (unread ++ length now.nodes ∷ []) (push now (Desc blank)) d ≡ Err f) (sym r.is) h)))))
+      (ok_first (size_at end w16 32768 r.flags.1) _ r.count _ r.count_read (subst (λ (d : DescHead). counting d.count at (push now (Desc blank)) (λ later. fields_behind at (unread ++ length now.nodes ∷ []) later d) ≡ Err f) (sym r.is) h)))))
+
+  -- the fields have room
+  fields_fail : (at : ℕ) (unread : List ℕ) (now : Progress) (bs : List ℕ) (head : DescHead) → desc_head_at end bs ≡ Ok head → now.parts + head.count ≤ PARTS → fields_behind at (unread ++ length now.nodes ∷ []) (add_parts head.count (push now (Desc blank))) head ≡ Err f → desc_at end at inner unread now bs ≡ Err f
+  fields_fail at unread now bs head e few h = head_fails at unread now bs head e (with_room head.count at (push now (Desc blank)) (fields_behind at (unread ++ length now.nodes ∷ []) (add_parts head.count (push now (Desc blank))) head) (Err f) few h)
 
   desc_fails : (at : ℕ) (unread : List ℕ) (now : Progress) (bs : List ℕ) → InDesc at R (unread ++ length now.nodes ∷ []) P (push now (Desc blank)) bs → desc_at end at inner unread now bs ≡ Err f
   unfolding desc_at desc_after
@@ -504,16 +523,17 @@ module _ (end : ℕ) (f : Fault) (firm : f ≢ short) (Inner : SlotPlace → Lis
   desc_fails at unread now bs (at_count name suid flags a b c h) =
       ok_first (short_at end bs) _ name _ (has_text end bs name a) (ok_first (number_at w64 name.1) _ suid _ (has_number w64 name.1 suid b) (ok_first (byte_at suid.1) _ flags _ (has_byte suid.1 flags c)
       (err_first (desc_after end at inner (unread ++ length now.nodes ∷ []) name.0 suid.0 flags.0 (push now (Desc blank)) flags.1) _ f (err_first (size_at end w16 32768 flags.1) _ f (size_fails w16 32768 flags.1 h)))))
-  desc_fails at unread now bs (in_field head done fields later there e lt read h) =
-      head_fails at unread now bs head (has_head end bs head e) (err_first (many_at (field_at end at (inner places.Text (unread ++ length now.nodes ∷ []))) head.count (push now (Desc blank)) head.rest) _ f
-      (many_fails (field_at end at (inner places.Text (unread ++ length now.nodes ∷ []))) head.count done (push now (Desc blank)) head.rest (fields, later, there) f lt ((fields_same at (unread ++ length now.nodes ∷ []) done).from (push now (Desc blank)) head.rest (fields, later, there) read) (field_fails at (unread ++ length now.nodes ∷ []) later there h)))
+  desc_fails at unread now bs (too_many_fields head e many same) = head_fails at unread now bs head (has_head end bs head e) (rw (lt-ltb PARTS (now.parts + head.count) many) (ap (λ z. Err z) (sym same)))
+  desc_fails at unread now bs (in_field head done fields later there e few lt read h) =
+      fields_fail at unread now bs head (has_head end bs head e) few (err_first (many_at (field_at end at (inner places.Text (unread ++ length now.nodes ∷ []))) head.count (add_parts head.count (push now (Desc blank))) head.rest) _ f
+      (many_fails (field_at end at (inner places.Text (unread ++ length now.nodes ∷ []))) head.count done (add_parts head.count (push now (Desc blank))) head.rest (fields, later, there) f lt ((fields_same at (unread ++ length now.nodes ∷ []) done).from (add_parts head.count (push now (Desc blank))) head.rest (fields, later, there) read) (field_fails at (unread ++ length now.nodes ∷ []) later there h)))
   desc_fails at unread now bs (breaks_rule d wrong same) =
-      head_fails at unread now bs d.head (has_head end bs d.head d.begins) (ok_first (many_at (field_at end at (inner places.Text (unread ++ length now.nodes ∷ []))) d.head.count (push now (Desc blank)) d.head.rest) _ (d.fields, d.later, d.there) _ ((fields_same at (unread ++ length now.nodes ∷ []) d.head.count).from (push now (Desc blank)) d.head.rest (d.fields, d.later, d.there) d.read) (rw wrong (ap (λ z. Err z) (sym same))))
+      fields_fail at unread now bs d.head (has_head end bs d.head d.begins) d.few (ok_first (many_at (field_at end at (inner places.Text (unread ++ length now.nodes ∷ []))) d.head.count (add_parts d.head.count (push now (Desc blank))) d.head.rest) _ (d.fields, d.later, d.there) _ ((fields_same at (unread ++ length now.nodes ∷ []) d.head.count).from (add_parts d.head.count (push now (Desc blank))) d.head.rest (d.fields, d.later, d.there) d.read) (rw wrong (ap (λ z. Err z) (sym same))))
   desc_fails at unread now bs (in_note d good h) =
-      head_fails at unread now bs d.head (has_head end bs d.head d.begins) (ok_first (many_at (field_at end at (inner places.Text (unread ++ length now.nodes ∷ []))) d.head.count (push now (Desc blank)) d.head.rest) _ (d.fields, d.later, d.there) _ ((fields_same at (unread ++ length now.nodes ∷ []) d.head.count).from (push now (Desc blank)) d.head.rest (d.fields, d.later, d.there) d.read)
+      fields_fail at unread now bs d.head (has_head end bs d.head d.begins) d.few (ok_first (many_at (field_at end at (inner places.Text (unread ++ length now.nodes ∷ []))) d.head.count (add_parts d.head.count (push now (Desc blank))) d.head.rest) _ (d.fields, d.later, d.there) _ ((fields_same at (unread ++ length now.nodes ∷ []) d.head.count).from (add_parts d.head.count (push now (Desc blank))) d.head.rest (d.fields, d.later, d.there) d.read)
       (rw good (err_first (items_at end (inner places.Reference (unread ++ length now.nodes ∷ [])) true d.later d.there) _ f (note_fails (unread ++ length now.nodes ∷ []) d.later d.there h))))
   desc_fails at unread now bs (at_parent d note good read h) =
-      head_fails at unread now bs d.head (has_head end bs d.head d.begins) (ok_first (many_at (field_at end at (inner places.Text (unread ++ length now.nodes ∷ []))) d.head.count (push now (Desc blank)) d.head.rest) _ (d.fields, d.later, d.there) _ ((fields_same at (unread ++ length now.nodes ∷ []) d.head.count).from (push now (Desc blank)) d.head.rest (d.fields, d.later, d.there) d.read)
+      fields_fail at unread now bs d.head (has_head end bs d.head d.begins) d.few (ok_first (many_at (field_at end at (inner places.Text (unread ++ length now.nodes ∷ []))) d.head.count (add_parts d.head.count (push now (Desc blank))) d.head.rest) _ (d.fields, d.later, d.there) _ ((fields_same at (unread ++ length now.nodes ∷ []) d.head.count).from (add_parts d.head.count (push now (Desc blank))) d.head.rest (d.fields, d.later, d.there) d.read)
       (rw good (ok_first (items_at end (inner places.Reference (unread ++ length now.nodes ∷ [])) true d.later d.there) _ note _ ((note_same (unread ++ length now.nodes ∷ [])).from d.later d.there note read)
       (err_first (inner places.Parent (unread ++ length now.nodes ∷ []) note.1 note.2) _ f (level.up places.Parent (unread ++ length now.nodes ∷ []) note.1 note.2 h)))))
 
@@ -525,35 +545,59 @@ module _ (end : ℕ) (f : Fault) (firm : f ≢ short) (Inner : SlotPlace → Lis
   interface_fails : (now : Progress) (bs : List ℕ) → InText P bs → plain (short_at end) now bs ≡ Err f
   interface_fails now bs h = err_first (short_at end bs) _ f (short_fails bs h)
 
-  proxy_stops : (unread : List ℕ) (now : Progress) (bs : List ℕ) → proxy_at end inner unread now bs ≡ Err f → InProxy R (unread ++ length now.nodes ∷ []) P (push now (Desc blank)) bs
-  unfolding proxy_at
-  proxy_stops unread now bs e =
-      let first = push now (Desc blank) in
-      let open_ones = unread ++ length now.nodes ∷ [] in
-      elim (bind_err (size_at end w32 (2 ^ 31) bs) _ f e) [
-        | inl h ↦ at_names (size_stops w32 (2 ^ 31) bs h)
-        | inr n ↦ elim (bind_err (many_at (plain (short_at end)) n.0.0 first n.0.1) _ f n.2) [
-          | inl h ↦ (let m = many_stops (plain (short_at end)) n.0.0 first n.0.1 f h in in_interface n.0 m.0 m.2.0 m.2.1 m.2.2 (size_has end w32 (2 ^ 31) bs n.0 n.1) m.1 ((names_same m.0).to first n.0.1 m.2 m.3) (interface_stops m.2.1 m.2.2 m.4))
-          | inr names ↦ (
-              let d : HasInterfaces first bs = record { count = n.0; begins = size_has end w32 (2 ^ 31) bs n.0 n.1; names = names.0.0; later = names.0.1; there = names.0.2; read = (names_same n.0.0).to first n.0.1 names.0 names.1 } in
-              elim (bind_err (items_at end (inner places.Reference open_ones) true names.0.1 names.0.2) _ f names.2) [
-                | inl h ↦ in_proxy_note d (note_stops open_ones names.0.1 names.0.2 h)
-                | inr note ↦ at_proxy_parent d note.0 ((note_same open_ones).to names.0.1 names.0.2 note.0 note.1) (level.down places.Parent open_ones note.0.1 note.0.2 (then_err (inner places.Parent open_ones note.0.1 note.0.2) _ f note.2))
-              ])
-        ]
-      ]
+  -- the names of a proxy's interfaces, which are counted, and what stands behind them
+  abbrev names_behind : List ℕ → Progress → ℕ × List ℕ → Result (Slot × Progress × List ℕ) Fault
+  names_behind unread now n =
+      many_at (plain (short_at end)) n.0 (add_parts n.0 (push now (Desc blank))) n.1 >>= λ names.
+      items_at end (inner places.Reference (unread ++ length now.nodes ∷ [])) true names.1 names.2 >>= λ is.
+      inner places.Parent (unread ++ length now.nodes ∷ []) is.1 is.2 >>= λ p.
+      Ok (slots.Node (length now.nodes), fill p.1 (length now.nodes) (Proxy (record { names = names.0; note = is.0; parent = p.0 })), p.2)
 
-  proxy_fails : (unread : List ℕ) (now : Progress) (bs : List ℕ) → InProxy R (unread ++ length now.nodes ∷ []) P (push now (Desc blank)) bs → proxy_at end inner unread now bs ≡ Err f
+  proxy_stops : (at : ℕ) (unread : List ℕ) (now : Progress) (bs : List ℕ) → proxy_at end at inner unread now bs ≡ Err f → InProxy at R (unread ++ length now.nodes ∷ []) P (push now (Desc blank)) bs
   unfolding proxy_at
-  proxy_fails unread now bs (at_names h) = err_first (size_at end w32 (2 ^ 31) bs) _ f (size_fails w32 (2 ^ 31) bs h)
-  proxy_fails unread now bs (in_interface n done names later there begins lt read h) =
-      ok_first (size_at end w32 (2 ^ 31) bs) _ n _ (has_size end w32 (2 ^ 31) bs n begins) (err_first (many_at (plain (short_at end)) n.0 (push now (Desc blank)) n.1) _ f
-      (many_fails (plain (short_at end)) n.0 done (push now (Desc blank)) n.1 (names, later, there) f lt ((names_same done).from (push now (Desc blank)) n.1 (names, later, there) read) (interface_fails later there h)))
-  proxy_fails unread now bs (in_proxy_note d h) =
-      ok_first (size_at end w32 (2 ^ 31) bs) _ d.count _ (has_size end w32 (2 ^ 31) bs d.count d.begins) (ok_first (many_at (plain (short_at end)) d.count.0 (push now (Desc blank)) d.count.1) _ (d.names, d.later, d.there) _ ((names_same d.count.0).from (push now (Desc blank)) d.count.1 (d.names, d.later, d.there) d.read)
+  proxy_stops at unread now bs e = elim (bind_err (size_at end w32 (2 ^ 31) bs) _ f e) [
+    | inl h ↦ at_names (size_stops w32 (2 ^ 31) bs h)
+    | inr n ↦ elim (chosen (ltb PARTS (now.parts + n.0.0)) _ _ _ n.2) [
+      | inl p ↦ too_many_names n.0 (size_has end w32 (2 ^ 31) bs n.0 n.1) (ltb-true PARTS (now.parts + n.0.0) p.0) (sym (err_is _ f p.1))
+      | inr p ↦ behind_count n.0 (size_has end w32 (2 ^ 31) bs n.0 n.1) (ltb-false PARTS (now.parts + n.0.0) p.0) p.1
+    ]
+  ]
+    where
+      behind_count : (n : ℕ × List ℕ) → HasSize w32 (2 ^ 31) bs n → now.parts + n.0 ≤ PARTS → names_behind unread now n ≡ Err f → InProxy at R (unread ++ length now.nodes ∷ []) P (push now (Desc blank)) bs
+      behind_count n begins few e =
+          let first = push now (Desc blank) in
+          let counted = add_parts n.0 first in
+          let open_ones = unread ++ length now.nodes ∷ [] in
+          elim (bind_err (many_at (plain (short_at end)) n.0 counted n.1) _ f e) [
+            | inl h ↦ (let m = many_stops (plain (short_at end)) n.0 counted n.1 f h in in_interface n m.0 m.2.0 m.2.1 m.2.2 begins few m.1 ((names_same m.0).to counted n.1 m.2 m.3) (interface_stops m.2.1 m.2.2 m.4))
+            | inr names ↦ (
+                let d : HasInterfaces first bs = record { count = n; begins = begins; few = few; names = names.0.0; later = names.0.1; there = names.0.2; read = (names_same n.0).to counted n.1 names.0 names.1 } in
+                elim (bind_err (items_at end (inner places.Reference open_ones) true names.0.1 names.0.2) _ f names.2) [
+                  | inl h ↦ in_proxy_note d (note_stops open_ones names.0.1 names.0.2 h)
+                  | inr note ↦ at_proxy_parent d note.0 ((note_same open_ones).to names.0.1 names.0.2 note.0 note.1) (level.down places.Parent open_ones note.0.1 note.0.2 (then_err (inner places.Parent open_ones note.0.1 note.0.2) _ f note.2))
+                ])
+          ]
+
+  -- the names have room
+  names_fail : (at : ℕ) (unread : List ℕ) (now : Progress) (bs : List ℕ) (n : ℕ × List ℕ) → HasSize w32 (2 ^ 31) bs n → now.parts + n.0 ≤ PARTS → names_behind unread now n ≡ Err f → proxy_at end at inner unread now bs ≡ Err f
+  unfolding proxy_at
+  names_fail at unread now bs n begins few h = ok_first (size_at end w32 (2 ^ 31) bs) _ n _ (has_size end w32 (2 ^ 31) bs n begins) (with_room n.0 at (push now (Desc blank)) (names_behind unread now n) (Err f) few h)
+
+  proxy_fails : (at : ℕ) (unread : List ℕ) (now : Progress) (bs : List ℕ) → InProxy at R (unread ++ length now.nodes ∷ []) P (push now (Desc blank)) bs → proxy_at end at inner unread now bs ≡ Err f
+  unfolding proxy_at
+  proxy_fails at unread now bs (at_names h) = err_first (size_at end w32 (2 ^ 31) bs) _ f (size_fails w32 (2 ^ 31) bs h)
+  proxy_fails at unread now bs (too_many_names n begins many same) = ok_first (size_at end w32 (2 ^ 31) bs) _ n _ (has_size end w32 (2 ^ 31) bs n begins) (rw (lt-ltb PARTS (now.parts + n.0) many) (ap (λ z. Err z) (sym same)))
+  proxy_fails at unread now bs (in_interface n done names later there begins few lt read h) =
+      let counted = add_parts n.0 (push now (Desc blank)) in
+      names_fail at unread now bs n begins few (err_first (many_at (plain (short_at end)) n.0 counted n.1) _ f
+      (many_fails (plain (short_at end)) n.0 done counted n.1 (names, later, there) f lt ((names_same done).from counted n.1 (names, later, there) read) (interface_fails later there h)))
+  proxy_fails at unread now bs (in_proxy_note d h) =
+      let counted = add_parts d.count.0 (push now (Desc blank)) in
+      names_fail at unread now bs d.count d.begins d.few (ok_first (many_at (plain (short_at end)) d.count.0 counted d.count.1) _ (d.names, d.later, d.there) _ ((names_same d.count.0).from counted d.count.1 (d.names, d.later, d.there) d.read)
       (err_first (items_at end (inner places.Reference (unread ++ length now.nodes ∷ [])) true d.later d.there) _ f (note_fails (unread ++ length now.nodes ∷ []) d.later d.there h)))
-  proxy_fails unread now bs (at_proxy_parent d note read h) =
-      ok_first (size_at end w32 (2 ^ 31) bs) _ d.count _ (has_size end w32 (2 ^ 31) bs d.count d.begins) (ok_first (many_at (plain (short_at end)) d.count.0 (push now (Desc blank)) d.count.1) _ (d.names, d.later, d.there) _ ((names_same d.count.0).from (push now (Desc blank)) d.count.1 (d.names, d.later, d.there) d.read)
+  proxy_fails at unread now bs (at_proxy_parent d note read h) =
+      let counted = add_parts d.count.0 (push now (Desc blank)) in
+      names_fail at unread now bs d.count d.begins d.few (ok_first (many_at (plain (short_at end)) d.count.0 counted d.count.1) _ (d.names, d.later, d.there) _ ((names_same d.count.0).from counted d.count.1 (d.names, d.later, d.there) d.read)
       (ok_first (items_at end (inner places.Reference (unread ++ length now.nodes ∷ [])) true d.later d.there) _ note _ ((note_same (unread ++ length now.nodes ∷ [])).from d.later d.there note read)
       (err_first (inner places.Parent (unread ++ length now.nodes ∷ []) note.1 note.2) _ f (level.up places.Parent (unread ++ length now.nodes ∷ []) note.1 note.2 h))))
 
@@ -745,24 +789,24 @@ module _ (end : ℕ) (f : Fault) (firm : f ≢ short) (Inner : SlotPlace → Lis
 
   object_stops : (at : ℕ) (unread : List ℕ) (class : ℕ) (now : Progress) (bs : List ℕ) → object_at end at (inner places.Reference unread) class now bs ≡ Err f → InObject at R unread P class now bs
   unfolding object_at object_after
-  object_stops at unread class now bs e = elim (chosen (ltb PARTS (now.parts + length (rows_in now class))) _ _ _ e) [
-    | inl p ↦ too_many_parts (ltb-true PARTS (now.parts + length (rows_in now class)) p.0) (sym (err_is _ f p.1))
-    | inr p ↦ by (ltb-false PARTS (now.parts + length (rows_in now class)) p.0) (class_fault (slice_get now.nodes class) (chain_of PARTS now.nodes (slots.Node class)).1) refl p.1
+  object_stops at unread class now bs e = elim (chosen (ltb PARTS (now.parts + sizes_of (rows_in now class))) _ _ _ e) [
+    | inl p ↦ too_many_parts (ltb-true PARTS (now.parts + sizes_of (rows_in now class)) p.0) (sym (err_is _ f p.1))
+    | inr p ↦ by (ltb-false PARTS (now.parts + sizes_of (rows_in now class)) p.0) (class_fault (slice_get now.nodes class) (chain_of PARTS now.nodes (slots.Node class)).1) refl p.1
   ]
     where
-      by : now.parts + length (rows_in now class) ≤ PARTS → (o : Option FaultKind) → class_fault (slice_get now.nodes class) (chain_of PARTS now.nodes (slots.Node class)).1 ≡ o
+      by : now.parts + sizes_of (rows_in now class) ≤ PARTS → (o : Option FaultKind) → class_fault (slice_get now.nodes class) (chain_of PARTS now.nodes (slots.Node class)).1 ≡ o
           → unless o at (object_after end (inner places.Reference unread) class (rows_in now class) now bs) ≡ Err f → InObject at R unread P class now bs
       by few (Some kind) is e = no_objects kind few is (sym (err_is _ f e))
       by few None is e = in_parts few is (parts_stop unread (rows_in now class) (with_object now class) bs (then_err (parts_at end (inner places.Reference unread) (rows_in now class) (with_object now class) bs) _ f e))
 
   object_fails : (at : ℕ) (unread : List ℕ) (class : ℕ) (now : Progress) (bs : List ℕ) → InObject at R unread P class now bs → object_at end at (inner places.Reference unread) class now bs ≡ Err f
   unfolding object_at object_after
-  object_fails at unread class now bs (too_many_parts many same) = rw (lt-ltb PARTS (now.parts + length (rows_in now class)) many) (ap (λ z. Err z) (sym same))
-  object_fails at unread class now bs (no_objects kind few is same) = rw (le-ltb PARTS (now.parts + length (rows_in now class)) few) (rw is (ap (λ z. Err z) (sym same)))
+  object_fails at unread class now bs (too_many_parts many same) = rw (lt-ltb PARTS (now.parts + sizes_of (rows_in now class)) many) (ap (λ z. Err z) (sym same))
+  object_fails at unread class now bs (no_objects kind few is same) = rw (le-ltb PARTS (now.parts + sizes_of (rows_in now class)) few) (rw is (ap (λ z. Err z) (sym same)))
   object_fails at unread class now bs (in_parts few is h) =
       let m : parts_at end (inner places.Reference unread) (h.before ++ h.row ∷ h.behind) (with_object now class) bs ≡ Err f = parts_fail unread h.before h.row h.behind (with_object now class) bs (h.parts, h.later, h.there) ((parts_same unread h.before).from (with_object now class) bs (h.parts, h.later, h.there) h.read) h.next in
       let n : parts_at end (inner places.Reference unread) (rows_in now class) (with_object now class) bs ≡ Err f = ap (λ (l : List Row). parts_at end (inner places.Reference unread) l (with_object now class) bs) h.are ∙ m in
-      rw (le-ltb PARTS (now.parts + length (rows_in now class)) few) (rw is (err_first (parts_at end (inner places.Reference unread) (rows_in now class) (with_object now class) bs) _ f n))
+      rw (le-ltb PARTS (now.parts + sizes_of (rows_in now class)) few) (rw is (err_first (parts_at end (inner places.Reference unread) (rows_in now class) (with_object now class) bs) _ f n))
 
   array_stops : (at : ℕ) (unread : List ℕ) (class : ℕ) (now : Progress) (bs : List ℕ) → array_at end at (inner places.Reference unread) class now bs ≡ Err f → InArray at R unread P class now bs
   unfolding array_at array_of
@@ -772,11 +816,14 @@ module _ (end : ℕ) (f : Fault) (firm : f ≢ short) (Inner : SlotPlace → Lis
       by None is e = no_array is (sym (err_is _ f e))
       by (Some code) is e = elim (bind_err (size_at end w32 (2 ^ 31) bs) _ f e) [
         | inl h ↦ at_size code is (size_stops w32 (2 ^ 31) bs h)
-        | inr n ↦ (
-            let first = push now (Array class (kinds.Bytes [])) in
-            let own = elements_stop unread code n.0.0 first n.0.1 (then_err (elements_at (inner places.Reference unread) code n.0.0 first n.0.1) _ f n.2) in
-            let m = many_stops (inner places.Reference unread) n.0.0 first n.0.1 f own.1 in
-            at_element code n.0 m.0 m.2 is own.0 (size_has end w32 (2 ^ 31) bs n.0 n.1) m.1 ((refs_same unread m.0).to first n.0.1 m.2 m.3) (level.down places.Reference unread m.2.1 m.2.2 m.4))
+        | inr n ↦ elim (chosen (ltb PARTS (now.parts + refs_among code n.0.0)) _ _ _ n.2) [
+          | inl p ↦ too_many_elements code n.0 is (size_has end w32 (2 ^ 31) bs n.0 n.1) (ltb-true PARTS (now.parts + refs_among code n.0.0) p.0) (sym (err_is _ f p.1))
+          | inr p ↦ (
+              let first = add_parts (refs_among code n.0.0) (push now (Array class (kinds.Bytes []))) in
+              let own = elements_stop unread code n.0.0 first n.0.1 (then_err (elements_at (inner places.Reference unread) code n.0.0 first n.0.1) _ f p.1) in
+              let m = many_stops (inner places.Reference unread) n.0.0 first n.0.1 f own.1 in
+              at_element code n.0 m.0 m.2 is own.0 (size_has end w32 (2 ^ 31) bs n.0 n.1) (ltb-false PARTS (now.parts + refs_among code n.0.0) p.0) m.1 ((refs_same unread m.0).to first n.0.1 m.2 m.3) (level.down places.Reference unread m.2.1 m.2.2 m.4))
+        ]
       ]
 
   array_opens : (at : ℕ) (unread : List ℕ) (class : ℕ) (now : Progress) (bs : List ℕ) (o : Option TypeCode) → type_in (slice_get now.nodes class) ≡ o → array_of end at (inner places.Reference unread) class o now bs ≡ Err f → array_at end at (inner places.Reference unread) class now bs ≡ Err f
@@ -787,10 +834,14 @@ module _ (end : ℕ) (f : Fault) (firm : f ≢ short) (Inner : SlotPlace → Lis
   unfolding array_of
   array_fails at unread class now bs (no_array is same) = array_opens at unread class now bs None is (ap (λ z. Err z) (sym same))
   array_fails at unread class now bs (at_size code is h) = array_opens at unread class now bs (Some code) is (err_first (size_at end w32 (2 ^ 31) bs) _ f (size_fails w32 (2 ^ 31) bs h))
-  array_fails at unread class now bs (at_element code n done x is own sized lt read h) =
-      let first = push now (Array class (kinds.Bytes [])) in
-      array_opens at unread class now bs (Some code) is (ok_first (size_at end w32 (2 ^ 31) bs) _ n _ (has_size end w32 (2 ^ 31) bs n sized) (err_first (elements_at (inner places.Reference unread) code n.0 first n.1) _ f
-      (elements_fail unread code n.0 first n.1 (own, many_fails (inner places.Reference unread) n.0 done first n.1 x f lt ((refs_same unread done).from first n.1 x read) (level.up places.Reference unread x.1 x.2 h)))))
+  array_fails at unread class now bs (too_many_elements code n is sized many same) =
+      array_opens at unread class now bs (Some code) is (ok_first (size_at end w32 (2 ^ 31) bs) _ n _ (has_size end w32 (2 ^ 31) bs n sized) (rw (lt-ltb PARTS (now.parts + refs_among code n.0) many) (ap (λ z. Err z) (sym same))))
+  array_fails at unread class now bs (at_element code n done x is own sized few lt read h) =
+      let more = refs_among code n.0 in
+      let first = add_parts more (push now (Array class (kinds.Bytes []))) in
+      array_opens at unread class now bs (Some code) is (ok_first (size_at end w32 (2 ^ 31) bs) _ n _ (has_size end w32 (2 ^ 31) bs n sized)
+      (with_room more at (push now (Array class (kinds.Bytes []))) (elements_at (inner places.Reference unread) code n.0 first n.1 >>= λ vs. Ok (slots.Node (length now.nodes), fill vs.1 (length now.nodes) (Array class vs.0), vs.2)) (Err f) few (err_first (elements_at (inner places.Reference unread) code n.0 first n.1) _ f
+      (elements_fail unread code n.0 first n.1 (own, many_fails (inner places.Reference unread) n.0 done first n.1 x f lt ((refs_same unread done).from first n.1 x read) (level.up places.Reference unread x.1 x.2 h))))))
 
   named_firm : (class n : ℕ) (x : Slot × Progress × List ℕ) → named class n x ≡ Err f → ⊥
   named_firm class n (slots.Null, now, bs) e = firm (sym (err_is short f e))
@@ -930,7 +981,7 @@ module _ (end : ℕ) (f : Fault) (firm : f ≢ short) (Inner : SlotPlace → Lis
                 | inr t ↦ elim (chosen (eqb code 0x7C) _ _ _ t.1) [
                   | inl u ↦ recoded at unread 0x7C code now bs u.0 (in_long_text refl (long_stops bs (then_err (long_at end bs) _ f u.1)))
                   | inr u ↦ elim (chosen (eqb code 0x7D) _ _ _ u.1) [
-                    | inl v ↦ recoded at unread 0x7D code now bs v.0 (in_proxy refl (proxy_stops unread now bs v.1))
+                    | inl v ↦ recoded at unread 0x7D code now bs v.0 (in_proxy refl (proxy_stops at unread now bs v.1))
                     | inr v ↦ elim (chosen (eqb code 0x7E) _ _ _ v.1) [
                       | inl w ↦ recoded at unread 0x7E code now bs w.0 (class_stops at unread 0x7E (enum_at at (inner places.Text unread)) (inr (inr (inr refl))) (own_enum at unread) now bs w.1)
                       | inr w ↦ absurd (code_known code gives p.0 q.0 r.0 s.0 t.0 u.0 v.0 w.0)
@@ -967,7 +1018,7 @@ module _ (end : ℕ) (f : Fault) (firm : f ≢ short) (Inner : SlotPlace → Lis
   fresh_fails at unread code now bs (in_text is h) = fresh_known at unread 0x74 code now bs is (err_first (short_at end bs) _ f (short_fails bs h))
   fresh_fails at unread code now bs (in_long_text is h) = fresh_known at unread 0x7C code now bs is (err_first (long_at end bs) _ f (long_fails bs h))
   fresh_fails at unread code now bs (in_desc is h) = fresh_known at unread 0x72 code now bs is (desc_fails at unread now bs h)
-  fresh_fails at unread code now bs (in_proxy is h) = fresh_known at unread 0x7D code now bs is (proxy_fails unread now bs h)
+  fresh_fails at unread code now bs (in_proxy is h) = fresh_known at unread 0x7D code now bs is (proxy_fails at unread now bs h)
   fresh_fails at unread code now bs (at_class begins h) = fresh_class at unread code now bs begins h
   fresh_fails at unread code now bs (behind_class class later rest begins read h) = fresh_behind at unread code class now later bs rest begins ((level.reads.at places.Class unread).from now bs (slots.Node class, later, rest) read) h
 
@@ -1112,7 +1163,8 @@ class_some end left inner unread at code now later bs rest e = elim (chosen (eqb
     proxy : fresh_at end at inner unread 0x7D now bs ≡ Ok (slots.Null, later, rest) → ⊥
     proxy e =
         let a = bind_ok (size_at end w32 (2 ^ 31) bs) _ _ e in
-        let b = bind_ok (many_at (plain (short_at end)) a.0.0 (push now (Desc blank)) a.0.1) _ _ a.2 in
+        let g = guarded (ltb PARTS (now.parts + a.0.0)) (too_many at) _ _ a.2 in
+        let b = bind_ok (many_at (plain (short_at end)) a.0.0 (add_parts a.0.0 (push now (Desc blank))) a.0.1) _ _ g.1 in
         let c = bind_ok (items_at end (inner places.Reference (unread ++ length now.nodes ∷ [])) true b.0.1 b.0.2) _ _ b.2 in
         let d = bind_ok (inner places.Parent (unread ++ length now.nodes ∷ []) c.0.1 c.0.2) _ _ c.2 in
         node_not_null _ _ _ _ _ d.2

@@ -1,5 +1,5 @@
 -- The laws of faults.
-use Rattle.std.proofs.Common.{◌≡◌, ◌≢◌, ◌⊎◌, ◌-◌, ◌≤◌, ◌<◌, ℕ, false, take, slice_get, arith, List, [], ◌∷◌, ◌++◌, length, Result, Ok, Err, refl, sym, ap, subst, ◌∙◌, inl, inr}
+use Rattle.std.proofs.Common.{◌≡◌, ◌≢◌, ◌⊎◌, ◌-◌, ◌≤◌, ◌<◌, ◌+◌, ℕ, false, drop, slice_get, arith, List, [], ◌∷◌, ◌++◌, length, Result, Ok, Err, refl, sym, ap, subst, ◌∙◌, inl, inr}
 use Rattle.class_desc.specs.declared.slot.Slot.{Slot}
 use Rattle.class_desc.specs.declared.slot.Item.{Item}
 use Rattle.class_desc.specs.declared.slot.Item.TheVariants as items
@@ -7,13 +7,14 @@ use Rattle.ser_values.specs.declared.node.Node.{Node}
 use Rattle.ser_values.specs.declared.node.SlotPlace.TheVariants as places
 use Rattle.ser_values.specs.declared.limits.TheConstants.{LEVELS, NODES, PARTS}
 use Rattle.ser_values.specs.Node.{has}
-use Rattle.ser_values.specs.Shape.{parts_in}
+use Rattle.ser_values.specs.Shape.{refs_in, parts_in}
 use Rattle.ser_values.specs.Ranges.{NumbersFit, UnitsFit}
 use Rattle.ser_values.proofs.Ranged.{numbers_of, units_of}
-use Rattle.stream_grammar.proofs.Solid.{Solid, Sees, got_self, whole_same}
+use Rattle.stream_grammar.proofs.Solid.{Solid, Sees, got_self, parts_append, whole_same}
 use Rattle.ser_values.proofs.Lists.{slice_get-append_left}
 use Rattle.std.proofs.lemmas.Option.{slice_get_within}
 use Rattle.std.proofs.lemmas.List.{length-append}
+use Rattle.std.proofs.Math.Seq.{drop-append_seam}
 use Rattle.std.proofs.lemmas.Bool.{cases_lt}
 use Rattle.class_desc.specs.declared.slot.Slot.TheVariants as slots
 use Rattle.stream_grammar.proofs.Sound.{slots_sound}
@@ -217,21 +218,15 @@ read_slot s now rest = Ok (s, now, rest)
 pub references_are_read : ReferencesAreRead
 references_are_read end left p unread now here y = (λ e. ((same_references end left).at p unread).to now here y e, λ h. ((same_references end left).at p unread).from now here y h)
 
-take_all : (F : List Node) → take (length F) F ≡ F
-take_all [] = refl
-take_all (x ∷ F) = ap (λ (l : List Node). x ∷ l) (take_all F)
-
-take_front : (N M : List Node) → take (length N) (N ++ M) ≡ N
-take_front [] M = refl
-take_front (x ∷ N) M = ap (λ (l : List Node). x ∷ l) (take_front N M)
-
-spelled_of : (before added : List Node) (s : Slot) (here rest : List ℕ) → Solid [] (so_far before) → AreBytes here → Reads LEVELS places.Reference [] (so_far before) here (s, so_far (before ++ added), rest)
-    → Spells (before ++ added) LEVELS [] (places.Reference, s) (length before) here rest (length (before ++ added)) × NumbersFit (before ++ added) × UnitsFit (before ++ added) × (parts_in (before ++ added) ≤ PARTS)
-spelled_of before added s here rest solid bs h =
+spelled_of : (before added : List Node) (answers : List Item) (s : Slot) (here rest : List ℕ) → Solid [] (so_far before answers) → AreBytes here → Reads LEVELS places.Reference [] (so_far before answers) here (s, so_far (before ++ added) answers, rest)
+    → Spells (before ++ added) LEVELS [] (places.Reference, s) (length before) here rest (length (before ++ added)) × NumbersFit (before ++ added) × UnitsFit (before ++ added) × (parts_in (before ++ added) + refs_in answers ≤ PARTS)
+spelled_of before added answers s here rest solid bs h =
     let F = before ++ added in
-    let e = ((same_references 0 LEVELS).at places.Reference []).from (so_far before) here (s, so_far F, rest) h in
-    let g = (slots_sound 0 LEVELS [] places.Reference (so_far before) here (s, so_far F, rest) e solid (are here bs)).got in
-    (got_self [] (so_far before) (so_far F) rest _ g, numbers_of F g.solid.ranged, units_of F g.solid.ranged, g.solid.few)
+    let now = so_far before answers in
+    let later = so_far F answers in
+    let e = ((same_references 0 LEVELS).at places.Reference []).from now here (s, later, rest) h in
+    let g = (slots_sound 0 LEVELS [] places.Reference now here (s, later, rest) e solid (are here bs)).got in
+    (got_self [] now later rest _ g, numbers_of F g.solid.ranged, units_of F g.solid.ranged, g.solid.few)
 
 -- a list of nodes has those in front of it
 sees_front_of : (before added : List Node) → Sees (before ++ added) before []
@@ -241,26 +236,30 @@ sees_front_of before added = record {
   long = let l = length-append before added in omega arith;
 }
 
-ready_behind : (before added : List Node) → Solid [] (so_far before) → Ready (before ++ added) [] (so_far before)
+ready_behind : (before added : List Node) (answers : List Item) → Solid [] (so_far before answers) → parts_in (before ++ added) + refs_in answers ≤ PARTS → Ready (before ++ added) [] (so_far before answers)
 unfolding has
-ready_behind before added solid = record {
-  parts = ap parts_in (sym (take_front before added));
+ready_behind before added answers solid few = record {
+  few = let rest : parts_in (drop (length before) (before ++ added)) ≡ parts_in added = ap parts_in (drop-append_seam before added) in let sum = parts_append before added in omega arith;
   below = λ k e. absurd cc;
-  known = λ k i lt gone is d. whole_same (before ++ added) [] (so_far before) solid (sees_front_of before added) (slots.Node k) (record { read = gone; node = i; is = sym (slice_get-append_left before added k lt) ∙ is; desc = d });
+  known = λ k i lt gone is d. whole_same (before ++ added) [] (so_far before answers) solid (sees_front_of before added) (slots.Node k) (record { read = gone; node = i; is = sym (slice_get-append_left before added k lt) ∙ is; desc = d });
   texts = λ k i lt is t. slice_get-append_left before added k lt;
 }
 
-given_of : (before added : List Node) (s : Slot) (here rest : List ℕ) → Solid [] (so_far before) → AreBytes here → length (before ++ added) ≤ NODES → Spells (before ++ added) LEVELS [] (places.Reference, s) (length before) here rest (length (before ++ added))
-    → NumbersFit (before ++ added) → UnitsFit (before ++ added) → parts_in (before ++ added) ≤ PARTS → Reads LEVELS places.Reference [] (so_far before) here (s, so_far (before ++ added), rest)
-given_of before added s here rest solid bs few spelled numbers units parts =
+given_of : (before added : List Node) (answers : List Item) (s : Slot) (here rest : List ℕ) → Solid [] (so_far before answers) → AreBytes here → length (before ++ added) ≤ NODES → Spells (before ++ added) LEVELS [] (places.Reference, s) (length before) here rest (length (before ++ added))
+    → NumbersFit (before ++ added) → UnitsFit (before ++ added) → parts_in (before ++ added) + refs_in answers ≤ PARTS → Reads LEVELS places.Reference [] (so_far before answers) here (s, so_far (before ++ added) answers, rest)
+given_of before added answers s here rest solid bs few spelled numbers units room =
     let F = before ++ added in
-    let given : Given F = record { few = few; parts = parts; numbers = numbers; units = units } in
-    let r = (slots_complete F given 0 LEVELS [] places.Reference s (so_far before) here rest (length F) spelled (ready_behind before added solid)).reads in
-    let g = (slots_sound 0 LEVELS [] places.Reference (so_far before) here (s, r.later, rest) r.is solid (are here bs)).got in
+    let start = so_far before answers in
+    let given : Given F = record { few = few; parts = omega (arith, room); numbers = numbers; units = units } in
+    let r = (slots_complete F given 0 LEVELS [] places.Reference s start here rest (length F) spelled (ready_behind before added answers solid room)).reads in
+    let g = (slots_sound 0 LEVELS [] places.Reference start here (s, r.later, rest) r.is solid (are here bs)).got in
     let same : F ≡ r.later.nodes = same_list F r.later.nodes (sym r.len) (λ k lt. at k lt r.later.nodes g.added g.grown (λ low more. r.after.agrees k low more) r.len) in
-    let sum : r.later.parts ≡ parts_in F = r.after.ready.parts ∙ (ap (λ k. parts_in (take k F)) r.len ∙ ap parts_in (take_all F)) in
-    let now : r.later ≡ so_far F = ap (λ k. with_parts r.later.nodes k) sum ∙ ap (λ (l : List Node). with_parts l (parts_in F)) (sym same) in
-    ((same_references 0 LEVELS).at places.Reference []).to (so_far before) here (s, so_far F, rest) (r.is ∙ ap (λ p. read_slot s p rest) now)
+    let counted = g.parts in
+    let grown : parts_in r.later.nodes ≡ parts_in before + parts_in g.added = ap parts_in g.grown ∙ parts_append before g.added in
+    let all : parts_in F ≡ parts_in r.later.nodes = ap parts_in same in
+    let sum : r.later.parts ≡ parts_in F + refs_in answers = omega arith in
+    let now : r.later ≡ so_far F answers = ap (λ k. with_parts r.later.nodes k) sum ∙ ap (λ (l : List Node). with_parts l (parts_in F + refs_in answers)) (sym same) in
+    ((same_references 0 LEVELS).at places.Reference []).to start here (s, so_far F answers, rest) (r.is ∙ ap (λ p. read_slot s p rest) now)
   where
     at : (k : ℕ) → k < length (before ++ added) → (N others : List Node) → N ≡ before ++ others → (length before ≤ k → k < length N → slice_get (before ++ added) k ≡ slice_get N k) → length N ≡ length (before ++ added) → slice_get (before ++ added) k ≡ slice_get N k
     at k lt N others grown agrees len = elim (cases_lt k (length before)) [
@@ -271,4 +270,4 @@ given_of before added s here rest solid bs few spelled numbers units parts =
 pub references_are_spelled : ReferencesAreSpelled
 references_are_spelled wants answers before added front s here rest spelled few bs =
     let solid = solid_behind wants answers before front spelled in
-    (λ h. spelled_of before added s here rest solid bs h, λ h. given_of before added s here rest solid bs few h.0 h.1 h.2 h.3)
+    (λ h. spelled_of before added answers s here rest solid bs h, λ h. given_of before added answers s here rest solid bs few h.0 h.1 h.2 h.3)

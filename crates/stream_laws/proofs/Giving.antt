@@ -1,25 +1,27 @@
 -- Reading answers a construct exactly as its bytes give it.
-use Rattle.std.proofs.Common.{◌≡◌, ◌≢◌, ◌<◌, ◌≤◌, ◌+◌, ◌-◌, ◌^◌, ◌&&◌, not, ℕ, zero, suc, Bool, true, false, cond, eqb, ltb, List, [], ◌∷◌, ◌++◌, length, Option, Some, None, Result, Ok, slice_get, refl, sym, ap, subst, ◌∙◌, arith, inl, inr}
+use Rattle.std.proofs.Common.{◌≡◌, ◌≢◌, ◌<◌, ◌≤◌, ◌+◌, ◌-◌, ◌^◌, ◌&&◌, not, ℕ, zero, suc, Bool, true, false, cond, eqb, ltb, List, [], ◌∷◌, ◌++◌, length, Option, Some, None, Result, Ok, Err, slice_get, refl, sym, ap, subst, ◌∙◌, arith, inl, inr}
 use Rattle.std.proofs.lemmas.Bool.{eqb-true, ne_eqb, ltb-true, ltb-false, lt-ltb, le-ltb}
-use Rattle.std.specs.Int.{w16, w32, w64}
+use Rattle.std.specs.Int.{w16, w32, w64, cast_signed}
 use Rattle.class_desc.specs.declared.slot.Slot.{Slot}
 use Rattle.class_desc.specs.declared.slot.Slot.TheVariants as slots
 use Rattle.class_desc.specs.declared.field.TypeCode.{TypeCode}
+use Rattle.class_desc.specs.declared.field.FieldDesc.{FieldDesc}
 use Rattle.class_desc.specs.declared.desc.ClassDesc.{ClassDesc}
 use Rattle.class_desc.specs.ClassDesc.{is_good_desc}
+use Rattle.ser_values.specs.declared.value.Values.{Values}
 use Rattle.ser_values.specs.declared.value.Values.TheVariants as kinds
 use Rattle.ser_values.specs.declared.node.Node.{Node}
-use Rattle.ser_values.specs.declared.node.Node.TheVariants.{Desc, Array, Enum}
+use Rattle.ser_values.specs.declared.node.Node.TheVariants.{Desc, Proxy, Array, Enum}
 use Rattle.ser_values.specs.declared.node.SlotPlace.{SlotPlace}
 use Rattle.ser_values.specs.declared.node.SlotPlace.TheVariants as places
 use Rattle.ser_values.specs.declared.limits.TheConstants.{NODES, PARTS}
 use Rattle.ser_values.specs.Node.{has, admits_null, takes, is_desc, is_text}
 use Rattle.ser_values.specs.Shape.{is_enum}
-use Rattle.stream_grammar.specs.Reading.{bad_handle, bad_desc, wrong_handle_kind, Fault, bad, too_many, ◌>>=◌, byte_at, number_at, size_at, short_at, long_at, Progress, Step, Slots, plain, many_at, push, fill, items_at, field_at, elements_at, class_fault, chain_of, parts_at, roomy, blank, text_at, desc_after, desc_at, proxy_at, on_class, with_class, object_after, object_at, type_in, array_of, array_at, class_at, named, enum_at, admits_code, code_fault, fresh_at, null_at, handle_fault, handle_at, deep, coded, no_slots, slot_at}
+use Rattle.stream_grammar.specs.Reading.{bad_handle, bad_desc, wrong_handle_kind, Fault, bad, too_many, ◌>>=◌, byte_at, number_at, size_at, short_at, long_at, Progress, Step, Slots, plain, many_at, push, fill, add_parts, sizes_of, refs_among, items_at, field_at, elements_at, class_fault, chain_of, parts_at, roomy, blank, text_at, desc_after, desc_at, proxy_at, on_class, with_class, object_after, object_at, type_in, array_of, array_at, class_at, named, enum_at, admits_code, code_fault, fresh_at, null_at, handle_fault, handle_at, deep, coded, no_slots, slot_at}
 use Rattle.stream_grammar.specs.Faults.{DescHead}
 use Rattle.stream_grammar.proofs.PlainSound.{bind_ok, chosen, passed, guarded, unless_ok, ok_is}
 use Rattle.stream_laws.specs.Reads.{HasNumber, HasText, References, Plainly, HasField, desc_of, whole_desc, GivesDesc, GivesProxy, rows_in, with_object, GivesObject, GivesArray, GivesEnum, GivesClassed, an_object, an_array, a_class, an_enum, GivesConstruct, a_short_text, a_long_text, a_desc, a_proxy, of_class, GivesCode, a_null, a_handle, a_construct, GivesHere, gives_none, Reads}
-use Rattle.stream_laws.proofs.Reading.{ok_first, done, byte_has, has_byte, number_has, has_number, size_has, has_size, text_has, has_text, long_has, has_long, same_many, same_text, same_elements, same_note, same_parts, SameReferences, same_field}
+use Rattle.stream_laws.proofs.Reading.{ok_first, room_of, with_room, done, byte_has, has_byte, number_has, has_number, size_has, has_size, text_has, has_text, long_has, has_long, same_many, same_text, same_elements, same_note, same_parts, SameReferences, same_field}
 
 abbrev SlotOk : Type 0
 SlotOk = Slot × Progress × List ℕ
@@ -46,6 +48,13 @@ admitted_none p code h = (λ is. absurd (none p (subst (λ k. admits_code p k �
 module _ (end : ℕ) (inner : Slots) (R : References) (s : SameReferences inner R) where
   -- ---- descriptions
 
+  -- what stands behind the fields of a description
+  abbrev fields_then : ℕ → List ℕ → List ℕ → ℕ → ℕ → List FieldDesc × Progress × List ℕ → Result (ClassDesc × Progress × List ℕ) Fault
+  fields_then at own name suid flags fs =
+      cond (is_good_desc (record { name = name; suid = cast_signed w64 suid; flags = flags; fields = fs.0; note = []; parent = slots.Null }))
+      (items_at end (inner places.Reference own) true fs.1 fs.2 >>= λ is. inner places.Parent own is.1 is.2 >>= λ p. Ok (record { name = name; suid = cast_signed w64 suid; flags = flags; fields = fs.0; note = is.0; parent = p.0 }, p.1, p.2))
+      (Err (bad bad_desc at))
+
   desc_to : (at : ℕ) (unread : List ℕ) (now : Progress) (bs : List ℕ) (y : SlotOk) → desc_at end at inner unread now bs ≡ Ok y → GivesDesc R unread now bs y
   unfolding desc_at desc_after
   desc_to at unread now bs y e =
@@ -56,7 +65,8 @@ module _ (end : ℕ) (inner : Slots) (R : References) (s : SameReferences inner 
       let c = bind_ok (byte_at b.0.1) _ y b.2 in
       let d = bind_ok (desc_after end at inner own a.0.0 b.0.0 c.0.0 first c.0.1) _ y c.2 in
       let n = bind_ok (size_at end w16 32768 c.0.1) _ d.0 d.1 in
-      let fs = bind_ok (many_at (field_at end at (inner places.Text own)) n.0.0 first n.0.1) _ d.0 n.2 in
+      let k = room_of n.0.0 at first (many_at (field_at end at (inner places.Text own)) n.0.0 (add_parts n.0.0 first) n.0.1 >>= fields_then at own a.0.0 b.0.0 c.0.0) d.0 n.2 in
+      let fs = bind_ok (many_at (field_at end at (inner places.Text own)) n.0.0 (add_parts n.0.0 first) n.0.1) _ d.0 k.1 in
       let head : DescHead = record { name = a.0.0; suid = b.0.0; flags = c.0.0; count = n.0.0; rest = n.0.1 } in
       let g = passed (is_good_desc (desc_of head fs.0.0)) _ _ d.0 fs.2 in
       let is = bind_ok (items_at end (inner places.Reference own) true fs.0.1 fs.0.2) _ d.0 g.1 in
@@ -66,10 +76,11 @@ module _ (end : ℕ) (inner : Slots) (R : References) (s : SameReferences inner 
         d = record {
           head = head;
           begins = record { behind_name = a.0.1; named = text_has end bs a.0 a.1; behind_suid = b.0.1; numbered = number_has w64 a.0.1 b.0 b.1; behind_flags = c.0.1; flagged = byte_has b.0.1 c.0 c.1; counted = size_has end w16 32768 c.0.1 n.0 n.1 };
+          few = k.0;
           fields = fs.0.0;
           later = fs.0.1;
           there = fs.0.2;
-          read = (same_many (field_at end at (inner places.Text own)) (HasField R own) (same_field end at inner R s own) n.0.0).to first n.0.1 fs.0 fs.1;
+          read = (same_many (field_at end at (inner places.Text own)) (HasField R own) (same_field end at inner R s own) n.0.0).to (add_parts n.0.0 first) n.0.1 fs.0 fs.1;
         };
         good = g.0;
         note = is.0;
@@ -90,22 +101,30 @@ module _ (end : ℕ) (inner : Slots) (R : References) (s : SameReferences inner 
       (ok_first (byte_at b.behind_suid) _ (d.head.flags, b.behind_flags) _ (has_byte b.behind_suid (d.head.flags, b.behind_flags) b.flagged)
       (ok_first (desc_after end at inner own d.head.name d.head.suid d.head.flags first b.behind_flags) _ (whole_desc d.head d.fields h.note.0 h.parent.0, h.parent.1, h.parent.2) _
       (ok_first (size_at end w16 32768 b.behind_flags) _ (d.head.count, d.head.rest) _ (has_size end w16 32768 b.behind_flags (d.head.count, d.head.rest) b.counted)
-      (ok_first (many_at (field_at end at (inner places.Text own)) d.head.count first d.head.rest) _ (d.fields, d.later, d.there) _ ((same_many (field_at end at (inner places.Text own)) (HasField R own) (same_field end at inner R s own) d.head.count).from first d.head.rest (d.fields, d.later, d.there) d.read)
+      (with_room d.head.count at first (many_at (field_at end at (inner places.Text own)) d.head.count (add_parts d.head.count first) d.head.rest >>= fields_then at own d.head.name d.head.suid d.head.flags) (done (whole_desc d.head d.fields h.note.0 h.parent.0, h.parent.1, h.parent.2)) d.few
+      (ok_first (many_at (field_at end at (inner places.Text own)) d.head.count (add_parts d.head.count first) d.head.rest) _ (d.fields, d.later, d.there) _ ((same_many (field_at end at (inner places.Text own)) (HasField R own) (same_field end at inner R s own) d.head.count).from (add_parts d.head.count first) d.head.rest (d.fields, d.later, d.there) d.read)
       (rw h.good (ok_first (items_at end (inner places.Reference own) true d.later d.there) _ h.note _ ((same_note end (inner places.Reference own) (R places.Reference own) (s.at places.Reference own)).from d.later d.there h.note h.noted)
-      (ok_first (inner places.Parent own h.note.1 h.note.2) _ h.parent _ ((s.at places.Parent own).from h.note.1 h.note.2 h.parent h.above) refl)))))
+      (ok_first (inner places.Parent own h.note.1 h.note.2) _ h.parent _ ((s.at places.Parent own).from h.note.1 h.note.2 h.parent h.above) refl))))))
       (ap (λ z. done z) (sym h.same)))))
 
-  proxy_to : (unread : List ℕ) (now : Progress) (bs : List ℕ) (y : SlotOk) → proxy_at end inner unread now bs ≡ Ok y → GivesProxy R unread now bs y
+  -- what stands behind the names of a proxy's interfaces
+  abbrev names_then : Progress → List ℕ → List (List ℕ) × Progress × List ℕ → Result SlotOk Fault
+  names_then now own names =
+      items_at end (inner places.Reference own) true names.1 names.2 >>= λ is. inner places.Parent own is.1 is.2 >>= λ p.
+      Ok (slots.Node (length now.nodes), fill p.1 (length now.nodes) (Proxy (record { names = names.0; note = is.0; parent = p.0 })), p.2)
+
+  proxy_to : (at : ℕ) (unread : List ℕ) (now : Progress) (bs : List ℕ) (y : SlotOk) → proxy_at end at inner unread now bs ≡ Ok y → GivesProxy R unread now bs y
   unfolding proxy_at
-  proxy_to unread now bs y e =
+  proxy_to at unread now bs y e =
       let own = unread ++ length now.nodes ∷ [] in
       let first = push now (Desc blank) in
       let n = bind_ok (size_at end w32 (2 ^ 31) bs) _ y e in
-      let names = bind_ok (many_at (plain (short_at end)) n.0.0 first n.0.1) _ y n.2 in
+      let k = room_of n.0.0 at first (many_at (plain (short_at end)) n.0.0 (add_parts n.0.0 first) n.0.1 >>= names_then now own) y n.2 in
+      let names = bind_ok (many_at (plain (short_at end)) n.0.0 (add_parts n.0.0 first) n.0.1) _ y k.1 in
       let is = bind_ok (items_at end (inner places.Reference own) true names.0.1 names.0.2) _ y names.2 in
       let p = bind_ok (inner places.Parent own is.0.1 is.0.2) _ y is.2 in
       record {
-        d = record { count = n.0; begins = size_has end w32 (2 ^ 31) bs n.0 n.1; names = names.0.0; later = names.0.1; there = names.0.2; read = (same_many (plain (short_at end)) (Plainly HasText) (same_text end) n.0.0).to first n.0.1 names.0 names.1 };
+        d = record { count = n.0; begins = size_has end w32 (2 ^ 31) bs n.0 n.1; few = k.0; names = names.0.0; later = names.0.1; there = names.0.2; read = (same_many (plain (short_at end)) (Plainly HasText) (same_text end) n.0.0).to (add_parts n.0.0 first) n.0.1 names.0 names.1 };
         note = is.0;
         noted = (same_note end (inner places.Reference own) (R places.Reference own) (s.at places.Reference own)).to names.0.1 names.0.2 is.0 is.1;
         parent = p.0;
@@ -113,27 +132,28 @@ module _ (end : ℕ) (inner : Slots) (R : References) (s : SameReferences inner 
         same = sym (ok_is _ y p.2);
       }
 
-  proxy_from : (unread : List ℕ) (now : Progress) (bs : List ℕ) (y : SlotOk) → GivesProxy R unread now bs y → proxy_at end inner unread now bs ≡ Ok y
+  proxy_from : (at : ℕ) (unread : List ℕ) (now : Progress) (bs : List ℕ) (y : SlotOk) → GivesProxy R unread now bs y → proxy_at end at inner unread now bs ≡ Ok y
   unfolding proxy_at
-  proxy_from unread now bs y h =
+  proxy_from at unread now bs y h =
       let own = unread ++ length now.nodes ∷ [] in
       let first = push now (Desc blank) in
       let d = h.d in
       ok_first (size_at end w32 (2 ^ 31) bs) _ d.count _ (has_size end w32 (2 ^ 31) bs d.count d.begins)
-      (ok_first (many_at (plain (short_at end)) d.count.0 first d.count.1) _ (d.names, d.later, d.there) _ ((same_many (plain (short_at end)) (Plainly HasText) (same_text end) d.count.0).from first d.count.1 (d.names, d.later, d.there) d.read)
+      (with_room d.count.0 at first (many_at (plain (short_at end)) d.count.0 (add_parts d.count.0 first) d.count.1 >>= names_then now own) (done y) d.few
+      (ok_first (many_at (plain (short_at end)) d.count.0 (add_parts d.count.0 first) d.count.1) _ (d.names, d.later, d.there) _ ((same_many (plain (short_at end)) (Plainly HasText) (same_text end) d.count.0).from (add_parts d.count.0 first) d.count.1 (d.names, d.later, d.there) d.read)
       (ok_first (items_at end (inner places.Reference own) true d.later d.there) _ h.note _ ((same_note end (inner places.Reference own) (R places.Reference own) (s.at places.Reference own)).from d.later d.there h.note h.noted)
-      (ok_first (inner places.Parent own h.note.1 h.note.2) _ h.parent _ ((s.at places.Parent own).from h.note.1 h.note.2 h.parent h.above) (ap (λ z. done z) (sym h.same)))))
+      (ok_first (inner places.Parent own h.note.1 h.note.2) _ h.parent _ ((s.at places.Parent own).from h.note.1 h.note.2 h.parent h.above) (ap (λ z. done z) (sym h.same))))))
 
   -- ---- behind the class
 
   object_to : (at : ℕ) (unread : List ℕ) (class : ℕ) (now : Progress) (bs : List ℕ) (y : SlotOk) → object_at end at (inner places.Reference unread) class now bs ≡ Ok y → GivesObject R unread class now bs y
   unfolding object_at object_after
   object_to at unread class now bs y e =
-      let g = guarded (ltb PARTS (now.parts + length (rows_in now class))) (too_many at) _ y e in
+      let g = guarded (ltb PARTS (now.parts + sizes_of (rows_in now class))) (too_many at) _ y e in
       let u = unless_ok (class_fault (slice_get now.nodes class) (chain_of PARTS now.nodes (slots.Node class)).1) at (object_after end (inner places.Reference unread) class (rows_in now class) now bs) y g.1 in
       let ps = bind_ok (parts_at end (inner places.Reference unread) (rows_in now class) (with_object now class) bs) _ y u.1 in
       record {
-        few = ltb-false PARTS (now.parts + length (rows_in now class)) g.0;
+        few = ltb-false PARTS (now.parts + sizes_of (rows_in now class)) g.0;
         objects = u.0;
         parts = ps.0;
         read = (same_parts end (inner places.Reference unread) (R places.Reference unread) (s.at places.Reference unread) (rows_in now class)).to (with_object now class) bs ps.0 ps.1;
@@ -143,9 +163,13 @@ module _ (end : ℕ) (inner : Slots) (R : References) (s : SameReferences inner 
   object_from : (at : ℕ) (unread : List ℕ) (class : ℕ) (now : Progress) (bs : List ℕ) (y : SlotOk) → GivesObject R unread class now bs y → object_at end at (inner places.Reference unread) class now bs ≡ Ok y
   unfolding object_at object_after
   object_from at unread class now bs y h =
-      rw (le-ltb PARTS (now.parts + length (rows_in now class)) h.few) (rw h.objects
+      rw (le-ltb PARTS (now.parts + sizes_of (rows_in now class)) h.few) (rw h.objects
       (ok_first (parts_at end (inner places.Reference unread) (rows_in now class) (with_object now class) bs) _ h.parts _
       ((same_parts end (inner places.Reference unread) (R places.Reference unread) (s.at places.Reference unread) (rows_in now class)).from (with_object now class) bs h.parts h.read) (ap (λ z. done z) (sym h.same))))
+
+  -- the array of these elements
+  abbrev elements_then : Progress → ℕ → Values × Progress × List ℕ → Result SlotOk Fault
+  elements_then now class vs = Ok (slots.Node (length now.nodes), fill vs.1 (length now.nodes) (Array class vs.0), vs.2)
 
   array_to : (at : ℕ) (unread : List ℕ) (class : ℕ) (now : Progress) (bs : List ℕ) (y : SlotOk) → array_at end at (inner places.Reference unread) class now bs ≡ Ok y → GivesArray R unread class now bs y
   unfolding array_at array_of
@@ -156,14 +180,17 @@ module _ (end : ℕ) (inner : Slots) (R : References) (s : SameReferences inner 
       by (Some code) is e =
           let n = bind_ok (size_at end w32 (2 ^ 31) bs) _ y e in
           let first = push now (Array class (kinds.Bytes [])) in
-          let x = bind_ok (elements_at (inner places.Reference unread) code n.0.0 first n.0.1) _ y n.2 in
+          let more = refs_among code n.0.0 in
+          let k = room_of more at first (elements_at (inner places.Reference unread) code n.0.0 (add_parts more first) n.0.1 >>= elements_then now class) y n.2 in
+          let x = bind_ok (elements_at (inner places.Reference unread) code n.0.0 (add_parts more first) n.0.1) _ y k.1 in
           record {
             code = code;
             typed = is;
             count = n.0;
             sized = size_has end w32 (2 ^ 31) bs n.0 n.1;
+            few = k.0;
             elements = x.0;
-            read = (same_elements (inner places.Reference unread) (R places.Reference unread) (s.at places.Reference unread) code n.0.0).to first n.0.1 x.0 x.1;
+            read = (same_elements (inner places.Reference unread) (R places.Reference unread) (s.at places.Reference unread) code n.0.0).to (add_parts more first) n.0.1 x.0 x.1;
             same = sym (ok_is _ y x.2);
           }
 
@@ -173,8 +200,9 @@ module _ (end : ℕ) (inner : Slots) (R : References) (s : SameReferences inner 
       let first = push now (Array class (kinds.Bytes [])) in
       ap (λ o. array_of end at (inner places.Reference unread) class o now bs) h.typed
       ∙ ok_first (size_at end w32 (2 ^ 31) bs) _ h.count _ (has_size end w32 (2 ^ 31) bs h.count h.sized)
-      (ok_first (elements_at (inner places.Reference unread) h.code h.count.0 first h.count.1) _ h.elements _
-      ((same_elements (inner places.Reference unread) (R places.Reference unread) (s.at places.Reference unread) h.code h.count.0).from first h.count.1 h.elements h.read) (ap (λ z. done z) (sym h.same)))
+      (with_room (refs_among h.code h.count.0) at first (elements_at (inner places.Reference unread) h.code h.count.0 (add_parts (refs_among h.code h.count.0) first) h.count.1 >>= elements_then now class) (done y) h.few
+      (ok_first (elements_at (inner places.Reference unread) h.code h.count.0 (add_parts (refs_among h.code h.count.0) first) h.count.1) _ h.elements _
+      ((same_elements (inner places.Reference unread) (R places.Reference unread) (s.at places.Reference unread) h.code h.count.0).from (add_parts (refs_among h.code h.count.0) first) h.count.1 h.elements h.read) (ap (λ z. done z) (sym h.same))))
 
   enum_to : (at : ℕ) (unread : List ℕ) (class : ℕ) (now : Progress) (bs : List ℕ) (y : SlotOk) → enum_at at (inner places.Text unread) class now bs ≡ Ok y → GivesEnum R unread class now bs y
   unfolding enum_at
@@ -231,7 +259,7 @@ module _ (end : ℕ) (inner : Slots) (R : References) (s : SameReferences inner 
                 | inr t ↦ elim (chosen (eqb code 0x7C) _ _ _ t.1) [
                   | inl u ↦ (let x = bind_ok (long_at end bs) _ y u.1 in recoded unread 0x7C code now bs y u.0 (a_long_text x.0 refl (long_has end bs x.0 x.1) (sym (ok_is _ y x.2))))
                   | inr u ↦ elim (chosen (eqb code 0x7D) _ _ _ u.1) [
-                    | inl v ↦ recoded unread 0x7D code now bs y v.0 (a_proxy refl (proxy_to unread now bs y v.1))
+                    | inl v ↦ recoded unread 0x7D code now bs y v.0 (a_proxy refl (proxy_to at unread now bs y v.1))
                     | inr v ↦ elim (chosen (eqb code 0x7E) _ _ _ v.1) [
                       | inl w ↦ recoded unread 0x7E code now bs y w.0 (class_to at unread 0x7E (enum_at at (inner places.Text unread)) (λ class now bs y e. an_enum refl (enum_to at unread class now bs y e)) now bs y w.1)
                       | inr w ↦ absurd (let x = w.1 in cc)
@@ -259,7 +287,7 @@ module _ (end : ℕ) (inner : Slots) (R : References) (s : SameReferences inner 
   fresh_from at unread code now bs y (a_short_text t is h same) = fresh_known at unread 0x74 code now bs y is (ok_first (short_at end bs) _ t _ (has_text end bs t h) (ap (λ z. done z) (sym same)))
   fresh_from at unread code now bs y (a_long_text t is h same) = fresh_known at unread 0x7C code now bs y is (ok_first (long_at end bs) _ t _ (has_long end bs t h) (ap (λ z. done z) (sym same)))
   fresh_from at unread code now bs y (a_desc is h) = fresh_known at unread 0x72 code now bs y is (desc_from at unread now bs y h)
-  fresh_from at unread code now bs y (a_proxy is h) = fresh_known at unread 0x7D code now bs y is (proxy_from unread now bs y h)
+  fresh_from at unread code now bs y (a_proxy is h) = fresh_known at unread 0x7D code now bs y is (proxy_from at unread now bs y h)
   fresh_from at unread code now bs y (of_class class later rest read room h) = classed_from at unread code class now later bs rest y read room h
 
   -- ---- any reference

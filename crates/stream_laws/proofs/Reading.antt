@@ -1,6 +1,6 @@
 -- Reading a reference answers what the bytes give of it.
 use Rattle.std.proofs.Common.{◌≡◌, ◌≢◌, ◌⊎◌, ◌<◌, ◌-◌, ◌^◌, ℕ, zero, suc, Bool, true, false, cond, eqb, ltb, List, [], ◌∷◌, ◌++◌, length, Option, Some, None, Result, Ok, Err, refl, sym, ap, subst, ◌∙◌, arith, inl, inr}
-use Rattle.std.proofs.lemmas.Bool.{eqb-true, eqb-false, ne_eqb, ltb-true, lt-ltb}
+use Rattle.std.proofs.lemmas.Bool.{eqb-true, eqb-false, ne_eqb, ltb-true, ltb-false, lt-ltb, le-ltb}
 use Rattle.std.specs.Prelude.{ℤ}
 use Rattle.std.specs.Int.{Width, w16, w32, w64, byte_len, from_be_bytes, cast_signed}
 use Rattle.mod_utf.specs.Utf.{Utf}
@@ -22,10 +22,11 @@ use Rattle.ser_values.specs.declared.value.Part.{Part}
 use Rattle.ser_values.specs.declared.node.SlotPlace.{SlotPlace}
 use Rattle.ser_values.specs.declared.node.SlotPlace.TheVariants as places
 use Rattle.ser_values.specs.Shape.{fits_type}
+use Rattle.ser_values.specs.declared.limits.TheConstants.{PARTS}
 use Rattle.stream_grammar.specs.Spelled.{joined}
-use Rattle.stream_grammar.specs.Reading.{Fault, bad, bad_desc, ◌>>=◌, Plain, byte_at, take_at, number_at, size_at, units_of, units_at, short_at, long_at, Progress, Step, Slots, plain, map_step, many_at, blocks_at, items_at, field, field_of, field_at, is_true, value_at, values_at, elements_at, Row, note_at, parts_at}
+use Rattle.stream_grammar.specs.Reading.{Fault, bad, bad_desc, too_many, add_parts, counting, ◌>>=◌, Plain, byte_at, take_at, number_at, size_at, units_of, units_at, short_at, long_at, Progress, Step, Slots, plain, map_step, many_at, blocks_at, items_at, field, field_of, field_at, is_true, value_at, values_at, elements_at, Row, note_at, parts_at}
 use Rattle.stream_grammar.specs.Faults.{DescHead, desc_head_at}
-use Rattle.stream_grammar.proofs.PlainSound.{bind_ok, chosen, passed, ok_is, byte_sound, take_sound}
+use Rattle.stream_grammar.proofs.PlainSound.{bind_ok, chosen, passed, guarded, ok_is, byte_sound, take_sound}
 use Rattle.stream_grammar.proofs.Plains.{take_back}
 use Rattle.stream_laws.specs.Reads.{HasByte, HasNumber, HasSize, HasUnits, HasText, HasLongText, Gives, References, Plainly, As, Many, HasValue, HasValues, HasElements, HasBlock, BeginsReference, Follow, HasNote, HasField, HasDescHead, HasNoteIf, HasParts}
 
@@ -34,6 +35,15 @@ ok_first r k x y e h = ap (λ z. z >>= k) e ∙ h
 
 abbrev pub done : {A : Type 0} → A → Result A Fault
 done x = Ok x
+
+-- ---- parts that are counted
+
+-- They have room where what counts them answers.
+pub room_of : {A : Type 0} (n at : ℕ) (now : Progress) (r : Result A Fault) (y : A) → cond (ltb PARTS (now.parts + n)) (Err (too_many at)) r ≡ Ok y → (now.parts + n ≤ PARTS) × (r ≡ Ok y)
+room_of n at now r y e = let g = guarded (ltb PARTS (now.parts + n)) (too_many at) r y e in (ltb-false PARTS (now.parts + n) g.0, g.1)
+
+pub with_room : {A : Type 0} (n at : ℕ) (now : Progress) (r y : Result A Fault) → now.parts + n ≤ PARTS → r ≡ y → cond (ltb PARTS (now.parts + n)) (Err (too_many at)) r ≡ y
+with_room n at now r y room e = rw (le-ltb PARTS (now.parts + n) room) e
 
 -- ---- numbers and texts
 
@@ -218,6 +228,9 @@ record Noted (R : Gives Slot) (most : ℕ) (now : Progress) (bs : List ℕ) (y :
   fewer : length y.0 < most
   follow : Follow true R y.0 now bs y.1 (0x78 ∷ y.2)
 
+abbrev all_of : List Item → Progress → List ℕ → Result (List Item × Progress × List ℕ) Fault
+all_of is now bs = Ok (is, now, bs)
+
 abbrev more_of : Item → List Item × Progress × List ℕ → List Item × Progress × List ℕ
 more_of i is = (i ∷ is.0, is.1, is.2)
 
@@ -248,17 +261,15 @@ blocks_to end step R s (suc most) now (c ∷ bs) y e = elim (chosen (eqb c 0x78)
           (noted_block R t.0.0 most now (c ∷ bs) t.0.1 is.0 block (blocks_to end step R s most now t.0.1 is.0 is.1)))
       | inr r ↦ (
           let a = bind_ok (step now (c ∷ bs)) _ y r.1 in
-          let is = bind_ok (blocks_at end step true most a.0.1 a.0.2) _ y a.2 in
-          let h = blocks_to end step R s most a.0.1 a.0.2 is.0 is.1 in
+          let g = room_of 1 (end - length (c ∷ bs)) a.0.1 (blocks_at end step true most (add_parts 1 a.0.1) a.0.2 >>= λ is. all_of (items.Ref a.0.0 ∷ is.0) is.1 is.2) y a.2 in
+          let is = bind_ok (blocks_at end step true most (add_parts 1 a.0.1) a.0.2) _ y g.1 in
+          let h = blocks_to end step R s most (add_parts 1 a.0.1) a.0.2 is.0 is.1 in
           let begins : BeginsReference true (c ∷ bs) = record { code = c; rest = bs; is = refl; goes_on = λ inside. eqb-false c 0x78 p.0; no_block = eqb-false c 0x77 q.0; no_long_block = eqb-false c 0x7A r.0 } in
           subst (λ (y : List Item × Progress × List ℕ). Noted R (suc most) now (c ∷ bs) y) (ok_is (more_of (items.Ref a.0.0) is.0) y is.2)
-          (record { fewer = omega (arith, h.fewer); follow = (begins, a.0.1, a.0.2, s.to now (c ∷ bs) a.0 a.1, h.follow) }))
+          (record { fewer = omega (arith, h.fewer); follow = (begins, a.0.1, a.0.2, s.to now (c ∷ bs) a.0 a.1, g.0, h.follow) }))
     ]
   ]
 ]
-
-abbrev all_of : List Item → Progress → List ℕ → Result (List Item × Progress × List ℕ) Fault
-all_of is now bs = Ok (is, now, bs)
 
 -- what stands in front is read
 block_read : (end : ℕ) (step : Step Slot) (most : ℕ) (now later : Progress) (p : List ℕ) (is : List Item) (bs rest there : List ℕ) → HasBlock p bs rest → blocks_at end step true most now rest ≡ all_of is later there → blocks_at end step true (suc most) now bs ≡ all_of (items.Bytes p ∷ is) later there
@@ -268,11 +279,11 @@ block_read end step most now later p is bs rest there (inr (digits, four, number
     rw begins (ok_first (size_at end w32 (2 ^ 31) (digits ++ (p ++ rest))) _ (length p, p ++ rest) _ (has_size end w32 (2 ^ 31) (digits ++ (p ++ rest)) (length p, p ++ rest) ((digits, refl, four, sym number), low))
     (ok_first (take_at (length p) (p ++ rest)) _ (p, rest) _ (take_back p rest) (ok_first (blocks_at end step true most now rest) _ (is, later, there) _ h refl)))
 
-reference_read : (end : ℕ) (step : Step Slot) (most : ℕ) (now : Progress) (bs : List ℕ) → BeginsReference true bs → blocks_at end step true (suc most) now bs ≡ (step now bs >>= λ s. blocks_at end step true most s.1 s.2 >>= λ is. Ok (items.Ref s.0 ∷ is.0, is.1, is.2))
+reference_read : (end : ℕ) (step : Step Slot) (most : ℕ) (now : Progress) (bs : List ℕ) → BeginsReference true bs → blocks_at end step true (suc most) now bs ≡ (step now bs >>= λ s. counting 1 (end - length bs) s.1 (λ next. blocks_at end step true most next s.2 >>= λ is. Ok (items.Ref s.0 ∷ is.0, is.1, is.2)))
 unfolding blocks_at
 reference_read end step most now bs b = by bs b.code b.rest b.is (b.goes_on refl) b.no_block b.no_long_block
   where
-    by : (bs : List ℕ) (c : ℕ) (rest : List ℕ) → bs ≡ c ∷ rest → c ≢ 0x78 → c ≢ 0x77 → c ≢ 0x7A → blocks_at end step true (suc most) now bs ≡ (step now bs >>= λ s. blocks_at end step true most s.1 s.2 >>= λ is. Ok (items.Ref s.0 ∷ is.0, is.1, is.2))
+    by : (bs : List ℕ) (c : ℕ) (rest : List ℕ) → bs ≡ c ∷ rest → c ≢ 0x78 → c ≢ 0x77 → c ≢ 0x7A → blocks_at end step true (suc most) now bs ≡ (step now bs >>= λ s. counting 1 (end - length bs) s.1 (λ next. blocks_at end step true most next s.2 >>= λ is. Ok (items.Ref s.0 ∷ is.0, is.1, is.2)))
     by bs c rest is a b d = rw is (rw (ne_eqb c 0x78 a) (rw (ne_eqb c 0x77 b) (rw (ne_eqb c 0x7A d) refl)))
 
 blocks_from : (end : ℕ) (step : Step Slot) (R : Gives Slot) → Same step R → (is : List Item) (most : ℕ) (now later : Progress) (bs there : List ℕ) → length is < most → Follow true R is now bs later (0x78 ∷ there) → blocks_at end step true most now bs ≡ all_of is later there
@@ -280,8 +291,10 @@ unfolding blocks_at
 blocks_from end step R s is zero now later bs there lt h = absurd (omega arith)
 blocks_from end step R s [] (suc most) now later bs there lt (same, still) = rw (same, still) refl
 blocks_from end step R s (items.Bytes p ∷ is) (suc most) now later bs there lt (rest, block, h) = block_read end step most now later p is bs rest there block (blocks_from end step R s is most now later rest there (omega arith) h)
-blocks_from end step R s (items.Ref x ∷ is) (suc most) now later bs there lt (begins, mid, rest, read, h) =
-    reference_read end step most now bs begins ∙ ok_first (step now bs) _ (x, mid, rest) _ (s.from now bs (x, mid, rest) read) (ok_first (blocks_at end step true most mid rest) _ (is, later, there) _ (blocks_from end step R s is most mid later rest there (omega arith) h) refl)
+blocks_from end step R s (items.Ref x ∷ is) (suc most) now later bs there lt (begins, mid, rest, read, room, h) =
+    let next = add_parts 1 mid in
+    let more : (blocks_at end step true most next rest >>= λ is. all_of (items.Ref x ∷ is.0) is.1 is.2) ≡ all_of (items.Ref x ∷ is) later there = ok_first (blocks_at end step true most next rest) _ (is, later, there) _ (blocks_from end step R s is most next later rest there (omega arith) h) refl in
+    reference_read end step most now bs begins ∙ ok_first (step now bs) _ (x, mid, rest) _ (s.from now bs (x, mid, rest) read) (with_room 1 (end - length bs) mid (blocks_at end step true most next rest >>= λ is. all_of (items.Ref x ∷ is.0) is.1 is.2) (all_of (items.Ref x ∷ is) later there) room more)
 
 pub note_to : (end : ℕ) (step : Step Slot) (R : Gives Slot) → Same step R → (now : Progress) (bs : List ℕ) (y : List Item × Progress × List ℕ) → items_at end step true now bs ≡ Ok y → HasNote R now bs y
 unfolding items_at

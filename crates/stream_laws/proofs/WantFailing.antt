@@ -1,6 +1,6 @@
 -- Reading lists of wants answers a fault exactly where the bytes show it.
-use Rattle.std.proofs.Common.{◌≡◌, ◌≢◌, ◌⊎◌, ◌<◌, ◌≤◌, ◌-◌, ◌^◌, ◌&&◌, ℕ, zero, suc, true, false, eqb, leb, List, [], ◌∷◌, ◌++◌, length, Result, Ok, Err, refl, sym, ap, subst, ◌∙◌, append_assoc, append-nil, arith, inl, inr}
-use Rattle.std.proofs.lemmas.Bool.{eqb-true, eqb-false, ne_eqb, leb-true, le-leb, cases_lt, and_parts, true≢false}
+use Rattle.std.proofs.Common.{◌≡◌, ◌≢◌, ◌⊎◌, ◌<◌, ◌≤◌, ◌+◌, ◌-◌, ◌^◌, ◌&&◌, ℕ, zero, suc, true, false, eqb, ltb, leb, List, [], ◌∷◌, ◌++◌, length, Result, Ok, Err, refl, sym, ap, subst, ◌∙◌, append_assoc, append-nil, arith, inl, inr}
+use Rattle.std.proofs.lemmas.Bool.{eqb-true, eqb-false, ne_eqb, ltb-true, lt-ltb, leb-true, le-leb, cases_lt, and_parts, true≢false}
 use Rattle.std.proofs.lemmas.List.Elements.{All-nil}
 use Rattle.std.specs.Int.{w32}
 use Rattle.class_desc.specs.declared.slot.Slot.{Slot}
@@ -8,21 +8,21 @@ use Rattle.class_desc.specs.declared.slot.Item.{Item}
 use Rattle.class_desc.specs.declared.slot.Item.TheVariants as items
 use Rattle.ser_values.specs.declared.node.Node.{Node}
 use Rattle.ser_values.specs.declared.node.SlotPlace.TheVariants as places
-use Rattle.ser_values.specs.declared.limits.TheConstants.{LEVELS}
-use Rattle.ser_values.specs.Node.{has}
-use Rattle.ser_values.specs.Shape.{parts_in}
+use Rattle.ser_values.specs.declared.limits.TheConstants.{LEVELS, PARTS}
+use Rattle.ser_values.specs.Node.{has, item_wants}
+use Rattle.ser_values.specs.Shape.{refs_in, parts_in}
 use Rattle.ser_values.specs.Ranges.{InRange}
 use Rattle.stream_grammar.specs.Spelled.{joined}
-use Rattle.stream_grammar.specs.Reading.{bad_magic, bad_code, negative_length, Fault, short, bad, byte_at, Progress, coded, slot_at, magic_at}
+use Rattle.stream_grammar.specs.Reading.{bad_magic, bad_code, negative_length, Fault, short, bad, too_many, byte_at, Progress, add_parts, coded, slot_at, magic_at}
 use Rattle.stream_grammar.proofs.PlainSound as plain
 use Rattle.stream_grammar.proofs.PlainSound.{bind_ok, chosen, ok_is, byte_sound}
-use Rattle.stream_grammar.proofs.Solid.{Solid, Got, got_none, got_two, got_map}
+use Rattle.stream_grammar.proofs.Solid.{Solid, GotBy, got_none, got_sum, got_map}
 use Rattle.ser_values.proofs.FrontLaws.{eqb_same}
 use Rattle.ser_read.specs.Heads.{head_at}
 use Rattle.ser_read.specs.Named.{add_bytes}
 use Rattle.ser_read.specs.declared.serving.Want.{Want}
 use Rattle.ser_read.specs.declared.serving.Want.TheVariants as wanted
-use Rattle.ser_read.specs.Wants.{WantFault, inside, missing_block, block_left, ◌▸◌, lift_fault, Stand, nothing_read, no_block, only_block, opened_at, run_at, reference_at, bytes_at, slot_next, close_at, want_at, serve, serve_to_close, only_slot}
+use Rattle.ser_read.specs.Wants.{WantFault, inside, missing_block, block_left, ◌▸◌, lift_fault, Stand, nothing_read, no_block, only_block, opened_at, run_at, reference_at, bytes_at, slot_next, close_at, want_at, serve, serve_to_close, counted_at, only_slot}
 use Rattle.ser_read.specs.SpelledWants.{SpellsWants}
 use Rattle.ser_read.specs.WantLaws.{AreEmptyBlocks, BeginsNoBlock}
 use Rattle.ser_read.proofs.Empties.{Empties}
@@ -35,11 +35,11 @@ use Rattle.ser_read.proofs.SpelledWants.{ServeOk, AllOk, asked_sound}
 use Rattle.ser_read.proofs.Given.{asked_complete}
 use Rattle.ser_read.proofs.WantLaws.{served_after}
 use Rattle.stream_laws.specs.Reads.{BeginsReference}
-use Rattle.stream_laws.specs.WantFails.{Opens, Runs, HasReference, Serves, Behind, ReferenceWanted, BytesWanted, LeftInBlock, so_far, WantFails, of_reference, of_length, of_reset, of_exception, of_code, of_no_block, of_next_block, of_block, of_last_block, DiffersAt}
+use Rattle.stream_laws.specs.WantFails.{Opens, Runs, HasReference, Serves, Behind, ReferenceWanted, BytesWanted, LeftInBlock, so_far, WantFails, of_reference, of_part, of_length, of_reset, of_exception, of_code, of_no_block, of_next_block, of_block, of_last_block, DiffersAt}
 use Rattle.stream_laws.proofs.Aheads.{Ahead, of_block, of_code, ahead_at, within_ahead, as_block, as_slot, is_none, same_block, same_slot, found, ahead_fault, ahead_passed, full_here, code_here, long_here, test_cases}
-use Rattle.stream_laws.proofs.Reading.{byte_has, has_byte}
+use Rattle.stream_laws.proofs.Reading.{ok_first, room_of, with_room, byte_has, has_byte}
 use Rattle.stream_laws.proofs.Giving.{same_references}
-use Rattle.stream_laws.proofs.Failing.{err_is, byte_firm, size_fault, size_faulty, levels}
+use Rattle.stream_laws.proofs.Failing.{err_is, bind_err, err_first, byte_firm, size_fault, size_faulty, levels}
 
 -- ---- steps that failed
 
@@ -225,7 +225,7 @@ record Closed (ws : List Want) (contents : List ℕ) (x : ServeOk) : Type 0 wher
   front : List ℕ
   is : contents ≡ front ++ x.2
   spelled : SpellsWants ws x.0 x.1.progress.nodes front
-  progress : x.1.progress ≡ so_far x.1.progress.nodes
+  progress : x.1.progress ≡ so_far x.1.progress.nodes x.0
   left : plain.AreBytes x.2
 
 run_left : (end n block : ℕ) (bs : List ℕ) (y : List ℕ × ℕ × List ℕ) → run_at end n block bs ≡ Ok y → plain.AreBytes bs → plain.AreBytes y.2
@@ -240,17 +240,25 @@ run_left end (suc n) block bs y h bytes =
 
 -- what wants add to the nodes and the parts
 abbrev Adds : Stand → ServeOk → Type 0
-Adds s x = Got [] s.progress x.1.progress x.2 (λ F. Unit {0})
+Adds s x = GotBy (refs_in x.0) [] s.progress x.1.progress x.2 (λ F. Unit {0})
 
-want_adds : (end : ℕ) (w : Want) (s : Stand) (bs : List ℕ) (x : WantOk) → want_at end w s bs ≡ Ok x → Solid [] s.progress → plain.AreBytes bs → Got [] s.progress x.1.progress x.2 (λ F. Unit {0})
-unfolding want_at bytes_at slot_next
+abbrev AddsOne : Stand → WantOk → Type 0
+AddsOne s x = GotBy (refs_in (x.0 ∷ [])) [] s.progress x.1.progress x.2 (λ F. Unit {0})
+
+refs_more : (i : Item) (is : List Item) → refs_in (i ∷ is) ≡ refs_in (i ∷ []) + refs_in is
+unfolding item_wants
+refs_more (items.Bytes p) is = omega arith
+refs_more (items.Ref s) is = omega arith
+
+want_adds : (end : ℕ) (w : Want) (s : Stand) (bs : List ℕ) (x : WantOk) → want_at end w s bs ≡ Ok x → Solid [] s.progress → plain.AreBytes bs → AddsOne s x
+unfolding want_at bytes_at slot_next item_wants
 want_adds end (wanted.Bytes n) s bs x e solid bytes =
     let d = want_ok (bytes_at end n s bs) (λ x. Ok (items.Bytes x.0, x.1, x.2)) x e in
     let r = want_ok (run_at end n s.block bs) (λ r. Ok (r.0, record { progress = s.progress; items = add_bytes s.items r.0; block = r.1 }, r.2)) d.0 d.1 in
     let now : Stand = record { progress = s.progress; items = add_bytes s.items r.0.0; block = r.0.1 } in
     let one : (r.0.0, now, r.0.2) ≡ d.0 = given_is (r.0.0, now, r.0.2) d.0 r.2 in
     let two : (items.Bytes r.0.0, now, r.0.2) ≡ x = ap (λ (x : List ℕ × Stand × List ℕ). (items.Bytes x.0, x.1, x.2)) one ∙ given_is (items.Bytes d.0.0, d.0.1, d.0.2) x d.2 in
-    subst (λ (x : WantOk). Got [] s.progress x.1.progress x.2 (λ F. Unit {0})) two (got_none [] s.progress r.0.2 (λ F. Unit {0}) solid (run_left end n s.block bs r.0 r.1 bytes) (λ F sees. tt))
+    subst (λ (x : WantOk). AddsOne s x) two (got_none [] s.progress r.0.2 (λ F. Unit {0}) solid (run_left end n s.block bs r.0 r.1 bytes) (λ F sees. tt))
 want_adds end wanted.Slot s bs x e solid bytes =
     let d = want_ok (slot_next end s bs) (λ x. Ok (items.Ref x.0, x.1, x.2)) x e in
     elim (chosen (eqb s.block 0) _ _ _ d.1) [
@@ -261,31 +269,31 @@ want_adds end wanted.Slot s bs x e solid bytes =
           let one : (r.0.0, now, r.0.2) ≡ d.0 = given_is (r.0.0, now, r.0.2) d.0 r.2 in
           let two : (items.Ref r.0.0, now, r.0.2) ≡ x = ap (λ (x : Slot × Stand × List ℕ). (items.Ref x.0, x.1, x.2)) one ∙ given_is (items.Ref d.0.0, d.0.1, d.0.2) x d.2 in
           let g = (reference_sound end s.progress bs r.0 r.1 solid bytes).got in
-          subst (λ (x : WantOk). Got [] s.progress x.1.progress x.2 (λ F. Unit {0})) two (got_map [] s.progress r.0.1 r.0.2 _ (λ F. Unit {0}) g (λ F sees h. tt)))
+          subst (λ (x : WantOk). AddsOne s x) two (got_map [] s.progress r.0.1 r.0.2 _ (λ F. Unit {0}) g (λ F sees h. tt)))
     ]
 
 adds : (end : ℕ) (ws : List Want) (s : Stand) (bs : List ℕ) (x : ServeOk) → serve end ws s bs ≡ Ok x → Solid [] s.progress → plain.AreBytes bs → Adds s x
-unfolding serve
+unfolding serve item_wants
 adds end [] s bs x e solid bytes = subst (λ (x : ServeOk). Adds s x) (given_is {A = ServeOk} ([], s, bs) x e) (got_none [] s.progress bs (λ F. Unit {0}) solid bytes (λ F sees. tt))
 adds end (w ∷ ws) s bs x e solid bytes =
     let a = want_ok (want_at end w s bs) (λ x. serve end ws x.1 x.2 ▸ λ xs. Ok (x.0 ∷ xs.0, xs.1, xs.2)) x e in
     let b = want_ok (serve end ws a.0.1 a.0.2) (λ xs. Ok (a.0.0 ∷ xs.0, xs.1, xs.2)) x a.2 in
     let g = want_adds end w s bs a.0 a.1 solid bytes in
     let h = adds end ws a.0.1 a.0.2 b.0 b.1 g.solid g.left in
-    subst (λ (x : ServeOk). Adds s x) (given_is {A = ServeOk} (a.0.0 ∷ b.0.0, b.0.1, b.0.2) x b.2) (got_two [] s.progress a.0.1.progress b.0.1.progress a.0.2 b.0.2 (λ F. Unit {0}) (λ F. Unit {0}) (λ F. Unit {0}) g h (λ F sees p q. tt))
+    subst (λ (x : ServeOk). Adds s x) (given_is {A = ServeOk} (a.0.0 ∷ b.0.0, b.0.1, b.0.2) x b.2) (got_sum (refs_in (a.0.0 ∷ b.0.0)) (refs_more a.0.0 b.0.0) [] s.progress a.0.1.progress b.0.1.progress a.0.2 b.0.2 (λ F. Unit {0}) (λ F. Unit {0}) (λ F. Unit {0}) g h (λ F sees p q. tt))
 
 start_solid : Solid [] (record { nodes = []; parts = 0 })
 unfolding has
 start_solid = record { above = λ k i gone is desc. absurd cc; good = λ k i gone is. absurd cc; below = λ k h. absurd cc; few = omega arith; ranged = All-nil InRange }
 
-progress_of : (end : ℕ) (ws : List Want) (contents : List ℕ) (x : ServeOk) → serve end ws nothing_read contents ≡ Ok x → plain.AreBytes contents → (x.1.progress ≡ so_far x.1.progress.nodes) × plain.AreBytes x.2
+progress_of : (end : ℕ) (ws : List Want) (contents : List ℕ) (x : ServeOk) → serve end ws nothing_read contents ≡ Ok x → plain.AreBytes contents → (x.1.progress ≡ so_far x.1.progress.nodes x.0) × plain.AreBytes x.2
 unfolding has parts_in
 progress_of end ws contents x e bytes =
     let solid : Solid [] (record { nodes = []; parts = 0 }) = record { above = λ k i gone is desc. absurd cc; good = λ k i gone is. absurd cc; below = λ k h. absurd cc; few = omega arith; ranged = All-nil InRange } in
     let g = adds end ws nothing_read contents x e solid bytes in
     let all : parts_in x.1.progress.nodes ≡ parts_in g.added = ap parts_in g.grown in
     let sum = g.parts in
-    let same : x.1.progress.parts ≡ parts_in x.1.progress.nodes = omega arith in
+    let same : x.1.progress.parts ≡ parts_in x.1.progress.nodes + refs_in x.0 = omega arith in
     (ap (λ k. with_parts x.1.progress.nodes k) same, g.left)
 
 closed : (end : ℕ) (ws : List Want) (contents : List ℕ) (x : ServeOk) → serve end ws nothing_read contents ≡ Ok x → x.1.block ≡ 0 → plain.AreBytes contents → Closed ws contents x
@@ -302,7 +310,7 @@ record Read (end : ℕ) (ws : List Want) (answers : List Item) (nodes : List Nod
   stand : Stand
   read : serve end ws nothing_read bs ≡ Ok (answers, stand, rest)
   none : stand.block ≡ 0
-  progress : stand.progress ≡ so_far nodes
+  progress : stand.progress ≡ so_far nodes answers
 
 reads : (end : ℕ) (ws : List Want) (answers : List Item) (nodes : List Node) (front rest : List ℕ) → SpellsWants ws answers nodes front → plain.AreBytes (front ++ rest) → Read end ws answers nodes (front ++ rest) rest
 unfolding serve_to_close close_at
@@ -322,12 +330,12 @@ reads end ws answers nodes front rest spelled bytes =
             stand = a.0.1;
             read = a.1 ∙ ap (λ (y : AllOk). Ok (y.0, a.0.1, y.3)) last;
             none = none;
-            progress = g.0 ∙ ap so_far same;
+            progress = g.0 ∙ (ap (λ (l : List Node). so_far l a.0.0) same ∙ ap (λ (y : AllOk). so_far nodes y.0) last);
           })
     ]
 
 -- What was read where wants are spelled is sound.
-pub solid_behind : (ws : List Want) (answers : List Item) (nodes : List Node) (front : List ℕ) → SpellsWants ws answers nodes front → Solid [] (so_far nodes)
+pub solid_behind : (ws : List Want) (answers : List Item) (nodes : List Node) (front : List ℕ) → SpellsWants ws answers nodes front → Solid [] (so_far nodes answers)
 solid_behind ws answers nodes front spelled =
     let bytes : plain.AreBytes (front ++ []) = subst plain.AreBytes (sym (append-nil front)) (are front spelled.are_bytes) in
     let r = reads 0 ws answers nodes front [] spelled bytes in
@@ -341,6 +349,14 @@ begins_here code there a b = record { code = code; rest = there; is = refl; goes
 
 slot_coded : (end : ℕ) (now : Progress) (code : ℕ) (there : List ℕ) → slot_at end LEVELS places.Reference [] now (code ∷ there) ≡ coded end LEVELS (slot_at end (LEVELS - 1)) places.Reference [] (end - length (code ∷ there)) code now there
 slot_coded end now code there = slot_is end LEVELS places.Reference [] now (code ∷ there)
+
+abbrev SlotOk : Type 0
+SlotOk = Slot × Progress × List ℕ
+
+-- a reference that is read at its code, where so much was read
+read_here : (end at code : ℕ) (now later : Progress) (rest : List ℕ) (y : Result SlotOk Fault) → at ≡ end - length (code ∷ rest) → now ≡ later → coded end LEVELS (slot_at end (LEVELS - 1)) places.Reference [] at code now rest ≡ y → slot_at end LEVELS places.Reference [] later (code ∷ rest) ≡ y
+read_here end at code now later rest y here same h =
+    slot_coded end later code rest ∙ (ap (λ k. coded end LEVELS (slot_at end (LEVELS - 1)) places.Reference [] k code later rest) (sym here) ∙ (ap (λ p. coded end LEVELS (slot_at end (LEVELS - 1)) places.Reference [] at code p rest) (sym same) ∙ h))
 
 -- behind what was read, and empty blocks
 behind_of : {ws : List Want} {contents : List ℕ} {x : ServeOk} (c : Closed ws contents x) (count : ℕ) (mid : List ℕ) → Empties count x.2 mid → (there : List ℕ) → mid ≡ there → Behind ws contents there
@@ -381,13 +397,24 @@ reference_stops end wants before later contents x e firm are c h = elim (bind_mi
         subst (λ z. WantFails end wants contents z) (miss_is _ e g) (of_next_block n k.0 rest w (some_bytes n f.some) k.1)
     by (of_code code at, rest) is g =
         let f = found end (suc (length x.2)) x.2 (of_code code at, rest) is c.left in
-        let l = lifted_miss (coded end LEVELS (slot_at end (LEVELS - 1)) places.Reference [] at code x.1.progress rest) e g in
+        let l = lifted_miss (counted_at end at code x.1.progress rest) e g in
+        let firm_f = firm_inside l.0 e firm l.2 in
         let here : at ≡ end - length (code ∷ rest) = f.is.3 ∙ ap (λ (l : List ℕ). end - length l) f.is.0 in
         let w : ReferenceWanted wants contents (code ∷ rest) = record { before = before; later = later; are = are; behind = behind_of c f.count f.mid f.empties (code ∷ rest) f.is.0 } in
-        let read : slot_at end LEVELS places.Reference [] (so_far x.1.progress.nodes) (code ∷ rest) ≡ Err l.0 =
-        slot_coded end (so_far x.1.progress.nodes) code rest ∙ (ap (λ k. coded end LEVELS (slot_at end (LEVELS - 1)) places.Reference [] k code (so_far x.1.progress.nodes) rest) (sym here) ∙ (ap (λ p. coded end LEVELS (slot_at end (LEVELS - 1)) places.Reference [] at code p rest) (sym c.progress) ∙ l.1)) in
-        let fails = (levels end l.0 (firm_inside l.0 e firm l.2) LEVELS).down places.Reference [] (so_far x.1.progress.nodes) (code ∷ rest) read in
-        subst (λ z. WantFails end wants contents z) l.2 (of_reference l.0 (code ∷ rest) w (begins_here code rest f.is.1 f.is.2) fails)
+        let now = so_far x.1.progress.nodes x.0 in
+        let begins = begins_here code rest f.is.1 f.is.2 in
+        elim (bind_err (coded end LEVELS (slot_at end (LEVELS - 1)) places.Reference [] at code x.1.progress rest) _ l.0 l.1) [
+          | inl h ↦ (
+              let fails = (levels end l.0 firm_f LEVELS).down places.Reference [] now (code ∷ rest) (read_here end at code x.1.progress now rest (Err l.0) here c.progress h) in
+              subst (λ z. WantFails end wants contents z) l.2 (of_reference l.0 (code ∷ rest) w begins fails))
+          | inr y ↦ elim (chosen (ltb PARTS (y.0.1.parts + 1)) _ _ _ y.2) [
+            | inr p ↦ absurd (let q = p.1 in cc)
+            | inl p ↦ (
+                let read = ((same_references end LEVELS).at places.Reference []).to now (code ∷ rest) y.0 (read_here end at code x.1.progress now rest (Ok y.0) here c.progress y.1) in
+                let why : too_many at ≡ l.0 = err_is {A = SlotOk} (too_many at) l.0 p.1 in
+                subst (λ z. WantFails end wants contents z) (ap (λ k. inside (too_many k)) (sym here) ∙ (ap inside why ∙ l.2)) (of_part (code ∷ rest) y.0 w begins read (ltb-true PARTS (y.0.1.parts + 1) p.0)))
+          ]
+        ]
 
 -- ---- what wants ask for, by the bytes
 
@@ -451,18 +478,25 @@ reference_to end now bs y e bytes =
         let f = found end (suc (length bs)) bs (of_code code at, rest) is bytes in
         let b = empties_are f.count bs f.mid f.empties in
         let here : at ≡ end - length (code ∷ rest) = f.is.3 ∙ ap (λ (l : List ℕ). end - length l) f.is.0 in
-        let read : slot_at end LEVELS places.Reference [] now (code ∷ rest) ≡ Ok y =
-        slot_coded end now code rest ∙ (ap (λ k. coded end LEVELS (slot_at end (LEVELS - 1)) places.Reference [] k code now rest) (sym here) ∙ lifted_is (coded end LEVELS (slot_at end (LEVELS - 1)) places.Reference [] at code now rest) y e) in
-        record {
+        let x = bind_ok (coded end LEVELS (slot_at end (LEVELS - 1)) places.Reference [] at code now rest) _ y (lifted_is (counted_at end at code now rest) y e) in
+        let k = room_of 1 at x.0.1 (Ok (x.0.0, add_parts 1 x.0.1, x.0.2)) y x.2 in
+        let read = read_here end at code now now rest (Ok x.0) here refl x.1 in
+        subst (λ (y : SlotOk). HasReference now bs y.1 y.2) (ok_is {A = SlotOk} (x.0.0, add_parts 1 x.0.1, x.0.2) y k.1) (record {
           count = f.count;
           blocks = b.0;
           empty = b.1;
           there = code ∷ rest;
           parts = b.2 ∙ ap (λ (l : List ℕ). b.0 ++ l) f.is.0;
           begins = begins_here code rest f.is.1 f.is.2;
-          slot = y.0;
-          read = ((same_references end LEVELS).at places.Reference []).to now (code ∷ rest) y read;
-        }
+          slot = x.0.0;
+          mid = x.0.1;
+          read = ((same_references end LEVELS).at places.Reference []).to now (code ∷ rest) x.0 read;
+          few = k.0;
+          same = refl;
+        })
+
+abbrev slot_so : Slot → Progress → List ℕ → Result SlotOk Fault
+slot_so s now rest = Ok (s, now, rest)
 
 reference_from : (end : ℕ) (now : Progress) (bs : List ℕ) (later : Progress) (rest : List ℕ) (h : HasReference now bs later rest) → reference_at end now bs ≡ Ok (h.slot, later, rest)
 unfolding reference_at
@@ -474,9 +508,12 @@ reference_from end now bs later rest h = by h.begins.code h.begins.rest h.begins
         let no_long : code ≢ 0x7A = λ same. h.begins.no_long_block (first_byte h.begins.code code h.begins.rest more (sym h.begins.is ∙ is) ∙ same) in
         let there : ahead_at end bs ≡ Ok (of_code code (end - length (code ∷ more)), more) =
         ap (ahead_at end) h.parts ∙ ahead_passed end h.count h.blocks h.there (Ok (of_code code (end - length (code ∷ more)), more)) h.empty (λ most. ap (within_ahead end (suc most)) is ∙ code_here end code most more no_short no_long) in
-        let read : slot_at end LEVELS places.Reference [] now (code ∷ more) ≡ Ok (h.slot, later, rest) =
-        ap (slot_at end LEVELS places.Reference [] now) (sym is) ∙ ((same_references end LEVELS).at places.Reference []).from now h.there (h.slot, later, rest) h.read in
-        same_slot end (suc (length bs)) now bs ∙ (ap (λ z. lift_fault z ▸ as_slot end now) there ∙ lift_ok (coded end LEVELS (slot_at end (LEVELS - 1)) places.Reference [] (end - length (code ∷ more)) code now more) (h.slot, later, rest) (sym (slot_coded end now code more) ∙ read))
+        let at = end - length (code ∷ more) in
+        let read : slot_at end LEVELS places.Reference [] now (code ∷ more) ≡ Ok (h.slot, h.mid, rest) =
+        ap (slot_at end LEVELS places.Reference [] now) (sym is) ∙ ((same_references end LEVELS).at places.Reference []).from now h.there (h.slot, h.mid, rest) h.read in
+        let all : counted_at end at code now more ≡ Ok (h.slot, later, rest) =
+        ok_first (coded end LEVELS (slot_at end (LEVELS - 1)) places.Reference [] at code now more) _ (h.slot, h.mid, rest) _ (sym (slot_coded end now code more) ∙ read) (with_room 1 at h.mid (Ok (h.slot, add_parts 1 h.mid, rest)) (Ok (h.slot, later, rest)) h.few (ap (λ p. slot_so h.slot p rest) (sym h.same))) in
+        same_slot end (suc (length bs)) now bs ∙ (ap (λ z. lift_fault z ▸ as_slot end now) there ∙ lift_ok (counted_at end at code now more) (h.slot, later, rest) all)
 
 abbrev served_so : Stand → List ℕ → Result ServeOk WantFault
 served_so s rest = Ok ([], s, rest)
@@ -647,7 +684,7 @@ record At (end : ℕ) (wants : List Want) (contents there : List ℕ) (nodes : L
   rest : List ℕ
   read : serve end wants nothing_read contents ≡ Ok (answers, stand, rest)
   none : stand.block ≡ 0
-  progress : stand.progress ≡ so_far nodes
+  progress : stand.progress ≡ so_far nodes answers
   count : ℕ
   blocks : List ℕ
   empty : AreEmptyBlocks count blocks
@@ -670,7 +707,7 @@ at_behind end wants contents there b bytes =
 
 -- a wanted reference is answered as what comes there
 reference_at_behind : (end : ℕ) (wants : List Want) (contents there : List ℕ) (w : ReferenceWanted wants contents there) → plain.AreBytes contents → (e : WantFault) (y : Result (Ahead × List ℕ) Fault) → ((most : ℕ) → within_ahead end (suc most) there ≡ y)
-    → (lift_fault y ▸ as_slot end (so_far w.behind.nodes)) ≡ Err e → serve_to_close end wants nothing_read contents ≡ Err e
+    → (lift_fault y ▸ as_slot end (so_far w.behind.nodes w.behind.answers)) ≡ Err e → serve_to_close end wants nothing_read contents ≡ Err e
 unfolding want_at slot_next reference_at
 reference_at_behind end wants contents there w bytes e y goes h =
     let a = at_behind end w.before contents there w.behind bytes in
@@ -744,6 +781,14 @@ last_fails end wants contents answers s there read some =
     let no : eqb s.block 0 ≡ false = ne_eqb s.block 0 (λ same. omega arith) in
     met_first (serve end wants nothing_read contents) _ (answers, s, there) _ read (rw no refl)
 
+-- a reference begins there, and what counts it answers a fault
+begun_fails : (end : ℕ) (wants : List Want) (contents there : List ℕ) (w : ReferenceWanted wants contents there) → BeginsReference false there → plain.AreBytes contents → (f : Fault) (code : ℕ) (rest : List ℕ) → there ≡ code ∷ rest
+    → counted_at end (end - length (code ∷ rest)) code (so_far w.behind.nodes w.behind.answers) rest ≡ Err f → serve_to_close end wants nothing_read contents ≡ Err (inside f)
+begun_fails end wants contents there w begins bytes f code rest is h =
+    let no_short : code ≢ 0x77 = λ same. begins.no_block (first_byte begins.code code begins.rest rest (sym begins.is ∙ is) ∙ same) in
+    let no_long : code ≢ 0x7A = λ same. begins.no_long_block (first_byte begins.code code begins.rest rest (sym begins.is ∙ is) ∙ same) in
+    reference_at_behind end wants contents there w bytes (inside f) (Ok (of_code code (end - length (code ∷ rest)), rest)) (λ most. ap (within_ahead end (suc most)) is ∙ code_here end code most rest no_short no_long) (lift_err _ f h)
+
 pub shown_fails : (end : ℕ) (wants : List Want) (contents : List ℕ) (e : WantFault) → e ≢ inside short → plain.AreBytes contents → WantFails end wants contents e → serve_to_close end wants nothing_read contents ≡ Err e
 unfolding want_at no_block
 shown_fails end wants contents e firm bytes (of_reference f there w begins h) = reference_fails begins.code begins.rest begins.is
@@ -753,12 +798,22 @@ shown_fails end wants contents e firm bytes (of_reference f there w begins h) = 
 
     reference_fails : (code : ℕ) (rest : List ℕ) → there ≡ code ∷ rest → serve_to_close end wants nothing_read contents ≡ Err (inside f)
     reference_fails code rest is =
-        let now = so_far w.behind.nodes in
+        let now = so_far w.behind.nodes w.behind.answers in
+        let at = end - length (code ∷ rest) in
         let read : slot_at end LEVELS places.Reference [] now (code ∷ rest) ≡ Err f = ap (slot_at end LEVELS places.Reference [] now) (sym is) ∙ (levels end f firm_f LEVELS).up places.Reference [] now there h in
-        let coded_so : coded end LEVELS (slot_at end (LEVELS - 1)) places.Reference [] (end - length (code ∷ rest)) code now rest ≡ Err f = sym (slot_coded end now code rest) ∙ read in
-        let no_short : code ≢ 0x77 = λ same. begins.no_block (first_byte begins.code code begins.rest rest (sym begins.is ∙ is) ∙ same) in
-        let no_long : code ≢ 0x7A = λ same. begins.no_long_block (first_byte begins.code code begins.rest rest (sym begins.is ∙ is) ∙ same) in
-        reference_at_behind end wants contents there w bytes (inside f) (Ok (of_code code (end - length (code ∷ rest)), rest)) (λ most. ap (within_ahead end (suc most)) is ∙ code_here end code most rest no_short no_long) (lift_err _ f coded_so)
+        let coded_so : coded end LEVELS (slot_at end (LEVELS - 1)) places.Reference [] at code now rest ≡ Err f = sym (slot_coded end now code rest) ∙ read in
+        begun_fails end wants contents there w begins bytes f code rest is (err_first (coded end LEVELS (slot_at end (LEVELS - 1)) places.Reference [] at code now rest) _ f coded_so)
+shown_fails end wants contents e firm bytes (of_part there x w begins h many) = part_fails begins.code begins.rest begins.is
+  where
+    part_fails : (code : ℕ) (rest : List ℕ) → there ≡ code ∷ rest → serve_to_close end wants nothing_read contents ≡ Err (inside (too_many (end - length there)))
+    part_fails code rest is =
+        let now = so_far w.behind.nodes w.behind.answers in
+        let at = end - length (code ∷ rest) in
+        let f = too_many (end - length there) in
+        let read : slot_at end LEVELS places.Reference [] now (code ∷ rest) ≡ Ok x = ap (slot_at end LEVELS places.Reference [] now) (sym is) ∙ ((same_references end LEVELS).at places.Reference []).from now there x h in
+        let coded_so : coded end LEVELS (slot_at end (LEVELS - 1)) places.Reference [] at code now rest ≡ Ok x = sym (slot_coded end now code rest) ∙ read in
+        begun_fails end wants contents there w begins bytes f code rest is
+        (ok_first (coded end LEVELS (slot_at end (LEVELS - 1)) places.Reference [] at code now rest) _ x _ coded_so (rw (lt-ltb PARTS (x.1.parts + 1) many) (ap (λ (l : List ℕ). Err (too_many (end - length l))) (sym is))))
 shown_fails end wants contents e firm bytes (of_length there n (inl w) read high) =
     let f = bad negative_length (end - length there) in
     reference_at_behind end wants contents (0x7A ∷ there) w bytes (inside f) (Err f) (λ most. long_here end most there f (size_faulty end f (λ same. cc) w32 (2 ^ 31) there (n, read, high, refl))) refl

@@ -21,18 +21,19 @@ use Rattle.ser_values.specs.declared.node.SlotPlace.TheVariants as places
 use Rattle.ser_values.specs.declared.limits.TheConstants.{NODES, PARTS}
 use Rattle.ser_values.specs.Node.{has, admits, admits_null}
 use Rattle.ser_values.specs.Shape.{fits_type, is_enum}
-use Rattle.stream_grammar.specs.Reading.{FaultKind, bad_code, bad_handle, wrong_handle_kind, bad_desc, bad_utf, negative_length, reset, inner_exception, Fault, bad, too_many, too_deep, Progress, push, Row, chain_of, class_fault, type_in, admits_code, blank}
+use Rattle.stream_grammar.specs.Reading.{FaultKind, bad_code, bad_handle, wrong_handle_kind, bad_desc, bad_utf, negative_length, reset, inner_exception, Fault, bad, too_many, too_deep, Progress, push, add_parts, Row, chain_of, sizes_of, refs_among, class_fault, type_in, admits_code, blank}
 use Rattle.stream_grammar.specs.Faults.{DescHead}
 use Rattle.stream_laws.specs.Reads.{HasByte, HasNumber, HasSize, HasText, References, Plainly, Many, HasValues, HasField, HasDescHead, desc_of, HasFields, HasInterfaces, BeginsReference, Follow, HasNote, HasParts, rows_in, with_object, gives_none, Reads}
 
 -- ---- what comes next
 
 -- A reference in a place, with these descriptions unread, and what was read of the nodes; a length or a count of so many bits, which is to be below a bound;
--- the bytes of a text, so many; or none of these, for the construct is refused by this fault.
+-- the bytes of a text, so many; a reference that is a part too many; or none of these, for the construct is refused by this fault.
 pub data Next : Type 0 where
   a_reference : SlotPlace → List ℕ → Progress → Next
   a_size : Width → ℕ → Next
   a_text : ℕ → Next
+  a_part : Next
   a_refusal : Fault → Next
 
 -- what is said of what comes next, and of the bytes from there on
@@ -49,14 +50,17 @@ InText P here = (n : ℕ × List ℕ) × HasNumber w16 here n × P (a_text n.0) 
 abbrev pub InLongText : Says → List ℕ → Type 0
 InLongText P here = P (a_size w64 (2 ^ 63)) here ⊎ ((n : ℕ × List ℕ) × HasSize w64 (2 ^ 63) here n × P (a_text n.0) n.1)
 
--- Blocks and references stand here, up to the end of an annotation or of the bytes. Behind so many of them, at most one a byte, comes a reference, or the length of a block.
+-- Blocks and references stand here, up to the end of an annotation or of the bytes. Behind so many of them, at most one a byte, comes a reference; or one that is read, and is a
+-- part too many; or the length of a block.
 pub record InItems (within : Bool) (R : References) (unread : List ℕ) (P : Says) (now : Progress) (here : List ℕ) : Type 0 where
   pub before : List Item
   pub later : Progress
   pub there : List ℕ
   pub few : length before ≤ length here
   pub follow : Follow within (R places.Reference unread) before now here later there
-  pub next : (BeginsReference within there × P (a_reference places.Reference unread later) there) ⊎ ((rest : List ℕ) × (there ≡ 0x7A ∷ rest) × P (a_size w32 (2 ^ 31)) rest)
+  pub next : (BeginsReference within there × P (a_reference places.Reference unread later) there)
+      ⊎ ((BeginsReference within there × (x : Slot × Progress × List ℕ) × R places.Reference unread later there x × (PARTS < x.1.parts + 1) × P a_part there)
+      ⊎ ((rest : List ℕ) × (there ≡ 0x7A ∷ rest) × P (a_size w32 (2 ^ 31)) rest))
 
 abbrev pub InNote : References → List ℕ → Says → Progress → List ℕ → Type 0
 InNote R unread P now here = InItems true R unread P now here
@@ -73,25 +77,28 @@ pub data InField (at : ℕ) (R : References) (unread : List ℕ) (P : Says) (now
   other_type : (c : ℕ) (rest : List ℕ) (code : TypeCode) (name : List ℕ × List ℕ) (t : Slot × Progress × List ℕ) → here ≡ c ∷ rest → code_of c ≡ Some code → HasText rest name → is_primitive code ≡ false
       → R places.Text unread now name.1 t → fits_type t.1.nodes code t.0 ≡ false → P (a_refusal (bad bad_desc at)) here → InField at R unread P now here
 
--- A description of a class stands here, behind its code: its name, its serialVersionUID and flags, its fields with their number, its annotation, and its superclass.
+-- A description of a class stands here, behind its code: its name, its serialVersionUID and flags, its fields with their number, for which there is room, its annotation, and its
+-- superclass.
 pub data InDesc (at : ℕ) (R : References) (unread : List ℕ) (P : Says) (first : Progress) (here : List ℕ) : Type 0 where
   in_desc_name : InText P here → InDesc at R unread P first here
   at_count : (name : List ℕ × List ℕ) (suid flags : ℕ × List ℕ) → HasText here name → HasNumber w64 name.1 suid → HasByte suid.1 flags → P (a_size w16 32768) flags.1 → InDesc at R unread P first here
-  in_field : (head : DescHead) (done : ℕ) (fields : List FieldDesc) (later : Progress) (there : List ℕ) → HasDescHead here head → done < head.count
-      → Many (HasField R unread) done first head.rest (fields, later, there) → InField at R unread P later there → InDesc at R unread P first here
+  too_many_fields : (head : DescHead) → HasDescHead here head → PARTS < first.parts + head.count → P (a_refusal (too_many at)) here → InDesc at R unread P first here
+  in_field : (head : DescHead) (done : ℕ) (fields : List FieldDesc) (later : Progress) (there : List ℕ) → HasDescHead here head → first.parts + head.count ≤ PARTS → done < head.count
+      → Many (HasField R unread) done (add_parts head.count first) head.rest (fields, later, there) → InField at R unread P later there → InDesc at R unread P first here
   breaks_rule : (d : HasFields R unread first here) → is_good_desc (desc_of d.head d.fields) ≡ false → P (a_refusal (bad bad_desc at)) here → InDesc at R unread P first here
   in_note : (d : HasFields R unread first here) → is_good_desc (desc_of d.head d.fields) ≡ true → InNote R unread P d.later d.there → InDesc at R unread P first here
   at_parent : (d : HasFields R unread first here) (note : List Item × Progress × List ℕ) → is_good_desc (desc_of d.head d.fields) ≡ true → HasNote (R places.Reference unread) d.later d.there note
       → P (a_reference places.Parent unread note.1) note.2 → InDesc at R unread P first here
 
--- A description of a proxy's class: its interfaces with their number, its annotation, and its superclass.
-pub data InProxy (R : References) (unread : List ℕ) (P : Says) (first : Progress) (here : List ℕ) : Type 0 where
-  at_names : P (a_size w32 (2 ^ 31)) here → InProxy R unread P first here
-  in_interface : (count : ℕ × List ℕ) (done : ℕ) (names : List (List ℕ)) (later : Progress) (there : List ℕ) → HasSize w32 (2 ^ 31) here count → done < count.0 → Many (Plainly HasText) done first count.1 (names, later, there)
-      → InText P there → InProxy R unread P first here
-  in_proxy_note : (d : HasInterfaces first here) → InNote R unread P d.later d.there → InProxy R unread P first here
+-- A description of a proxy's class: its interfaces with their number, for which there is room, its annotation, and its superclass.
+pub data InProxy (at : ℕ) (R : References) (unread : List ℕ) (P : Says) (first : Progress) (here : List ℕ) : Type 0 where
+  at_names : P (a_size w32 (2 ^ 31)) here → InProxy at R unread P first here
+  too_many_names : (count : ℕ × List ℕ) → HasSize w32 (2 ^ 31) here count → PARTS < first.parts + count.0 → P (a_refusal (too_many at)) here → InProxy at R unread P first here
+  in_interface : (count : ℕ × List ℕ) (done : ℕ) (names : List (List ℕ)) (later : Progress) (there : List ℕ) → HasSize w32 (2 ^ 31) here count → first.parts + count.0 ≤ PARTS → done < count.0
+      → Many (Plainly HasText) done (add_parts count.0 first) count.1 (names, later, there) → InText P there → InProxy at R unread P first here
+  in_proxy_note : (d : HasInterfaces first here) → InNote R unread P d.later d.there → InProxy at R unread P first here
   at_proxy_parent : (d : HasInterfaces first here) (note : List Item × Progress × List ℕ) → HasNote (R places.Reference unread) d.later d.there note
-      → P (a_reference places.Parent unread note.1) note.2 → InProxy R unread P first here
+      → P (a_reference places.Parent unread note.1) note.2 → InProxy at R unread P first here
 
 -- ---- objects, arrays, constants of enums
 
@@ -111,18 +118,20 @@ pub record InParts (R : References) (unread : List ℕ) (P : Says) (rows : List 
 
 -- An object of the class stands here, behind it: there are not too many parts, the class has objects, and the parts.
 pub data InObject (at : ℕ) (R : References) (unread : List ℕ) (P : Says) (class : ℕ) (now : Progress) (here : List ℕ) : Type 0 where
-  too_many_parts : PARTS < now.parts + length (rows_in now class) → P (a_refusal (too_many at)) here → InObject at R unread P class now here
-  no_objects : (kind : FaultKind) → now.parts + length (rows_in now class) ≤ PARTS → class_fault (slice_get now.nodes class) (chain_of PARTS now.nodes (slots.Node class)).1 ≡ Some kind → P (a_refusal (bad kind at)) here
+  too_many_parts : PARTS < now.parts + sizes_of (rows_in now class) → P (a_refusal (too_many at)) here → InObject at R unread P class now here
+  no_objects : (kind : FaultKind) → now.parts + sizes_of (rows_in now class) ≤ PARTS → class_fault (slice_get now.nodes class) (chain_of PARTS now.nodes (slots.Node class)).1 ≡ Some kind → P (a_refusal (bad kind at)) here
       → InObject at R unread P class now here
-  in_parts : now.parts + length (rows_in now class) ≤ PARTS → class_fault (slice_get now.nodes class) (chain_of PARTS now.nodes (slots.Node class)).1 ≡ None
+  in_parts : now.parts + sizes_of (rows_in now class) ≤ PARTS → class_fault (slice_get now.nodes class) (chain_of PARTS now.nodes (slots.Node class)).1 ≡ None
       → InParts R unread P (rows_in now class) (with_object now class) here → InObject at R unread P class now here
 
--- An array of the class: the class is one of arrays, the number of elements, and elements that are references.
+-- An array of the class: the class is one of arrays, the number of elements, and elements that are references, for which there is room.
 pub data InArray (at : ℕ) (R : References) (unread : List ℕ) (P : Says) (class : ℕ) (now : Progress) (here : List ℕ) : Type 0 where
   no_array : type_in (slice_get now.nodes class) ≡ None → P (a_refusal (bad bad_desc at)) here → InArray at R unread P class now here
   at_size : (code : TypeCode) → type_in (slice_get now.nodes class) ≡ Some code → P (a_size w32 (2 ^ 31)) here → InArray at R unread P class now here
-  at_element : (code : TypeCode) (count : ℕ × List ℕ) (done : ℕ) (x : List Slot × Progress × List ℕ) → type_in (slice_get now.nodes class) ≡ Some code → is_primitive code ≡ false → HasSize w32 (2 ^ 31) here count → done < count.0
-      → Many (R places.Reference unread) done (push now (Array class (kinds.Bytes []))) count.1 x → P (a_reference places.Reference unread x.1) x.2 → InArray at R unread P class now here
+  too_many_elements : (code : TypeCode) (count : ℕ × List ℕ) → type_in (slice_get now.nodes class) ≡ Some code → HasSize w32 (2 ^ 31) here count → PARTS < now.parts + refs_among code count.0 → P (a_refusal (too_many at)) here → InArray at R unread P class now here
+  at_element : (code : TypeCode) (count : ℕ × List ℕ) (done : ℕ) (x : List Slot × Progress × List ℕ) → type_in (slice_get now.nodes class) ≡ Some code → is_primitive code ≡ false → HasSize w32 (2 ^ 31) here count
+      → now.parts + refs_among code count.0 ≤ PARTS → done < count.0
+      → Many (R places.Reference unread) done (add_parts (refs_among code count.0) (push now (Array class (kinds.Bytes [])))) count.1 x → P (a_reference places.Reference unread x.1) x.2 → InArray at R unread P class now here
 
 -- A constant of an enum: the class is one of enums, and the constant's name.
 pub data InEnum (at : ℕ) (unread : List ℕ) (P : Says) (class : ℕ) (now : Progress) (here : List ℕ) : Type 0 where
@@ -147,7 +156,7 @@ pub data InConstruct (at : ℕ) (R : References) (unread : List ℕ) (P : Says) 
   in_text : code ≡ 0x74 → InText P here → InConstruct at R unread P code now here
   in_long_text : code ≡ 0x7C → InLongText P here → InConstruct at R unread P code now here
   in_desc : code ≡ 0x72 → InDesc at R (unread ++ length now.nodes ∷ []) P (push now (Desc blank)) here → InConstruct at R unread P code now here
-  in_proxy : code ≡ 0x7D → InProxy R (unread ++ length now.nodes ∷ []) P (push now (Desc blank)) here → InConstruct at R unread P code now here
+  in_proxy : code ≡ 0x7D → InProxy at R (unread ++ length now.nodes ∷ []) P (push now (Desc blank)) here → InConstruct at R unread P code now here
   at_class : BeginsWithClass code → P (a_reference places.Class unread now) here → InConstruct at R unread P code now here
   behind_class : (class : ℕ) (later : Progress) (there : List ℕ) → BeginsWithClass code → R places.Class unread now here (slots.Node class, later, there)
       → InClassed at R unread P code class later there → InConstruct at R unread P code now here
@@ -175,11 +184,12 @@ pub data RefusesCode (left at : ℕ) (p : SlotPlace) (unread : List ℕ) (now : 
   no_room : 0 < left → admits_code p code ≡ true → NODES ≤ length now.nodes → RefusesCode left at p unread now code here (too_many at)
 
 -- What comes next is refused by this fault: a reference, as `Inner` says; a length or a count that is not below its bound, at its first byte; a text whose bytes are none, at the first byte of the
--- spelling that is no character's; or the construct.
+-- spelling that is no character's; a part too many, at its code; or the construct.
 abbrev pub FailsNext : ℕ → Fault → (SlotPlace → List ℕ → Progress → List ℕ → Type 0) → Says
 FailsNext end fault Inner (a_reference p unread now) here = Inner p unread now here
 FailsNext end fault Inner (a_size w bound) here = (n : ℕ × List ℕ) × HasNumber w here n × (bound ≤ n.0) × (fault ≡ bad negative_length (end - length here))
 FailsNext end fault Inner (a_text n) here = (t : List ℕ × List ℕ) × (here ≡ t.0 ++ t.1) × (length t.0 ≡ n) × (offset : ℕ) × IsBadAt t.0 offset × (fault ≡ bad bad_utf (end - length here + offset))
+FailsNext end fault Inner a_part here = fault ≡ too_many (end - length here)
 FailsNext end fault Inner (a_refusal f) here = fault ≡ f
 
 -- A reference that begins here is refused: by its code; or by what stands in the construct that the code begins. `R` says what bytes give one level down.

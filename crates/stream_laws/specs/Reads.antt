@@ -27,7 +27,7 @@ use Rattle.ser_values.specs.declared.limits.TheConstants.{NODES, PARTS}
 use Rattle.ser_values.specs.Node.{has, admits_null, takes}
 use Rattle.ser_values.specs.Shape.{fits_type, is_enum}
 use Rattle.stream_grammar.specs.Spelled.{joined}
-use Rattle.stream_grammar.specs.Reading.{Progress, push, fill, Row, chain_of, rows_of, class_fault, type_in, admits_code, blank}
+use Rattle.stream_grammar.specs.Reading.{Progress, push, fill, add_parts, Row, chain_of, rows_of, sizes_of, refs_among, class_fault, type_in, admits_code, blank}
 use Rattle.stream_grammar.specs.Faults.{DescHead}
 
 -- ---- numbers and texts: what they give, and the bytes behind them
@@ -121,11 +121,11 @@ pub record BeginsReference (within : Bool) (here : List ℕ) : Type 0 where
   pub no_block : code ≢ 0x77
   pub no_long_block : code ≢ 0x7A
 
--- These blocks and references stand here, one after the other.
+-- These blocks and references stand here, one after the other. Each reference is a part, which has room once the reference was read.
 abbrev pub Follow : Bool → Gives Slot → List Item → Progress → List ℕ → Progress → List ℕ → Type 0
 Follow within R [] now here later there = (here ≡ there) × (now ≡ later)
 Follow within R (items.Bytes p ∷ is) now here later there = (rest : List ℕ) × HasBlock p here rest × Follow within R is now rest later there
-Follow within R (items.Ref s ∷ is) now here later there = BeginsReference within here × (mid : Progress) × (rest : List ℕ) × R now here (s, mid, rest) × Follow within R is mid rest later there
+Follow within R (items.Ref s ∷ is) now here later there = BeginsReference within here × (mid : Progress) × (rest : List ℕ) × R now here (s, mid, rest) × (mid.parts + 1 ≤ PARTS) × Follow within R is (add_parts 1 mid) rest later there
 
 -- An annotation, up to its end: each of its blocks and references takes a byte at least.
 pub record HasNote (R : Gives Slot) (now : Progress) (here : List ℕ) (y : List Item × Progress × List ℕ) : Type 0 where
@@ -165,14 +165,15 @@ desc_of head fields = record { name = head.name; suid = cast_signed w64 head.sui
 abbrev pub whole_desc : DescHead → List FieldDesc → List Item → Slot → ClassDesc
 whole_desc head fields note parent = record { name = head.name; suid = cast_signed w64 head.suid; flags = head.flags; fields = fields; note = note; parent = parent }
 
--- The fields of a description stand behind its head.
+-- The fields of a description stand behind its head. They are parts, and have room.
 pub record HasFields (R : References) (unread : List ℕ) (first : Progress) (here : List ℕ) : Type 0 where
   pub head : DescHead
   pub begins : HasDescHead here head
+  pub few : first.parts + head.count ≤ PARTS
   pub fields : List FieldDesc
   pub later : Progress
   pub there : List ℕ
-  pub read : Many (HasField R unread) head.count first head.rest (fields, later, there)
+  pub read : Many (HasField R unread) head.count (add_parts head.count first) head.rest (fields, later, there)
 
 -- A description of a class, behind its code: it is unread inside itself.
 pub record GivesDesc (R : References) (unread : List ℕ) (now : Progress) (here : List ℕ) (y : Slot × Progress × List ℕ) : Type 0 where
@@ -184,14 +185,15 @@ pub record GivesDesc (R : References) (unread : List ℕ) (now : Progress) (here
   pub above : R places.Parent (unread ++ length now.nodes ∷ []) note.1 note.2 parent
   pub same : y ≡ (slots.Node (length now.nodes), fill parent.1 (length now.nodes) (Desc (whole_desc d.head d.fields note.0 parent.0)), parent.2)
 
--- The names of a proxy's interfaces stand behind their number.
+-- The names of a proxy's interfaces stand behind their number. They are parts, and have room.
 pub record HasInterfaces (first : Progress) (here : List ℕ) : Type 0 where
   pub count : ℕ × List ℕ
   pub begins : HasSize w32 (2 ^ 31) here count
+  pub few : first.parts + count.0 ≤ PARTS
   pub names : List (List ℕ)
   pub later : Progress
   pub there : List ℕ
-  pub read : Many (Plainly HasText) count.0 first count.1 (names, later, there)
+  pub read : Many (Plainly HasText) count.0 (add_parts count.0 first) count.1 (names, later, there)
 
 pub record GivesProxy (R : References) (unread : List ℕ) (now : Progress) (here : List ℕ) (y : Slot × Progress × List ℕ) : Type 0 where
   pub d : HasInterfaces (push now (Desc blank)) here
@@ -213,16 +215,16 @@ HasParts R [] now here y = y ≡ ([], now, here)
 HasParts R (r ∷ rs) now here y = (vs : List Value × Progress × List ℕ) × HasValues R r.0 now here vs × (is : List Item × Progress × List ℕ) × HasNoteIf R r.1 vs.1 vs.2 is
     × (ps : List Part × Progress × List ℕ) × HasParts R rs is.1 is.2 ps × (y ≡ (record { values = vs.0; note = is.0 } ∷ ps.0, ps.1, ps.2))
 
--- the parts that an object of the class has
+-- the rows of an object of the class
 abbrev pub rows_in : Progress → ℕ → List Row
 rows_in now class = rows_of (slice_get now.nodes class) (chain_of PARTS now.nodes (slots.Node class)).0
 
--- an object whose parts are still to be read
+-- an object whose parts are counted, and still to be read
 abbrev pub with_object : Progress → ℕ → Progress
-with_object now class = record { nodes = now.nodes ++ Object class [] ∷ []; parts = now.parts + length (rows_in now class) }
+with_object now class = record { nodes = now.nodes ++ Object class [] ∷ []; parts = now.parts + sizes_of (rows_in now class) }
 
 pub record GivesObject (R : References) (unread : List ℕ) (class : ℕ) (now : Progress) (here : List ℕ) (y : Slot × Progress × List ℕ) : Type 0 where
-  pub few : now.parts + length (rows_in now class) ≤ PARTS
+  pub few : now.parts + sizes_of (rows_in now class) ≤ PARTS
   pub objects : class_fault (slice_get now.nodes class) (chain_of PARTS now.nodes (slots.Node class)).1 ≡ None
   pub parts : List Part × Progress × List ℕ
   pub read : HasParts (R places.Reference unread) (rows_in now class) (with_object now class) here parts
@@ -233,8 +235,9 @@ pub record GivesArray (R : References) (unread : List ℕ) (class : ℕ) (now : 
   pub typed : type_in (slice_get now.nodes class) ≡ Some code
   pub count : ℕ × List ℕ
   pub sized : HasSize w32 (2 ^ 31) here count
+  pub few : now.parts + refs_among code count.0 ≤ PARTS
   pub elements : Values × Progress × List ℕ
-  pub read : HasElements (R places.Reference unread) code count.0 (push now (Array class (kinds.Bytes []))) count.1 elements
+  pub read : HasElements (R places.Reference unread) code count.0 (add_parts (refs_among code count.0) (push now (Array class (kinds.Bytes [])))) count.1 elements
   pub same : y ≡ (slots.Node (length now.nodes), fill elements.1 (length now.nodes) (Array class elements.0), elements.2)
 
 pub record GivesEnum (R : References) (unread : List ℕ) (class : ℕ) (now : Progress) (here : List ℕ) (y : Slot × Progress × List ℕ) : Type 0 where

@@ -1,5 +1,5 @@
 -- Which fault bytes show of what a list of wants asks for, and of a stream that is read to its end. The bytes end at the position `end`.
-use Rattle.std.specs.Prelude.{◌≡◌, ◌≢◌, ◌⊎◌, ◌↔◌, ◌<◌, ◌≤◌, ◌-◌, ◌^◌, ℕ, zero, suc, false, List, [], ◌∷◌, ◌++◌, length, Ok, Err}
+use Rattle.std.specs.Prelude.{◌≡◌, ◌≢◌, ◌⊎◌, ◌↔◌, ◌<◌, ◌≤◌, ◌+◌, ◌-◌, ◌^◌, ℕ, zero, suc, false, List, [], ◌∷◌, ◌++◌, length, Ok, Err}
 use Rattle.std.specs.Int.{w32}
 use Rattle.class_desc.specs.declared.slot.Slot.{Slot}
 use Rattle.class_desc.specs.declared.slot.Item.{Item}
@@ -8,9 +8,9 @@ use Rattle.ser_values.specs.declared.node.SlotPlace.{SlotPlace}
 use Rattle.ser_values.specs.declared.node.SlotPlace.TheVariants as places
 use Rattle.ser_values.specs.Ranges.{NumbersFit, UnitsFit}
 use Rattle.ser_values.specs.declared.limits.TheConstants.{LEVELS, NODES, PARTS}
-use Rattle.ser_values.specs.Shape.{parts_in}
+use Rattle.ser_values.specs.Shape.{refs_in, parts_in}
 use Rattle.stream_grammar.specs.Spelled.{Spells, IsStream}
-use Rattle.stream_grammar.specs.Reading.{bad_magic, bad_code, negative_length, reset, inner_exception, Fault, short, bad, Progress, slot_at}
+use Rattle.stream_grammar.specs.Reading.{bad_magic, bad_code, negative_length, reset, inner_exception, Fault, short, bad, too_many, Progress, add_parts, slot_at}
 use Rattle.stream_grammar.specs.Faults.{DiffersHere}
 use Rattle.ser_read.specs.Here.{AreBytes}
 use Rattle.ser_read.specs.declared.serving.Want.{Want}
@@ -63,7 +63,7 @@ abbrev pub Runs : ℕ → ℕ → List ℕ → List ℕ × ℕ × List ℕ → T
 Runs zero left here y = y ≡ ([], left, here)
 Runs (suc n) left here y = (o : ℕ × List ℕ) × Opens left here o × (b : ℕ × List ℕ) × HasByte o.1 b × (r : List ℕ × ℕ × List ℕ) × Runs n (o.0 - 1) b.1 r × (y ≡ (b.0 ∷ r.0, r.1, r.2))
 
--- A reference behind empty blocks.
+-- A reference behind empty blocks. It is a part, which has room once the reference was read.
 pub record HasReference (now : Progress) (here : List ℕ) (later : Progress) (rest : List ℕ) : Type 0 where
   pub count : ℕ
   pub blocks : List ℕ
@@ -72,7 +72,10 @@ pub record HasReference (now : Progress) (here : List ℕ) (later : Progress) (r
   pub parts : here ≡ blocks ++ there
   pub begins : BeginsReference false there
   pub slot : Slot
-  pub read : Reads LEVELS places.Reference [] now there (slot, later, rest)
+  pub mid : Progress
+  pub read : Reads LEVELS places.Reference [] now there (slot, mid, rest)
+  pub few : mid.parts + 1 ≤ PARTS
+  pub same : later ≡ add_parts 1 mid
 
 -- What the wants ask for, one after the other: the nodes then, how many bytes of the present block are left, and what is behind.
 abbrev pub Serves : List Want → Progress → ℕ → List ℕ → Progress × ℕ × List ℕ → Type 0
@@ -87,16 +90,18 @@ pub record LeftInBlock (wants : List Want) (contents there : List ℕ) : Type 0 
   pub serves : Serves wants whole.nothing_read 0 contents (later, left, there)
   pub some : 0 < left
 
--- what was read of the nodes, where nothing else is being read
-abbrev pub so_far : List Node → Progress
-so_far nodes = record { nodes = nodes; parts = parts_in nodes }
+-- what was read of the nodes behind these answers, where nothing else is being read
+abbrev pub so_far : List Node → List Item → Progress
+so_far nodes answers = record { nodes = nodes; parts = parts_in nodes + refs_in answers }
 
 -- ---- faults of wants
 
--- Which fault the bytes behind the version show: of the reference that is wanted; of the length of the next block; of a code where block data is wanted; or of
--- a block that is left where a reference or the end is wanted.
+-- Which fault the bytes behind the version show: of the reference that is wanted; of one that is read, and is a part too many; of the length of the next block; of
+-- a code where block data is wanted; or of a block that is left where a reference or the end is wanted.
 pub data WantFails (end : ℕ) (wants : List Want) (contents : List ℕ) : WantFault → Type 0 where
-  of_reference : (fault : Fault) (there : List ℕ) (w : ReferenceWanted wants contents there) → BeginsReference false there → Fails end fault LEVELS places.Reference [] (so_far w.behind.nodes) there → WantFails end wants contents (inside fault)
+  of_reference : (fault : Fault) (there : List ℕ) (w : ReferenceWanted wants contents there) → BeginsReference false there → Fails end fault LEVELS places.Reference [] (so_far w.behind.nodes w.behind.answers) there → WantFails end wants contents (inside fault)
+  of_part : (there : List ℕ) (x : Slot × Progress × List ℕ) (w : ReferenceWanted wants contents there) → BeginsReference false there → Reads LEVELS places.Reference [] (so_far w.behind.nodes w.behind.answers) there x → PARTS < x.1.parts + 1
+      → WantFails end wants contents (inside (too_many (end - length there)))
   of_length : (there : List ℕ) (n : ℕ × List ℕ) → ReferenceWanted wants contents (0x7A ∷ there) ⊎ BytesWanted wants contents (0x7A ∷ there) → HasNumber w32 there n → 2 ^ 31 ≤ n.0 → WantFails end wants contents (inside (bad negative_length (end - length there)))
   of_reset : (there : List ℕ) → BytesWanted wants contents (0x79 ∷ there) → WantFails end wants contents (inside (bad reset (end - length (0x79 ∷ there))))
   of_exception : (there : List ℕ) → BytesWanted wants contents (0x7B ∷ there) → WantFails end wants contents (inside (bad inner_exception (end - length (0x7B ∷ there))))
@@ -137,8 +142,8 @@ ReferencesAreRead = (end left : ℕ) (p : SlotPlace) (unread : List ℕ) (now : 
 -- Behind wants that are spelled, bytes give a reference and these nodes more exactly where they spell them, within the limits.
 abbrev pub ReferencesAreSpelled : Type 0
 ReferencesAreSpelled = (wants : List Want) (answers : List Item) (before added : List Node) (front : List ℕ) (s : Slot) (here rest : List ℕ) → SpellsWants wants answers before front → length (before ++ added) ≤ NODES → AreBytes here
-    → Reads LEVELS places.Reference [] (so_far before) here (s, so_far (before ++ added), rest)
-    ↔ (Spells (before ++ added) LEVELS [] (places.Reference, s) (length before) here rest (length (before ++ added)) × NumbersFit (before ++ added) × UnitsFit (before ++ added) × (parts_in (before ++ added) ≤ PARTS))
+    → Reads LEVELS places.Reference [] (so_far before answers) here (s, so_far (before ++ added) answers, rest)
+    ↔ (Spells (before ++ added) LEVELS [] (places.Reference, s) (length before) here rest (length (before ++ added)) × NumbersFit (before ++ added) × UnitsFit (before ++ added) × (parts_in (before ++ added) + refs_in answers ≤ PARTS))
 
 -- Reading lists of wants answers a fault exactly where the bytes show it.
 abbrev pub WantFaultsAreShown : Type 0

@@ -267,11 +267,12 @@ units_fit texts o h =
 text_parts : (texts : List (List ℕ)) → parts_in (map (λ t. Text t) texts) ≡ 0
 unfolding parts_in
 text_parts [] = refl
-text_parts (t ∷ texts) = ap (λ (n : ℕ). 0 + n) (text_parts texts)
+text_parts (t ∷ texts) = let h = text_parts texts in omega arith
 
-no_parts : (texts : List (List ℕ)) (o : ClassOutline) → parts_in (nodes_with texts o) ≡ 0
-unfolding parts_in
-no_parts texts o = ap (λ (n : ℕ). 0 + n) (text_parts texts)
+-- the fields, and the null of the annotation
+part_count : (texts : List (List ℕ)) (o : ClassOutline) → parts_in (nodes_with texts o) ≡ length (fields_of texts o.members) + 1
+unfolding parts_in item_wants
+part_count texts o = let h = text_parts texts in omega arith
 
 node_count : (texts : List (List ℕ)) (o : ClassOutline) → length (nodes_with texts o) ≡ suc (length texts)
 node_count texts o = ap suc (length-map texts (λ t. Text t))
@@ -288,7 +289,7 @@ is_graph texts o h =
       numbered = (suc (length texts), num_desc texts o 198 [] h, node_count texts o);
       joined = refl;
       few_nodes = omega (arith, node_count texts o, many);
-      few_parts = omega (arith, no_parts texts o);
+      few_parts = omega (arith, few, part_count texts o, field_count texts o.members);
       numbers = numbers_fit texts o;
       units = units_fit texts o h;
       bytes = All-from_recursion ItemFits items_of no_bytes;

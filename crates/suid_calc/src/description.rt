@@ -97,7 +97,8 @@ fn count_fields(members: &[Member]) -> usize
 
 /// Adds the type text of a reference field, unless it is there.
 fn note_text(alloc: Global, texts: &mut Texts, member: &Member) -> Result<(), AllocError>
-    ensures { OnOk result (texts_in texts.new.keys ≡ with_type (texts_in texts.old.keys) member.now) }
+    ensures { OnOk result
+        (texts_in texts.new.keys ≡ with_type (texts_in texts.old.keys) member.now) }
 {
     if is_reference_field(member) {
         let text = Vec::from_slice(alloc, type_of(member))?;
@@ -161,7 +162,10 @@ fn put_primitives(
     members: &[Member],
 ) -> Result<(), AllocError>
     requires { length texts.now.keys ≤ MAX_FIELDS }
-    ensures { OnOk result (fields.new ≡ fields.old ++ map (field_of (texts_in texts.now.keys)) (filter is_primitive_field members.now)) }
+    ensures { OnOk result
+        (fields.new
+        ≡ fields.old
+        ++ map (field_of (texts_in texts.now.keys)) (filter is_primitive_field members.now)) }
 {
     for member in members {
         if is_primitive_field(member) {
@@ -179,7 +183,10 @@ fn put_references(
     members: &[Member],
 ) -> Result<(), AllocError>
     requires { length texts.now.keys ≤ MAX_FIELDS }
-    ensures { OnOk result (fields.new ≡ fields.old ++ map (field_of (texts_in texts.now.keys)) (filter is_reference_field members.now)) }
+    ensures { OnOk result
+        (fields.new
+        ≡ fields.old
+        ++ map (field_of (texts_in texts.now.keys)) (filter is_reference_field members.now)) }
 {
     for member in members {
         if is_reference_field(member) {

@@ -12,7 +12,8 @@ use std::alloc::{AllocError, Global};
 /// in another order. BadLine names the first bad line of the first text, or else of the second.
 pub fn numbers_of(alloc: Global, text: &[u8], other: &[u8]) -> Result<(i64, i64), OutlineFault>
     ensures same { IsReordered text.now other.now → IfOk result (λ numbers. numbers.0 ≡ numbers.1) }
-    ensures numbers { IfOk result (λ numbers. HasNumber text.now numbers.0 × HasNumber other.now numbers.1) }
+    ensures numbers { IfOk result
+        (λ numbers. HasNumber text.now numbers.0 × HasNumber other.now numbers.1) }
     ensures err { IfErr result (λ fault. IsUnread text.now fault ⊎ IsUnread other.now fault) }
 {
     let outline = parse_outline(alloc, text)?;

@@ -98,7 +98,8 @@ fn take_member<'a>(
 ) -> Result<Option<&'a [u8]>, AllocError>
     requires { AreKept (λ k. k.items) kept.old.entries }
     ensures kept { OnOk result (AreKept (λ k. k.items) kept.new.entries) }
-    ensures ok { IfOk result (λ o. Takes rest.now (values kept.old) (values kept.new) (option_copied o)) }
+    ensures ok { IfOk result
+        (λ o. Takes rest.now (values kept.old) (values kept.new) (option_copied o)) }
 {
     let Some((line, behind)) = split_at(b'\n', rest) else {
         return Ok(None);

@@ -129,7 +129,8 @@ fn lease_return(
     duration: &i64,
     client: &Vmid,
 ) -> Result<ByteList, AllocError>
-    ensures { IfOk result (λ bytes. bytes ≡ return_start uid ++ lease_object duration.now client.now) }
+    ensures { IfOk result
+        (λ bytes. bytes ≡ return_start uid ++ lease_object duration.now client.now) }
 {
     let mut out = begin(alloc, uid)?;
     put_lease(&mut out, duration)?;
@@ -144,7 +145,8 @@ pub(crate) fn lease_bytes(
     duration: &i64,
     client: &Vmid,
 ) -> Result<ByteList, AllocError>
-    ensures { IfOk result (λ bytes. bytes ≡ graph_return uid (lease_nodes duration.now client.now) lease_items) }
+    ensures { IfOk result
+        (λ bytes. bytes ≡ graph_return uid (lease_nodes duration.now client.now) lease_items) }
 {
     let bytes = lease_return(alloc, uid, duration, client)?;
     Ok(bytes)
@@ -279,7 +281,8 @@ fn note_with(alloc: Global, host: &[u8], tail: &[u8]) -> Result<ByteList, AllocE
 /// The note of a reference to an object of the server, made for a result. There is no memory for one whose host has more than 65,535 bytes.
 #[tactic(auto, unfolding(java_shapes::specs::RefNotes::ref_note))]
 fn own_note(alloc: Global, setup: &Setup, object: ObjId) -> Result<ByteList, AllocError>
-    ensures { IfOk result (λ bytes. bytes ≡ ref_note (reference_to (terms_of [] setup.now) object)) }
+    ensures { IfOk result
+        (λ bytes. bytes ≡ ref_note (reference_to (terms_of [] setup.now) object)) }
 {
     let host = spell_text(alloc, &setup.host)?;
     if host.len() > 65535 {
@@ -318,7 +321,8 @@ fn reference_return(
     interface: &Units,
     note: &[u8],
 ) -> Result<ByteList, AllocError>
-    ensures { IfOk result (λ bytes. bytes ≡ return_start uid ++ reference_object interface.now note.now) }
+    ensures { IfOk result
+        (λ bytes. bytes ≡ return_start uid ++ reference_object interface.now note.now) }
 {
     let mut out = begin(alloc, uid)?;
     put_proxy(alloc, &mut out, interface)?;
@@ -335,7 +339,8 @@ pub(crate) fn reference_bytes(
     interface: &Units,
     object: ObjId,
 ) -> Result<ByteList, AllocError>
-    ensures { IfOk result (λ bytes. bytes ≡ own_return (terms_of [] setup.now) uid interface.now object) }
+    ensures { IfOk result
+        (λ bytes. bytes ≡ own_return (terms_of [] setup.now) uid interface.now object) }
 {
     let note = own_note(alloc, setup, object)?;
     let bytes = reference_return(alloc, uid, interface, note.as_slice())?;

@@ -221,7 +221,9 @@ fn name_and_object(
     setup: &Setup,
     arguments: &Arguments,
 ) -> Result<(Name, ObjId), NoRequest>
-    ensures { Finds result (name_and_object (terms_of [] setup.now) (text_in arguments.now 0) (live_ref_in arguments.now 1)) }
+    ensures { Finds result
+        (name_and_object (terms_of [] setup.now) (text_in arguments.now 0)
+        (live_ref_in arguments.now 1)) }
 {
     let units = text_in(alloc, arguments, 0)?;
     let reference = live_ref_in(alloc, arguments, 1)?;
@@ -241,7 +243,10 @@ fn kept_name(alloc: Global, name: &Name) -> Result<ReplyContext, AllocError>
 
 /// Returns the request of a bind.
 fn bind(alloc: Global, setup: &Setup, arguments: &Arguments) -> Result<SystemRequest, NoRequest>
-    ensures { FindsRequest result (bind_of (name_and_object (terms_of [] setup.now) (text_in arguments.now 0) (live_ref_in arguments.now 1))) 0 }
+    ensures { FindsRequest result
+        (bind_of
+        (name_and_object (terms_of [] setup.now) (text_in arguments.now 0)
+        (live_ref_in arguments.now 1))) 0 }
 {
     let (name, object) = name_and_object(alloc, setup, arguments)?;
     let kept = kept_name(alloc, &name)?;
@@ -250,7 +255,10 @@ fn bind(alloc: Global, setup: &Setup, arguments: &Arguments) -> Result<SystemReq
 
 /// Returns the request of a rebind.
 fn rebind(alloc: Global, setup: &Setup, arguments: &Arguments) -> Result<SystemRequest, NoRequest>
-    ensures { FindsRequest result (rebind_of (name_and_object (terms_of [] setup.now) (text_in arguments.now 0) (live_ref_in arguments.now 1))) 0 }
+    ensures { FindsRequest result
+        (rebind_of
+        (name_and_object (terms_of [] setup.now) (text_in arguments.now 0)
+        (live_ref_in arguments.now 1))) 0 }
 {
     let (name, object) = name_and_object(alloc, setup, arguments)?;
     Ok(SystemRequest::Asks(Ask::Rebind { name, object }, ReplyContext::Nothing))
@@ -258,7 +266,8 @@ fn rebind(alloc: Global, setup: &Setup, arguments: &Arguments) -> Result<SystemR
 
 /// Returns the request of an unbind.
 fn unbind(alloc: Global, setup: &Setup, arguments: &Arguments) -> Result<SystemRequest, NoRequest>
-    ensures { FindsRequest result (unbind_of (name_to_unbind (terms_of [] setup.now) (text_in arguments.now 0))) 0 }
+    ensures { FindsRequest result
+        (unbind_of (name_to_unbind (terms_of [] setup.now) (text_in arguments.now 0))) 0 }
 {
     let name = name_to_unbind(alloc, setup, arguments)?;
     let kept = kept_name(alloc, &name)?;
@@ -282,7 +291,8 @@ fn registry_request(
     arguments: &Arguments,
     uid: Uid,
 ) -> Result<SystemRequest, NoRequest>
-    ensures { FindsRequest result (registry_request (terms_of [] setup.now) method arguments.now uid) 0 }
+    ensures { FindsRequest result
+        (registry_request (terms_of [] setup.now) method arguments.now uid) 0 }
 {
     match method {
         RegistryMethod::Bind => bind(alloc, setup, arguments),
@@ -297,7 +307,9 @@ fn registry_request(
 
 /// Returns the request of a clean.
 fn clean(alloc: Global, arguments: &Arguments) -> Result<SystemRequest, NoRequest>
-    ensures { FindsRequest result (clean_of (number_in arguments.now 1) (truth_in arguments.now 3) (vmid_in arguments.now 2) (objids_in arguments.now 0)) 0 }
+    ensures { FindsRequest result
+        (clean_of (number_in arguments.now 1) (truth_in arguments.now 3) (vmid_in arguments.now 2)
+        (objids_in arguments.now 0)) 0 }
 {
     let number = number_in(arguments, 1)?;
     let strong = truth_in(arguments, 3)?;
@@ -339,7 +351,8 @@ fn dirty_with(
     asked: i64,
     objects: ObjIds,
 ) -> Result<(Ask, ReplyContext), AllocError>
-    ensures { IfOk result (λ parts. (parts.0 ≡ Dirty client number asked objects) × (parts.1 ≡ ReplyContext.Client client)) }
+    ensures { IfOk result (λ parts. (parts.0 ≡ Dirty client number asked objects)
+        × (parts.1 ≡ ReplyContext.Client client)) }
 {
     let kept = kept_client(alloc, &client)?;
     let ask = Ask::Dirty {
@@ -359,8 +372,11 @@ fn dirty(
     arguments: &Arguments,
     uid: Uid,
 ) -> Result<SystemRequest, NoRequest>
-    ensures { FindsRequest result (dirty_of (terms_of [] setup.now) uid (number_in arguments.now 1) (lease_in arguments.now 2) (objids_in arguments.now 0))
-        (unnamed (number_in arguments.now 1) (lease_in arguments.now 2) (objids_in arguments.now 0)) }
+    ensures { FindsRequest result
+        (dirty_of (terms_of [] setup.now) uid (number_in arguments.now 1) (lease_in arguments.now 2)
+        (objids_in arguments.now 0))
+        (unnamed (number_in arguments.now 1) (lease_in arguments.now 2)
+        (objids_in arguments.now 0)) }
 {
     let number = number_in(arguments, 1)?;
     let lease = lease_in(alloc, arguments, 2)?;
@@ -384,7 +400,9 @@ fn collector_request(
     arguments: &Arguments,
     client: Uid,
 ) -> Result<SystemRequest, NoRequest>
-    ensures { FindsRequest result (collector_request (terms_of [] setup.now) method arguments.now client) (client_draws (Collector method) arguments.now) }
+    ensures { FindsRequest result
+        (collector_request (terms_of [] setup.now) method arguments.now client)
+        (client_draws (Collector method) arguments.now) }
 {
     match method {
         CollectorMethod::Clean => clean(alloc, arguments),
@@ -396,9 +414,10 @@ fn collector_request(
 
 /// Returns the request of a call of a method with these arguments, or why it is rejected.
 ///
-/// A wrong argument comes first, then that binding is closed, a name that is too long, and a reference of another host or port. The
-/// identifiers are those of a client that its lease doesn't name, and of the Return. No request has both, so the one that is drawn first can stand at both places. It is
-/// refused only for want of memory.
+/// A wrong argument is found first, then a closed binding, a name that is too long, and a reference of another host or port.
+///
+/// One identifier is for a client that its lease doesn't name, the other for the Return. No request needs both, so the caller may pass one identifier
+/// twice. The call fails only if there is no memory.
 #[tactic(auto, unfolding(crate::specs::SystemRequests::request_of, crate::specs::SystemRequests::client_draws))]
 pub fn request_for(
     alloc: Global,
@@ -408,7 +427,9 @@ pub fn request_for(
     client: Uid,
     uid: Uid,
 ) -> Result<SystemRequest, AllocError>
-    ensures { IfOk result (IsRequest (request_of (terms_of [] setup.now) method arguments.now client uid) (client_draws method arguments.now)) }
+    ensures { IfOk result
+        (IsRequest (request_of (terms_of [] setup.now) method arguments.now client uid)
+        (client_draws method arguments.now)) }
 {
     let request = match method {
         SystemMethod::Registry(method) => registry_request(alloc, setup, method, arguments, uid),

@@ -35,7 +35,8 @@ pub fn own_return(
     interface: &Units,
     object: ObjId,
 ) -> Result<ByteList, AllocError>
-    ensures written { IfOk result (λ bytes. bytes ≡ own_return (terms_of [] setup.now) uid interface.now object) }
+    ensures written { IfOk result
+        (λ bytes. bytes ≡ own_return (terms_of [] setup.now) uid interface.now object) }
     ensures short { IfOk result (λ bytes. length bytes ≤ RETURN_BYTES) }
 {
     let bytes = reference_bytes(alloc, setup, uid, interface, object)?;

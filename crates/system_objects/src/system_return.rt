@@ -112,7 +112,8 @@ fn object_return(
     kind: &Kind,
 ) -> Result<ByteList, AllocError>
     requires { length (utf setup.now.host) ≤ MAX_HOST_BYTES }
-    ensures { IfOk result (λ bytes. bytes ≡ found_return (terms_of [] setup.now) uid object (Some kind.now)) }
+    ensures { IfOk result
+        (λ bytes. bytes ≡ found_return (terms_of [] setup.now) uid object (Some kind.now)) }
 {
     reference_bytes(alloc, setup, uid, &kind.interface, object)
 }
@@ -127,7 +128,8 @@ fn found_return(
     kind: u32,
 ) -> Result<ByteList, AllocError>
     requires { length (utf setup.now.host) ≤ MAX_HOST_BYTES }
-    ensures { IfOk result (λ bytes. bytes ≡ found_return (terms_of book.now setup.now) uid object (slice_get book.now kind)) }
+    ensures { IfOk result (λ bytes.
+        bytes ≡ found_return (terms_of book.now setup.now) uid object (slice_get book.now kind)) }
 {
     match book.kind(kind) {
         Some(kind) => object_return(alloc, setup, uid, object, kind),
@@ -147,7 +149,8 @@ fn reply_return(
     reply: &Reply,
 ) -> Result<ByteList, AllocError>
     requires { length (utf setup.now.host) ≤ MAX_HOST_BYTES }
-    ensures { IfOk result (λ bytes. bytes ≡ reply_return (terms_of book.now setup.now) uid kept.now reply.now) }
+    ensures { IfOk result
+        (λ bytes. bytes ≡ reply_return (terms_of book.now setup.now) uid kept.now reply.now) }
 {
     match reply {
         Reply::Granted(duration) => lease_return(alloc, uid, *duration, kept),
@@ -173,7 +176,8 @@ fn kept_return(
     answer: &Result<Turn, Refused>,
 ) -> Result<ByteList, AllocError>
     requires { length (utf setup.now.host) ≤ MAX_HOST_BYTES }
-    ensures { IfOk result (λ bytes. bytes ≡ kept_return (terms_of book.now setup.now) uid kept.now answer.now) }
+    ensures { IfOk result
+        (λ bytes. bytes ≡ kept_return (terms_of book.now setup.now) uid kept.now answer.now) }
 {
     match answer {
         Ok(turn) => reply_return(alloc, setup, book, uid, kept, &turn.reply),
@@ -193,7 +197,9 @@ pub fn system_return(
     answer: &Result<Turn, Refused>,
 ) -> Result<ByteList, AllocError>
     requires host { length (utf setup.now.host) ≤ MAX_HOST_BYTES }
-    ensures written { (ask : Ask) → kept.now ≡ kept_of ask → IfOk result (λ bytes. bytes ≡ answer_written (terms_of book.now setup.now) uid ask answer.now) }
+    ensures written { (ask : Ask) → kept.now ≡ kept_of ask
+        → IfOk result
+        (λ bytes. bytes ≡ answer_written (terms_of book.now setup.now) uid ask answer.now) }
     ensures short { IfOk result (λ bytes. length bytes ≤ RETURN_BYTES) }
 {
     let bytes = kept_return(alloc, setup, book, uid, kept, answer)?;

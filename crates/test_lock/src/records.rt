@@ -67,7 +67,7 @@ fn take_often<R: Wait>(
     for _ in 0..times {
         let _answer = root.turn(rt, alloc, lock, 0, Ask::Tick);
         let part = root.take_recent(rt, lock, parts.len());
-        parts.put(part);
+        parts.put(part.ok());
     }
     (root, parts)
 }
@@ -109,7 +109,7 @@ fn record_two<R: Threads + Wait + Sync>(rt: &R, alloc: Global) -> Option<(Space,
     };
     let (root, mut parts) = take_beside(rt, alloc, &lock, root)?;
     let (space, rest) = lock.close_recording(root, parts.len());
-    parts.put(rest);
+    parts.put(rest.ok());
     Some((space, parts))
 }
 
@@ -165,10 +165,10 @@ fn take_wrong<R: Wait>(
     requires own { IsRootOf lock.now root.old }
 {
     let _answer = root.turn(rt, alloc, lock, 0, Ask::Tick);
-    let wrong = root.take_recent(rt, lock, 1).is_some();
+    let wrong = root.take_recent(rt, lock, 1).is_ok();
     let right = match root.take_recent(rt, lock, 0) {
-        Some(part) => Some(part.len()),
-        None => None,
+        Ok(part) => Some(part.len()),
+        Err(_fault) => None,
     };
     (wrong, right)
 }

@@ -130,18 +130,36 @@ const NODES_OF_CLASSES: &str =
     "* : ACED0005 (65535 * 740000) 73 72 'A' 0000000000000001 04 0000 78 70 : 999999 : too large nodes at 196609
 * : ACED0005 (65535 * 740000) 75 72 'A' 0000000000000001 02 0000 78 70 : 999999 : too large nodes at 196609";
 
-/// The same of as many items as a message gets memory for, and of a further one.
+/// The same of as many parts as a message may have, and of a further one: nulls, and handles of one text.
 const ITEMS: &str = "* : ACED0005 (1048576 * 70) : 9999999 : read
-* : ACED0005 (1048577 * 70) : 9999999 : out of memory";
+* : ACED0005 (1048577 * 70) : 9999999 : too large nodes at 1048580
+* : ACED0005 740000 (1048575 * 71007E0000) : 9999999 : read
+* : ACED0005 740000 (1048576 * 71007E0000) : 9999999 : too large nodes at 5242882";
 
-/// The same of one more: blocks and nulls by turns, and items of an annotation.
-const NOTES: &str = "* : ACED0005 (524288 * 770101 70) 70 : 9999999 : out of memory
-* : ACED0005 72 'A' 0000000000000001 02 0000 (1048576 * 70) 78 70 : 9999999 : out of memory";
+/// The same of references of an annotation, whose description is an item itself, and of blocks and nulls by turns.
+const NOTES: &str = "* : ACED0005 (1048576 * 770101 70) : 9999999 : read
+* : ACED0005 (1048576 * 770101 70) 70 : 9999999 : too large nodes at 4194308
+* : ACED0005 72 'A' 0000000000000001 02 0000 (1048575 * 70) 78 70 : 9999999 : read
+* : ACED0005 72 'A' 0000000000000001 02 0000 (1048576 * 70) 78 70 : 9999999 : too large nodes at 4
+* : ACED0005 72 'A' 0000000000000001 02 0000 (1048577 * 70) 78 70 : 9999999 : too large nodes at 1048595";
 
-/// The same of elements of an array, and of names of a proxy's interfaces.
+/// The same of elements of an array, and of names of a proxy's interfaces. Too many are refused before they are read.
 const ELEMENTS: &str =
-    "* : ACED0005 75 72 '[LA;' 0000000000000001 02 0000 78 70 00100000 (1048576 * 70) : 9999999 : out of memory
-* : ACED0005 7D 00100000 (1048576 * 0000) 78 70 : 9999999 : out of memory";
+    "* : ACED0005 75 72 '[LA;' 0000000000000001 02 0000 78 70 000FFFFF (1048575 * 70) : 9999999 : read
+* : ACED0005 75 72 '[LA;' 0000000000000001 02 0000 78 70 00100000 (1048576 * 70) : 9999999 : too large nodes at 4
+* : ACED0005 75 72 '[LA;' 0000000000000001 02 0000 78 70 00100001 : 9999999 : too large nodes at 4
+* : ACED0005 7D 000FFFFF (1048575 * 0000) 78 70 : 9999999 : read
+* : ACED0005 7D 00100000 (1048576 * 0000) 78 70 : 9999999 : too large nodes at 4
+* : ACED0005 7D 00100001 : 9999999 : too large nodes at 4";
+
+/// The same of wanted references, of fields, and of an object's parts and values, behind elements that leave room for few.
+const BEHIND: &str =
+    "rr : ACED0005 75 72 '[LA;' 0000000000000001 02 0000 78 70 000FFFFE (1048574 * 70) 70 : 9999999 : read
+rrr : ACED0005 75 72 '[LA;' 0000000000000001 02 0000 78 70 000FFFFE (1048574 * 70) 70 70 : 9999999 : too large nodes at 1048604
+* : ACED0005 75 72 '[LA;' 0000000000000001 02 0000 78 70 000FFFFD (1048573 * 70) 72 'A' 0000000000000001 02 0001 49 'a' 78 70 : 9999999 : read
+* : ACED0005 75 72 '[LA;' 0000000000000001 02 0000 78 70 000FFFFE (1048574 * 70) 72 'A' 0000000000000001 02 0002 : 9999999 : too large nodes at 1048603
+* : ACED0005 75 72 '[LA;' 0000000000000001 02 0000 78 70 000FFFFB (1048571 * 70) 73 72 'A' 0000000000000001 02 0001 49 'a' 78 70 00000001 : 9999999 : read
+* : ACED0005 75 72 '[LA;' 0000000000000001 02 0000 78 70 000FFFFD (1048573 * 70) 73 72 'A' 0000000000000001 02 0001 49 'a' 78 70 : 9999999 : too large nodes at 1048602";
 
 /// Asks a reader for one thing. Its answer, or its refusal, is kept by the reader.
 fn ask(alloc: Global, pull: &mut Pull<'_, MemSource>, reader: &mut Reader, want: u8) {
@@ -257,6 +275,11 @@ fn blocks_and_items_of_annotations_are_at_most_1048576(rt: HostRuntime) {
 #[test]
 fn elements_and_names_are_at_most_1048576(rt: HostRuntime) {
     check_whole(&rt, rt.alloc(), ELEMENTS);
+}
+
+#[test]
+fn wants_fields_and_values_are_at_most_1048576(rt: HostRuntime) {
+    check_whole(&rt, rt.alloc(), BEHIND);
 }
 
 /// Returns the numbers of answers to a list of wants, of items and nodes of its graph, and of bytes that were taken.

@@ -7,7 +7,7 @@ use Rattle.history.specs.declared.asks.Event.{Event}
 use Rattle.history.specs.declared.replies.Refused.{Refused}
 use Rattle.history.specs.declared.replies.Turn.{Turn}
 use Rattle.turn_lock.specs.Recent.{IsRest}
-use Rattle.turn_lock.specs.Rule.{Events, events_after}
+use Rattle.turn_lock.specs.Rule.{Events, events_answered}
 
 -- One event more.
 pub rest_more : (from : ℕ) (h part : Events) (e : Event) → IsRest from h part → IsRest from (h ++ e ∷ []) (part ++ e ∷ [])
@@ -18,7 +18,7 @@ rest_more from h part e r =
     )
 
 -- The events after an answer.
-pub rest_after : (from : ℕ) (h part : Events) (e : Event) (answer : Result Turn Refused) → IsRest from h part → IsRest from (events_after h e answer) (events_after part e answer)
+pub rest_after : (from : ℕ) (h part : Events) (e : Event) (answer : Result Turn Refused) → IsRest from h part → IsRest from (events_answered h e answer) (events_answered part e answer)
 rest_after from h part e (Ok turn) r = rest_more from h part e r
 rest_after from h part e (Err refused) r = r
 

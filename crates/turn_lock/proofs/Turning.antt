@@ -26,7 +26,7 @@ use Rattle.space.proofs.CollectLaws.{space-shown}
 use Rattle.space.proofs.NotedLaws.{taken-turn, refused-turn}
 use Rattle.turn_lock.specs.declared.view.View.{View}
 use Rattle.turn_lock.specs.declared.view.SeatState.TheVariants.{Idle, Called}
-use Rattle.turn_lock.specs.Rule.{Events, Sat, MayComeTo, TurnedAt, TurnedBy, answer_of, events_after, in_state, no_config, own_after, space_with, seat_after_answer}
+use Rattle.turn_lock.specs.Rule.{Events, Sat, MayComeTo, TurnedAt, TurnedBy, answer_of, events_answered, in_state, no_config, own_after, space_with, seat_after_answer}
 
 -- ---- the slot
 
@@ -87,7 +87,7 @@ pub noted_step : (noted : Result (Result Turn Refused × Asked) AllocError) (con
 noted_step (Ok x) config h s s2 e is step kept = subst (λ (y : SpaceHistory). Step y.configuration y.events e x.0 s2.events) is step
 noted_step (Err r) config h s s2 e is step kept = inr (refl, ap (λ (y : SpaceHistory). y.events) (kept ∙ is))
 
-pub after_step : (config : SpaceConfig) (h h2 : Events) (e : Event) (answer : Result Turn Refused) → Step config h e answer h2 → h2 ≡ events_after h e answer
+pub after_step : (config : SpaceConfig) (h h2 : Events) (e : Event) (answer : Result Turn Refused) → Step config h e answer h2 → h2 ≡ events_answered h e answer
 after_step config h h2 e (Ok turn) s = (taken-turn config h h2 e turn s).1
 after_step config h h2 e (Err refused) s = (refused-turn config h h2 e refused s).1
 
@@ -99,7 +99,7 @@ after_turn v t h e answer = in_state (seat_after_answer (in_state v (Called t h)
 
 pub turned_at : (v w : View) (t : ℕ) (h : Events) (e : Event) (answer : Result Turn Refused) (h2 : Events) → v.state ≡ Idle → MayComeTo v h → Step v.config h e answer h2 → w ≡ after_turn v t h e answer → TurnedAt v h e answer w
 turned_at v w t h e answer h2 idle came step is =
-    let seen : w.seen ≡ events_after h e answer = ap (λ (y : View). y.seen) is in record {
+    let seen : w.seen ≡ events_answered h e answer = ap (λ (y : View). y.seen) is in record {
       came = came;
       step = subst (λ (z : Events). Step v.config h e answer z) (after_step v.config h h2 e answer step ∙ sym seen) step;
       after = is ∙ (λ i. record v { seen = sym seen i; own = own_after v.own e answer; state = sym idle i });
@@ -109,15 +109,15 @@ turned_at v w t h e answer h2 idle came step is =
 
 -- The seat that has the space in hand may publish this answer to this event.
 pub may_publish : (me : Sat) (v : View) (t : ℕ) (h : Events) (told e : Event) (answer : Result Turn Refused) (s2 : SpaceHistory) → me ≡ (in_state v (Called t h), (0, None) ∷ []) → told ≡ e → e.by ≡ v.number → 0 < v.parts
-    → s2 ≡ space_with v.config (events_after h e answer)
-    → (t2 : ℕ) × (h2 : Events) × (me.0.state ≡ Called t2 h2) × (0 < me.0.parts) × (told.by ≡ me.0.number) × (s2 ≡ space_with me.0.config (events_after h2 told answer))
+    → s2 ≡ space_with v.config (events_answered h e answer)
+    → (t2 : ℕ) × (h2 : Events) × (me.0.state ≡ Called t2 h2) × (0 < me.0.parts) × (told.by ≡ me.0.number) × (s2 ≡ space_with me.0.config (events_answered h2 told answer))
 may_publish me v t h told e answer s2 is same number part space = (
   t,
   h,
   ap (λ (m : Sat). m.0.state) is,
   subst (λ (m : Sat). 0 < m.0.parts) (sym is) part,
   ap (λ (y : Event). y.by) same ∙ number ∙ ap (λ (m : Sat). m.0.number) (sym is),
-  space ∙ ap (λ (m : Sat). space_with m.0.config (events_after h e answer)) (sym is) ∙ ap (λ (y : Event). space_with me.0.config (events_after h y answer)) (sym same),
+  space ∙ ap (λ (m : Sat). space_with m.0.config (events_answered h e answer)) (sym is) ∙ ap (λ (y : Event). space_with me.0.config (events_answered h y answer)) (sym same),
 )
 
 -- The seat once it is published.
@@ -131,15 +131,15 @@ has_published me me2 v t h told e answer is same view =
 
 -- It may give the space back.
 pub may_leave : (me : Sat) (v : View) (t : ℕ) (h : Events) (e : Event) (answer : Result Turn Refused) (s2 : SpaceHistory) → me ≡ (seat_after_answer (in_state v (Called t h)) t h e answer, (0, None) ∷ []) → 0 < v.parts
-    → s2 ≡ space_with v.config (events_after h e answer)
+    → s2 ≡ space_with v.config (events_answered h e answer)
     → (t2 : ℕ) × (h2 : Events) × (me.0.state ≡ Called t2 h2) × (0 < me.0.parts) × (me.1 ≡ (0, None) ∷ []) × (s2 ≡ space_with me.0.config h2)
 may_leave me v t h e answer s2 is part space = (
   t,
-  events_after h e answer,
+  events_answered h e answer,
   ap (λ (m : Sat). m.0.state) is,
   subst (λ (m : Sat). 0 < m.0.parts) (sym is) part,
   ap (λ (m : Sat). m.1) is,
-  space ∙ ap (λ (m : Sat). space_with m.0.config (events_after h e answer)) (sym is),
+  space ∙ ap (λ (m : Sat). space_with m.0.config (events_answered h e answer)) (sym is),
 )
 
 -- Other connections' events leave the calls that a connection runs.

@@ -214,13 +214,13 @@ own_after own e (Ok turn) = with_event own e
 own_after own e (Err refused) = own
 
 -- The history after this answer.
-abbrev pub events_after : Events → Event → Result Turn Refused → Events
-events_after h e (Ok turn) = with_event h e
-events_after h e (Err refused) = h
+abbrev pub events_answered : Events → Event → Result Turn Refused → Events
+events_answered h e (Ok turn) = with_event h e
+events_answered h e (Err refused) = h
 
 -- The seat once the answer to its event is published.
 abbrev pub seat_after_answer : View → ℕ → Events → Event → Result Turn Refused → View
-seat_after_answer v t h e answer = record v { seen = events_after h e answer; own = own_after v.own e answer; state = Called t (events_after h e answer) }
+seat_after_answer v t h e answer = record v { seen = events_answered h e answer; own = own_after v.own e answer; state = Called t (events_answered h e answer) }
 
 -- The answer of a turn with its entry.
 abbrev pub answer_of : {E : Type 0} → Result (Result Turn Refused × Asked) E → Result Turn Refused

@@ -1,5 +1,5 @@
 //! The content of a lock's slot: the space, and the recent events where the lock keeps them.
-ghost use Rattle.std.specs.Prelude.{◌≡◌, ◌≢◌, ◌≤◌, ◌<◌, ◌∷◌, ◌++◌, [], true, false, length, vec_capacity, Err, Ok, Some, IfOk, IfSome, MatchResult, OnOk, OnErr};
+ghost use Rattle.std.specs.Prelude.{◌≡◌, ◌≢◌, ◌⊎◌, ◌≤◌, ◌<◌, ◌∷◌, ◌++◌, [], true, false, length, vec_capacity, Err, Ok, Some, IfOk, IfSome, MatchResult, OnOk, OnErr};
 ghost use Rattle.history.specs.declared.asks.Ask.TheVariants.{Abandon};
 ghost use Rattle.history.specs.Collector.{Collects};
 ghost use Rattle.history.specs.Running.{running_calls_by};
@@ -8,7 +8,7 @@ ghost use Rattle.history.specs.Table.{places, table, with_event};
 ghost use Rattle.history.specs.declared.limits.TheConstants.{END_OF_TIME};
 ghost use Rattle.space.specs.Acts.{event_of};
 ghost use Rattle.space.specs.Entries.{entry_of};
-ghost use Rattle.space.specs.Idle.{TickChangesNothing, untold_of};
+ghost use Rattle.space.specs.Idle.{SomethingEnds, TickChangesNothing, untold_of};
 ghost use Rattle.space.specs.TurnAnswers.{IsAnswerTo};
 ghost use Rattle.turn_lock.specs.Kept.{KeepsRecent};
 ghost use Rattle.turn_lock.specs.Recent.{IsRest};
@@ -50,6 +50,7 @@ impl Model for Desk {
 /// A desk in a box, so that one pointer moves from a thread to the next one. Contracts see it as the space.
 #[derive(Drop)]
 pub struct DeskBox {
+    /// The desk.
     pub(crate) kept: Box<Desk>,
 }
 
@@ -63,7 +64,7 @@ impl Model for DeskBox {
 }
 
 impl DeskBox {
-    /// A space in a box, without its recent events, or with those from here on. It is refused only for want of memory; then the space comes back.
+    /// Puts a space into a box, without its recent events, or with those from here on. If there is no memory, the space comes back.
     pub(crate) fn new(alloc: Global, space: Space, records: bool) -> Result<DeskBox, Space>
         ensures { MatchResult result (λ b. b ≡ space) (λ s. s ≡ space) }
     {
@@ -104,7 +105,8 @@ impl DeskBox {
     pub(crate) fn len(&self) -> u64
         ensures value { result ≡ length self.now.events }
         ensures legal { IsLegal self.now.configuration self.now.events }
-        ensures rows { self.now.rows ≡ table self.now.configuration (places self.now.configuration self.now.events) }
+        ensures rows { self.now.rows
+            ≡ table self.now.configuration (places self.now.configuration self.now.events) }
     {
         self.kept.space.len()
     }
@@ -146,11 +148,16 @@ impl Desk {
     /// Does what `Space::turn` does. Where events are kept, and there is no memory for this one, it is refused before it is taken.
     pub(crate) fn turn(&mut self, by: u32, moment: u64, ask: Ask) -> Result<Turn, Refused>
         requires moment { moment < END_OF_TIME }
-        ensures step { Step self.old.configuration self.old.events (event_of by moment ask) result self.new.events }
-        ensures collector { OnOk result (Collects self.old.configuration self.old.events self.old.rows (event_of by moment ask) self.new.events self.new.rows) }
+        ensures step { Step self.old.configuration self.old.events (event_of by moment ask) result
+            self.new.events }
+        ensures collector { OnOk result
+            (Collects self.old.configuration self.old.events self.old.rows (event_of by moment ask)
+            self.new.events self.new.rows) }
         ensures config { self.new.configuration ≡ self.old.configuration }
         ensures err { OnErr result (self.new ≡ self.old) }
-        ensures row { IsAnswerTo (λ o. 0 < running_calls_by (places self.old.configuration self.old.events) by o) ask result }
+        ensures row { IsAnswerTo
+            (λ o. 0 < running_calls_by (places self.old.configuration self.old.events) by o) ask
+            result }
     {
         match &mut self.recent {
             Some(recent) => turn_kept(&mut self.space, recent, by, moment, ask),
@@ -166,10 +173,15 @@ impl Desk {
         ask: Ask,
     ) -> Result<(Result<Turn, Refused>, Asked), AllocError>
         requires moment { moment < END_OF_TIME }
-        ensures step { IfOk result (λ x. Step self.old.configuration self.old.events (event_of by moment ask) x.0 self.new.events) }
-        ensures collector { IfOk result (λ x. OnOk x.0 (Collects self.old.configuration self.old.events self.old.rows (event_of by moment ask) self.new.events self.new.rows)) }
+        ensures step { IfOk result (λ x. Step self.old.configuration self.old.events
+            (event_of by moment ask) x.0 self.new.events) }
+        ensures collector { IfOk result (λ x. OnOk x.0
+            (Collects self.old.configuration self.old.events self.old.rows (event_of by moment ask)
+            self.new.events self.new.rows)) }
         ensures noted { IfOk result (λ x. x.1 ≡ entry_of moment ask x.0) }
-        ensures row { IfOk result (λ x. IsAnswerTo (λ o. 0 < running_calls_by (places self.old.configuration self.old.events) by o) ask x.0) }
+        ensures row { IfOk result (λ x. IsAnswerTo
+            (λ o. 0 < running_calls_by (places self.old.configuration self.old.events) by o) ask
+            x.0) }
         ensures known { IfOk result (λ x. x.0 ≢ Err Refused.OutOfMemory) }
         ensures refused { IfOk result (λ x. OnErr x.0 (self.new ≡ self.old)) }
         ensures config { self.new.configuration ≡ self.old.configuration }
@@ -184,26 +196,33 @@ impl Desk {
     /// Does what `Space::abandon` does. Where there is no room for the event among the kept ones, no events are kept any more.
     pub(crate) fn abandon(&mut self, by: u32, moment: u64, object: ObjId)
         requires moment { moment < END_OF_TIME }
-        requires running { 0 < running_calls_by (places self.old.configuration self.old.events) by object }
-        ensures events { self.new.events ≡ with_event self.old.events (event_of by moment (Abandon object)) }
+        requires running { 0 < running_calls_by (places self.old.configuration self.old.events) by
+            object }
+        ensures events { self.new.events
+            ≡ with_event self.old.events (event_of by moment (Abandon object)) }
         ensures config { self.new.configuration ≡ self.old.configuration }
-        ensures collector { Collects self.old.configuration self.old.events self.old.rows (event_of by moment (Abandon object)) self.new.events self.new.rows }
+        ensures collector { Collects self.old.configuration self.old.events self.old.rows
+            (event_of by moment (Abandon object)) self.new.events self.new.rows }
         ensures step { let e = event_of by moment (Abandon object) in
-            Step self.old.configuration self.old.events e (Ok (turn_of self.old.configuration self.old.events e)) self.new.events }
+            Step self.old.configuration self.old.events e
+            (Ok (turn_of self.old.configuration self.old.events e)) self.new.events }
     {
         abandon_kept(&mut self.space, &mut self.recent, by, moment, object);
     }
 
-    /// Returns whether a Tick at this moment would end a lease or a wait, or tell withdrawals as gone.
+    /// Returns whether a Tick at this moment would end a lease or a wait, or report objects as gone.
     pub(crate) fn wants_tick(&self, moment: u64) -> bool
-        ensures change { result ≡ false → TickChangesNothing self.now.configuration self.now.events moment }
-        ensures told { result ≡ false → untold_of self.now.configuration self.now.events ≡ [] }
+        ensures due { result ≡ true → SomethingEnds self.now.configuration self.now.events moment
+            ⊎ (0 < length (untold_of self.now.configuration self.now.events)) }
+        ensures change { result ≡ false
+            → TickChangesNothing self.now.configuration self.now.events moment }
+        ensures reported { result ≡ false → untold_of self.now.configuration self.now.events ≡ [] }
     {
         self.space.has_ended(moment) || self.space.has_untold()
     }
 
-    /// Hands out the events from this place on, and forgets them. The space is as it was. None are handed out where they aren't kept from this
-    /// place on, or for want of memory; then none is forgotten.
+    /// Hands out the events from this place on, and forgets them. The space is as it was. It returns None if they aren't kept from this place on,
+    /// or if there is no memory. Then none is forgotten.
     pub(crate) fn take_recent(&mut self, from: u64) -> Option<EventList>
         ensures same { self.new ≡ self.old }
         ensures recent { IfSome result (λ part. IsRest from self.old.events part) }
@@ -227,11 +246,16 @@ fn turn_kept(
     requires kept { IsRest recent.old.from space.old.events recent.old.events.items }
     requires moment { moment < END_OF_TIME }
     ensures kept { IsRest recent.new.from space.new.events recent.new.events.items }
-    ensures step { Step space.old.configuration space.old.events (event_of by moment ask) result space.new.events }
-    ensures collector { OnOk result (Collects space.old.configuration space.old.events space.old.rows (event_of by moment ask) space.new.events space.new.rows) }
+    ensures step { Step space.old.configuration space.old.events (event_of by moment ask) result
+        space.new.events }
+    ensures collector { OnOk result
+        (Collects space.old.configuration space.old.events space.old.rows (event_of by moment ask)
+        space.new.events space.new.rows) }
     ensures config { space.new.configuration ≡ space.old.configuration }
     ensures err { OnErr result (space.new ≡ space.old) }
-    ensures row { IsAnswerTo (λ o. 0 < running_calls_by (places space.old.configuration space.old.events) by o) ask result }
+    ensures row { IsAnswerTo
+        (λ o. 0 < running_calls_by (places space.old.configuration space.old.events) by o) ask
+        result }
 {
     match recent.prepare(by, moment, &ask) {
         Ok(event) => {
@@ -258,10 +282,15 @@ fn turn_noted_kept(
     requires kept { IsRest recent.old.from space.old.events recent.old.events.items }
     requires moment { moment < END_OF_TIME }
     ensures kept { IsRest recent.new.from space.new.events recent.new.events.items }
-    ensures step { IfOk result (λ x. Step space.old.configuration space.old.events (event_of by moment ask) x.0 space.new.events) }
-    ensures collector { IfOk result (λ x. OnOk x.0 (Collects space.old.configuration space.old.events space.old.rows (event_of by moment ask) space.new.events space.new.rows)) }
+    ensures step { IfOk result (λ x. Step space.old.configuration space.old.events
+        (event_of by moment ask) x.0 space.new.events) }
+    ensures collector { IfOk result (λ x. OnOk x.0
+        (Collects space.old.configuration space.old.events space.old.rows (event_of by moment ask)
+        space.new.events space.new.rows)) }
     ensures noted { IfOk result (λ x. x.1 ≡ entry_of moment ask x.0) }
-    ensures row { IfOk result (λ x. IsAnswerTo (λ o. 0 < running_calls_by (places space.old.configuration space.old.events) by o) ask x.0) }
+    ensures row { IfOk result (λ x. IsAnswerTo
+        (λ o. 0 < running_calls_by (places space.old.configuration space.old.events) by o) ask
+        x.0) }
     ensures known { IfOk result (λ x. x.0 ≢ Err Refused.OutOfMemory) }
     ensures refused { IfOk result (λ x. OnErr x.0 (space.new ≡ space.old)) }
     ensures config { space.new.configuration ≡ space.old.configuration }
@@ -285,13 +314,17 @@ fn turn_noted_kept(
 fn abandon_kept(space: &mut Space, recent: &mut Option<Recent>, by: u32, moment: u64, object: ObjId)
     requires kept { KeepsRecent space.old.events recent.old }
     requires moment { moment < END_OF_TIME }
-    requires running { 0 < running_calls_by (places space.old.configuration space.old.events) by object }
+    requires running { 0 < running_calls_by (places space.old.configuration space.old.events) by
+        object }
     ensures kept { KeepsRecent space.new.events recent.new }
-    ensures events { space.new.events ≡ with_event space.old.events (event_of by moment (Abandon object)) }
+    ensures events { space.new.events
+        ≡ with_event space.old.events (event_of by moment (Abandon object)) }
     ensures config { space.new.configuration ≡ space.old.configuration }
-    ensures collector { Collects space.old.configuration space.old.events space.old.rows (event_of by moment (Abandon object)) space.new.events space.new.rows }
+    ensures collector { Collects space.old.configuration space.old.events space.old.rows
+        (event_of by moment (Abandon object)) space.new.events space.new.rows }
     ensures step { let e = event_of by moment (Abandon object) in
-        Step space.old.configuration space.old.events e (Ok (turn_of space.old.configuration space.old.events e)) space.new.events }
+        Step space.old.configuration space.old.events e
+        (Ok (turn_of space.old.configuration space.old.events e)) space.new.events }
 {
     space.abandon(by, moment, object);
     let ask = Ask::Abandon { object };

@@ -5,7 +5,8 @@
 //! takes it back, `close` gives the space. A pass knows a prefix of the one history and its own
 //! events there. `SeatPort` is the port of a pass; `ToldSeatPort` keeps no entries at run time. A
 //! lock made by `recording` keeps each further event until `take_recent` of the root hands it out.
-//! `tick_if_ended` makes a Tick only if a lease or a wait has ended.
+//! `tick_if_ended` makes a Tick only if a lease or a wait has ended, or if objects are still to be
+//! reported as gone.
 //!
 //! # What is proved
 //!
@@ -19,7 +20,8 @@
 //!   toolchain's table of atomic words keeps this rule.
 //! - The entries of a port are what `Collects` says (`entries_collect`).
 //! - `take_recent` and `close_recording` hand out exactly the next events of the one history, in
-//!   order (`recent`).
+//!   order (`recent`). They refuse NotRecorded exactly if the lock was not made by `recording`, and
+//!   Forgotten exactly if the place is another than that of the first event not handed out.
 //!
 //! # What is not
 //!
@@ -51,5 +53,5 @@ mod ticks;
 mod view;
 mod waiting;
 
-pub use handles::{Pass, Root, SplitFault, TurnLock};
+pub use handles::{Pass, RecentFault, Root, SplitFault, TurnLock};
 pub use port::{PassPort, SeatPort, ToldSeatPort};

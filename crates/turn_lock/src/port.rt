@@ -35,8 +35,10 @@ impl<'a, R: Wait> PassPort<'a, R, AskedLog> {
     pub fn new(rt: &'a R, alloc: Global, lock: &'a TurnLock, pass: &'a mut Pass) -> SeatPort<'a, R>
         requires own { IsPassOf lock.now pass.old }
         ensures same_reference { result.pass.ghost_name ≡ pass.entry.ghost_name }
-        ensures values { (result.pass.now ≡ pass.old) × (result.lock.now ≡ lock.now) × (result.asked.items ≡ []) }
-        ensures ready { IsTied (view_of result.pass.now).number (seen_space (view_of result.pass.now)) result.asked.items result.asked.capacity }
+        ensures values { (result.pass.now ≡ pass.old) × (result.lock.now ≡ lock.now)
+            × (result.asked.items ≡ []) }
+        ensures ready { IsTied (view_of result.pass.now).number
+            (seen_space (view_of result.pass.now)) result.asked.items result.asked.capacity }
     {
         PassPort {
             rt,
@@ -66,20 +68,31 @@ impl<'a, R: Wait> PassPort<'a, R, AskedLog> {
 impl<'a, R: Wait> Port for PassPort<'a, R, AskedLog> {
     ghost shown = { λ p. record { asked = p.asked.items; room = 2 ^ 64 - 1 } };
 
-    ghost ready = { λ p. IsPassOf p.lock.now p.pass.now × IsTied (view_of p.pass.now).number (seen_space (view_of p.pass.now)) p.asked.items p.asked.capacity };
+    ghost ready = { λ p. IsPassOf p.lock.now p.pass.now
+        × IsTied (view_of p.pass.now).number (seen_space (view_of p.pass.now)) p.asked.items
+        p.asked.capacity };
 
-    ghost leads = { λ p q. (q.pass.ghost_name ≡ p.pass.ghost_name) × (q.lock.now ≡ p.lock.now) × PortWent p.pass.now p.asked.items q.pass.now q.asked.items };
+    ghost leads = { λ p q. (q.pass.ghost_name ≡ p.pass.ghost_name) × (q.lock.now ≡ p.lock.now)
+        × PortWent p.pass.now p.asked.items q.pass.now q.asked.items };
 
     /// Makes the turn at its place in the one history, which the pass has then seen. Where there is no memory for its entry, it may make none.
     fn turn(&mut self, moment: u64, ask: Ask) -> Result<Turn, Refused>
-        requires ready { IsPassOf self.old.lock.now self.old.pass.now × IsTied (view_of self.old.pass.now).number (seen_space (view_of self.old.pass.now)) self.old.asked.items self.old.asked.capacity }
+        requires ready { IsPassOf self.old.lock.now self.old.pass.now
+            × IsTied (view_of self.old.pass.now).number (seen_space (view_of self.old.pass.now))
+            self.old.asked.items self.old.asked.capacity }
         requires moment { moment < END_OF_TIME }
-        ensures asked { self.new.asked.items ≡ self.old.asked.items ++ entries_of moment ask result }
+        ensures asked { self.new.asked.items
+            ≡ self.old.asked.items ++ entries_of moment ask result }
         ensures answer { IsAnswerTo (Shows self.old.asked.items) ask result }
-        ensures room { 2 ^ 64 - 1 ≤ 2 ^ 64 }
-        ensures ready { IsPassOf self.new.lock.now self.new.pass.now × IsTied (view_of self.new.pass.now).number (seen_space (view_of self.new.pass.now)) self.new.asked.items self.new.asked.capacity }
-        ensures leads { (self.new.pass.ghost_name ≡ self.old.pass.ghost_name) × (self.new.lock.now ≡ self.old.lock.now) × PortWent self.old.pass.now self.old.asked.items self.new.pass.now self.new.asked.items }
-        ensures turned { TurnedWithEntry (view_of self.old.pass.now) self.old.pass.now.number moment ask result (view_of self.new.pass.now) }
+        ensures ready { IsPassOf self.new.lock.now self.new.pass.now
+            × IsTied (view_of self.new.pass.now).number (seen_space (view_of self.new.pass.now))
+            self.new.asked.items self.new.asked.capacity }
+        ensures leads { (self.new.pass.ghost_name ≡ self.old.pass.ghost_name)
+            × (self.new.lock.now ≡ self.old.lock.now)
+            × PortWent self.old.pass.now self.old.asked.items self.new.pass.now
+            self.new.asked.items }
+        ensures turned { TurnedWithEntry (view_of self.old.pass.now) self.old.pass.now.number moment
+            ask result (view_of self.new.pass.now) }
     {
         if self.asked.reserve(self.asked.len() + 2).is_err() {
             return Err(Refused::OutOfMemory);
@@ -95,15 +108,25 @@ impl<'a, R: Wait> Port for PassPort<'a, R, AskedLog> {
 
     /// Ends the call at a place in the one history, which the pass has then seen.
     fn abandon(&mut self, moment: u64, object: ObjId)
-        requires ready { IsPassOf self.old.lock.now self.old.pass.now × IsTied (view_of self.old.pass.now).number (seen_space (view_of self.old.pass.now)) self.old.asked.items self.old.asked.capacity }
+        requires ready { IsPassOf self.old.lock.now self.old.pass.now
+            × IsTied (view_of self.old.pass.now).number (seen_space (view_of self.old.pass.now))
+            self.old.asked.items self.old.asked.capacity }
         requires moment { moment < END_OF_TIME }
         requires runs { Shows self.old.asked.items object }
-        ensures asked { (place : ℕ) × (self.new.asked.items ≡ self.old.asked.items ++ abandoned_at moment object place ∷ []) }
-        ensures room { 2 ^ 64 - 1 ≤ 2 ^ 64 }
-        ensures ready { IsPassOf self.new.lock.now self.new.pass.now × IsTied (view_of self.new.pass.now).number (seen_space (view_of self.new.pass.now)) self.new.asked.items self.new.asked.capacity }
-        ensures leads { (self.new.pass.ghost_name ≡ self.old.pass.ghost_name) × (self.new.lock.now ≡ self.old.lock.now) × PortWent self.old.pass.now self.old.asked.items self.new.pass.now self.new.asked.items }
-        ensures ended { (place : ℕ) × (self.new.asked.items ≡ self.old.asked.items ++ abandoned_at moment object place ∷ [])
-            × EndedBy (view_of self.old.pass.now) self.old.pass.now.number moment object place (view_of self.new.pass.now) }
+        ensures asked { (place : ℕ)
+            × (self.new.asked.items
+            ≡ self.old.asked.items ++ abandoned_at moment object place ∷ []) }
+        ensures ready { IsPassOf self.new.lock.now self.new.pass.now
+            × IsTied (view_of self.new.pass.now).number (seen_space (view_of self.new.pass.now))
+            self.new.asked.items self.new.asked.capacity }
+        ensures leads { (self.new.pass.ghost_name ≡ self.old.pass.ghost_name)
+            × (self.new.lock.now ≡ self.old.lock.now)
+            × PortWent self.old.pass.now self.old.asked.items self.new.pass.now
+            self.new.asked.items }
+        ensures ended { (place : ℕ)
+            × (self.new.asked.items ≡ self.old.asked.items ++ abandoned_at moment object place ∷ [])
+            × EndedBy (view_of self.old.pass.now) self.old.pass.now.number moment object place
+            (view_of self.new.pass.now) }
     {
         let place = self.pass.abandon(self.rt, self.lock, moment, object);
         self.asked.push_reserved(Asked {
@@ -119,7 +142,12 @@ impl<'a, R: Wait> Port for PassPort<'a, R, AskedLog> {
 
     ghost stays = { λ p. (refl, refl, went_self p.pass.now p.asked.items) };
 
-    ghost goes_on = { λ p q r a b. (b.0 ∙ a.0, b.1 ∙ a.1, went_on p.pass.now q.pass.now r.pass.now p.asked.items q.asked.items r.asked.items a.2 b.2) };
+    ghost goes_on = { λ p q r a b. (
+      b.0 ∙ a.0,
+      b.1 ∙ a.1,
+      went_on p.pass.now q.pass.now r.pass.now p.asked.items q.asked.items r.asked.items a.2
+          b.2,
+    ) };
 }
 
 /// A port whose turns wait for their ticket, and which keeps nothing of them: its entries exist in proofs alone. It takes no memory of its
@@ -131,8 +159,10 @@ impl<'a, R: Wait> PassPort<'a, R, ToldLog> {
     pub fn new_told(rt: &'a R, lock: &'a TurnLock, pass: &'a mut Pass) -> ToldSeatPort<'a, R>
         requires own { IsPassOf lock.now pass.old }
         ensures same_reference { result.pass.ghost_name ≡ pass.entry.ghost_name }
-        ensures values { (result.pass.now ≡ pass.old) × (result.lock.now ≡ lock.now) × (result.asked ≡ []) }
-        ensures ready { IsTiedTold (view_of result.pass.now).number (seen_space (view_of result.pass.now)) result.asked }
+        ensures values { (result.pass.now ≡ pass.old) × (result.lock.now ≡ lock.now)
+            × (result.asked ≡ []) }
+        ensures ready { IsTiedTold (view_of result.pass.now).number
+            (seen_space (view_of result.pass.now)) result.asked }
     {
         PassPort {
             rt,
@@ -162,20 +192,28 @@ impl<'a, R: Wait> PassPort<'a, R, ToldLog> {
 impl<'a, R: Wait> Port for PassPort<'a, R, ToldLog> {
     ghost shown = { λ p. record { asked = p.asked; room = 2 ^ 64 - 1 } };
 
-    ghost ready = { λ p. IsPassOf p.lock.now p.pass.now × IsTiedTold (view_of p.pass.now).number (seen_space (view_of p.pass.now)) p.asked };
+    ghost ready = { λ p. IsPassOf p.lock.now p.pass.now
+        × IsTiedTold (view_of p.pass.now).number (seen_space (view_of p.pass.now)) p.asked };
 
-    ghost leads = { λ p q. (q.pass.ghost_name ≡ p.pass.ghost_name) × (q.lock.now ≡ p.lock.now) × PortWent p.pass.now p.asked q.pass.now q.asked };
+    ghost leads = { λ p q. (q.pass.ghost_name ≡ p.pass.ghost_name) × (q.lock.now ≡ p.lock.now)
+        × PortWent p.pass.now p.asked q.pass.now q.asked };
 
     /// Makes the turn at its place in the one history, which the pass has then seen.
     fn turn(&mut self, moment: u64, ask: Ask) -> Result<Turn, Refused>
-        requires ready { IsPassOf self.old.lock.now self.old.pass.now × IsTiedTold (view_of self.old.pass.now).number (seen_space (view_of self.old.pass.now)) self.old.asked }
+        requires ready { IsPassOf self.old.lock.now self.old.pass.now
+            × IsTiedTold (view_of self.old.pass.now).number (seen_space (view_of self.old.pass.now))
+            self.old.asked }
         requires moment { moment < END_OF_TIME }
         ensures asked { self.new.asked ≡ self.old.asked ++ entries_of moment ask result }
         ensures answer { IsAnswerTo (Shows self.old.asked) ask result }
-        ensures room { 2 ^ 64 - 1 ≤ 2 ^ 64 }
-        ensures ready { IsPassOf self.new.lock.now self.new.pass.now × IsTiedTold (view_of self.new.pass.now).number (seen_space (view_of self.new.pass.now)) self.new.asked }
-        ensures leads { (self.new.pass.ghost_name ≡ self.old.pass.ghost_name) × (self.new.lock.now ≡ self.old.lock.now) × PortWent self.old.pass.now self.old.asked self.new.pass.now self.new.asked }
-        ensures turned { TurnedBy (view_of self.old.pass.now) self.old.pass.now.number moment ask result (view_of self.new.pass.now) }
+        ensures ready { IsPassOf self.new.lock.now self.new.pass.now
+            × IsTiedTold (view_of self.new.pass.now).number (seen_space (view_of self.new.pass.now))
+            self.new.asked }
+        ensures leads { (self.new.pass.ghost_name ≡ self.old.pass.ghost_name)
+            × (self.new.lock.now ≡ self.old.lock.now)
+            × PortWent self.old.pass.now self.old.asked self.new.pass.now self.new.asked }
+        ensures turned { TurnedBy (view_of self.old.pass.now) self.old.pass.now.number moment ask
+            result (view_of self.new.pass.now) }
     {
         let told = Snapshot::of(&ask);
         let answer = self.pass.turn(self.rt, self.lock, moment, ask);
@@ -185,15 +223,23 @@ impl<'a, R: Wait> Port for PassPort<'a, R, ToldLog> {
 
     /// Ends the call at a place in the one history, which the pass has then seen.
     fn abandon(&mut self, moment: u64, object: ObjId)
-        requires ready { IsPassOf self.old.lock.now self.old.pass.now × IsTiedTold (view_of self.old.pass.now).number (seen_space (view_of self.old.pass.now)) self.old.asked }
+        requires ready { IsPassOf self.old.lock.now self.old.pass.now
+            × IsTiedTold (view_of self.old.pass.now).number (seen_space (view_of self.old.pass.now))
+            self.old.asked }
         requires moment { moment < END_OF_TIME }
         requires runs { Shows self.old.asked object }
-        ensures asked { (place : ℕ) × (self.new.asked ≡ self.old.asked ++ abandoned_at moment object place ∷ []) }
-        ensures room { 2 ^ 64 - 1 ≤ 2 ^ 64 }
-        ensures ready { IsPassOf self.new.lock.now self.new.pass.now × IsTiedTold (view_of self.new.pass.now).number (seen_space (view_of self.new.pass.now)) self.new.asked }
-        ensures leads { (self.new.pass.ghost_name ≡ self.old.pass.ghost_name) × (self.new.lock.now ≡ self.old.lock.now) × PortWent self.old.pass.now self.old.asked self.new.pass.now self.new.asked }
-        ensures ended { (place : ℕ) × (self.new.asked ≡ self.old.asked ++ abandoned_at moment object place ∷ [])
-            × EndedBy (view_of self.old.pass.now) self.old.pass.now.number moment object place (view_of self.new.pass.now) }
+        ensures asked { (place : ℕ)
+            × (self.new.asked ≡ self.old.asked ++ abandoned_at moment object place ∷ []) }
+        ensures ready { IsPassOf self.new.lock.now self.new.pass.now
+            × IsTiedTold (view_of self.new.pass.now).number (seen_space (view_of self.new.pass.now))
+            self.new.asked }
+        ensures leads { (self.new.pass.ghost_name ≡ self.old.pass.ghost_name)
+            × (self.new.lock.now ≡ self.old.lock.now)
+            × PortWent self.old.pass.now self.old.asked self.new.pass.now self.new.asked }
+        ensures ended { (place : ℕ)
+            × (self.new.asked ≡ self.old.asked ++ abandoned_at moment object place ∷ [])
+            × EndedBy (view_of self.old.pass.now) self.old.pass.now.number moment object place
+            (view_of self.new.pass.now) }
     {
         let place = self.pass.abandon(self.rt, self.lock, moment, object);
         self.asked.push_abandoned(moment, object, place);
@@ -205,5 +251,9 @@ impl<'a, R: Wait> Port for PassPort<'a, R, ToldLog> {
 
     ghost stays = { λ p. (refl, refl, went_self p.pass.now p.asked) };
 
-    ghost goes_on = { λ p q r a b. (b.0 ∙ a.0, b.1 ∙ a.1, went_on p.pass.now q.pass.now r.pass.now p.asked q.asked r.asked a.2 b.2) };
+    ghost goes_on = { λ p q r a b. (
+      b.0 ∙ a.0,
+      b.1 ∙ a.1,
+      went_on p.pass.now q.pass.now r.pass.now p.asked q.asked r.asked a.2 b.2,
+    ) };
 }

@@ -3,7 +3,7 @@ ghost use Rattle.std.specs.Prelude.{◌≡◌, ◌<◌, ◌∷◌, ◌++◌, [],
 ghost use Rattle.history.specs.Table.{with_event};
 ghost use Rattle.space.specs.Acts.{event_of};
 ghost use Rattle.turn_lock.specs.Recent.{IsRest};
-ghost use Rattle.turn_lock.specs.Rule.{answer_of, events_after};
+ghost use Rattle.turn_lock.specs.Rule.{answer_of, events_answered};
 
 use history::{Ask, Event, EventList, Refused, Reply, Turn};
 use space::Asked;
@@ -48,7 +48,8 @@ impl Recent {
 
     /// A copy of an event for which there is room, beside room for the ends of all calls that run, with one that the event may begin.
     pub(crate) fn prepare(&mut self, by: u32, moment: u64, ask: &Ask) -> Result<Event, AllocError>
-        ensures same { (self.new.from ≡ self.old.from) × (self.new.events.items ≡ self.old.events.items) }
+        ensures same { (self.new.from ≡ self.old.from)
+            × (self.new.events.items ≡ self.old.events.items) }
         ensures copy { IfOk result (λ event. event ≡ event_of by moment ask.now) }
         ensures room { OnOk result (length self.new.events.items < vec_capacity self.new.events) }
     {
@@ -61,7 +62,8 @@ impl Recent {
     pub(crate) fn put_answered(&mut self, event: Event, answer: &Result<Turn, Refused>)
         requires room { length self.old.events.items < vec_capacity self.old.events }
         ensures from { self.new.from ≡ self.old.from }
-        ensures events { self.new.events.items ≡ events_after self.old.events.items event answer.now }
+        ensures events { self.new.events.items
+            ≡ events_answered self.old.events.items event answer.now }
     {
         match answer {
             Ok(turn) => {
@@ -80,7 +82,8 @@ impl Recent {
     )
         requires room { length self.old.events.items < vec_capacity self.old.events }
         ensures from { self.new.from ≡ self.old.from }
-        ensures events { self.new.events.items ≡ events_after self.old.events.items event (answer_of noted.now) }
+        ensures events { self.new.events.items
+            ≡ events_answered self.old.events.items event (answer_of noted.now) }
     {
         match noted {
             Ok((answer, _entry)) => self.put_answered(event, answer),
@@ -91,7 +94,8 @@ impl Recent {
     /// Keeps the event that ends a call without an answer, where there is room for it, and says whether there was.
     pub(crate) fn put_end(&mut self, event: Event) -> bool
         ensures from { self.new.from ≡ self.old.from }
-        ensures events { result ≡ true → self.new.events.items ≡ with_event self.old.events.items event }
+        ensures events { result ≡ true
+            → self.new.events.items ≡ with_event self.old.events.items event }
     {
         self.running = self.running.saturating_sub(1);
         if self.events.len() == self.events.capacity() {
@@ -104,8 +108,11 @@ impl Recent {
 
     /// Hands out the events of a history that ends here, if they begin at this place and there is memory for the next ones.
     pub(crate) fn take(&mut self, from: u64, end: u64) -> Option<EventList>
-        ensures part { IfSome result (λ part. (self.old.from ≡ from) × (part ≡ self.old.events.items) × (self.new.from ≡ end) × (self.new.events.items ≡ [])) }
-        ensures none { IfNone result ((self.new.from ≡ self.old.from) × (self.new.events.items ≡ self.old.events.items)) }
+        ensures part { IfSome result (λ part. (self.old.from ≡ from)
+            × (part ≡ self.old.events.items) × (self.new.from ≡ end)
+            × (self.new.events.items ≡ [])) }
+        ensures none { IfNone result
+            ((self.new.from ≡ self.old.from) × (self.new.events.items ≡ self.old.events.items)) }
     {
         if self.from != from {
             return None;

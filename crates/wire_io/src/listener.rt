@@ -24,7 +24,7 @@ pub enum Waited<L> {
     Came(L),
     /// No link came.
     Quiet,
-    /// The listener was told to stop. It is told to from then on.
+    /// The listener was told to stop. Each later wait answers this again.
     Told,
 }
 
@@ -48,7 +48,8 @@ pub trait Listener {
     ///
     /// `Failed` comes only where the count of faults rose.
     fn listen(&mut self, address: &str, port: u16) -> Result<(), Failed>
-        ensures listens { Listens (listening self.old) (listening self.new) address.now port result }
+        ensures listens { Listens (listening self.old) (listening self.new) address.now port
+            result }
         ensures accepted { (listening self.new).accepted ≡ (listening self.old).accepted }
         ensures told { (listening self.new).told ≡ (listening self.old).told };
 

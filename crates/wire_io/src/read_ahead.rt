@@ -54,7 +54,11 @@ impl<R: Read> ReadAhead<R> {
     #[inline(always)]
     pub(crate) fn read(&mut self, buf: &mut [u8]) -> Result<usize, Failed>
         ensures bound { ReadsAtMost result buf.new }
-        ensures bytes { ReadConsumes (prepend_known (slice_range self.old.bytes.items self.old.start self.old.end) (R.remaining self.old.inner)) (prepend_known (slice_range self.new.bytes.items self.new.start self.new.end) (R.remaining self.new.inner)) result buf.new }
+        ensures bytes { ReadConsumes
+            (prepend_known (slice_range self.old.bytes.items self.old.start self.old.end)
+            (R.remaining self.old.inner))
+            (prepend_known (slice_range self.new.bytes.items self.new.start self.new.end)
+            (R.remaining self.new.inner)) result buf.new }
     {
         if self.start < self.end {
             Ok(self.give(buf))
@@ -69,7 +73,9 @@ impl<R: Read> ReadAhead<R> {
     fn read_more(&mut self, buf: &mut [u8]) -> Result<usize, Failed>
         requires { self.old.end ≤ self.old.start }
         ensures bound { ReadsAtMost result buf.new }
-        ensures bytes { ReadConsumes (R.remaining self.old.inner) (prepend_known (slice_range self.new.bytes.items self.new.start self.new.end) (R.remaining self.new.inner)) result buf.new }
+        ensures bytes { ReadConsumes (R.remaining self.old.inner)
+            (prepend_known (slice_range self.new.bytes.items self.new.start self.new.end)
+            (R.remaining self.new.inner)) result buf.new }
     {
         if buf.is_empty() {
             return Ok(0);
@@ -91,7 +97,8 @@ impl<R: Read> ReadAhead<R> {
     fn give(&mut self, buf: &mut [u8]) -> usize
         ensures bound { result ≤ length buf.new }
         ensures count { result ≡ min (self.old.end - self.old.start) (length buf.old) }
-        ensures bytes { slice_range self.old.bytes.items self.old.start self.old.end ≡ take result buf.new ++ slice_range self.new.bytes.items self.new.start self.new.end }
+        ensures bytes { slice_range self.old.bytes.items self.old.start self.old.end
+            ≡ take result buf.new ++ slice_range self.new.bytes.items self.new.start self.new.end }
         ensures inner { self.new.inner ≡ self.old.inner }
     {
         let (start, end) = (self.start, self.end);
@@ -104,8 +111,11 @@ impl<R: Read> ReadAhead<R> {
     fn refill(&mut self) -> Result<(), Failed>
         requires given { self.old.end ≤ self.old.start }
         requires room { 0 < vec_len self.old.bytes }
-        ensures bytes { Keeps (R.remaining self.old.inner) (prepend_known (slice_range self.new.bytes.items self.new.start self.new.end) (R.remaining self.new.inner)) }
-        ensures end { OnOk result (self.new.end ≤ self.new.start → IsAtEnd (R.remaining self.new.inner)) }
+        ensures bytes { Keeps (R.remaining self.old.inner)
+            (prepend_known (slice_range self.new.bytes.items self.new.start self.new.end)
+            (R.remaining self.new.inner)) }
+        ensures end { OnOk result
+            (self.new.end ≤ self.new.start → IsAtEnd (R.remaining self.new.inner)) }
     {
         self.start = 0;
         self.end = 0;
@@ -118,8 +128,10 @@ impl<R: Read> ReadAhead<R> {
 fn read_over<R: Read>(reader: &mut R, bytes: &mut Vec<u8>) -> Result<usize, Failed>
     ensures length { vec_len bytes.new ≡ vec_len bytes.old }
     ensures bound { IfOk result (λ n. n ≤ vec_len bytes.new) }
-    ensures ok { IfOk result (λ n. Consumes (R.remaining reader.old) (R.remaining reader.new) (take n bytes.new.items)) }
-    ensures end { IfOk result (λ n. n ≡ 0 → 0 < vec_len bytes.old → IsAtEnd (R.remaining reader.new)) }
+    ensures ok { IfOk result
+        (λ n. Consumes (R.remaining reader.old) (R.remaining reader.new) (take n bytes.new.items)) }
+    ensures end { IfOk result
+        (λ n. n ≡ 0 → 0 < vec_len bytes.old → IsAtEnd (R.remaining reader.new)) }
     ensures err { OnErr result (Keeps (R.remaining reader.old) (R.remaining reader.new)) }
 {
     match reader.read(bytes.as_mut_slice()) {

@@ -32,7 +32,8 @@ pub fn take_whole<S: Source>(
 ) -> Result<ByteList, WholeEnd>
     requires { limit < 2 ^ 32 }
     ensures ok { IfOk result (λ bytes. (length bytes ≤ limit)
-        × ((S.half source.old).left ≡ with_front bytes (S.half source.new).left) × NothingLeft (S.half source.new).left) }
+        × ((S.half source.old).left ≡ with_front bytes (S.half source.new).left)
+        × NothingLeft (S.half source.new).left) }
     ensures too_large { result ≡ Err WholeEnd.TooLarge → (bytes : List ℕ)
         × (limit < length bytes) × (length bytes ≤ limit + READ_BLOCK)
         × ((S.half source.old).left ≡ with_front bytes (S.half source.new).left) }

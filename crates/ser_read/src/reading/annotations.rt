@@ -7,7 +7,7 @@ ghost use Rattle.ser_read.specs.Named.{item_at};
 ghost use Rattle.ser_read.specs.NodeReading.{ReadsNodes, Any};
 
 use crate::fault::StreamFault;
-use crate::pieces::add;
+use crate::pieces::{add, count_parts};
 use crate::pulled::{byte, count, take};
 use crate::reading::construct;
 use crate::table::Table;
@@ -56,7 +56,6 @@ pub(super) fn items<S: Source>(
             return Ok(Items::from_vec(items));
         }
         let item = item(alloc, pull, table, at, code, left)?;
-        table.add_entries(1)?;
         add(&mut items, item)?;
     }
 }
@@ -74,7 +73,7 @@ pub(crate) fn item<S: Source>(
     left: u32,
 ) -> Result<Item, StreamFault>
     requires left { left ≤ LEVELS }
-    ensures { ReadsNodes S.half pull.old pull.new table.old table.new result Any (λ end. item_at end (coded end left (slot_at end (left - 1)) Reference table.old.unread.items at code) code) }
+    ensures { ReadsNodes S.half pull.old pull.new table.old table.new result Any (λ end. item_at end at (coded end left (slot_at end (left - 1)) Reference table.old.unread.items at code) code) }
 {
     if code == 0x77 {
         let n = byte(pull)?;
@@ -83,6 +82,8 @@ pub(crate) fn item<S: Source>(
         let n = count(pull)?;
         Ok(Item::Bytes(take(alloc, pull, u64::from(n))?))
     } else {
-        Ok(Item::Ref(construct(alloc, pull, table, SlotPlace::Reference, left, at, code)?))
+        let slot = construct(alloc, pull, table, SlotPlace::Reference, left, at, code)?;
+        count_parts(table, 1, at)?;
+        Ok(Item::Ref(slot))
     }
 }

@@ -1,13 +1,13 @@
 //! Arrays.
-ghost use Rattle.std.specs.Prelude.{◌≤◌, ◌<◌, length, Some};
+ghost use Rattle.std.specs.Prelude.{◌≡◌, ◌≤◌, ◌<◌, length, Some};
 ghost use Rattle.ser_values.specs.declared.node.SlotPlace.TheVariants.{Reference};
 ghost use Rattle.ser_values.specs.declared.limits.TheConstants.{LEVELS, NODES};
-ghost use Rattle.stream_grammar.specs.Reading.{slot_at, many_at, elements_at, with_class, array_at, array_of};
+ghost use Rattle.stream_grammar.specs.Reading.{slot_at, many_at, elements_at, refs_among, with_class, array_at, array_of};
 ghost use Rattle.ser_read.specs.NodeReading.{ReadsNodes, Any, GivesNode};
 
 use crate::fault::{StreamFault, StreamKind};
 use crate::numbers::primitives;
-use crate::pieces::bad;
+use crate::pieces::{bad, count_parts};
 use crate::pulled::count;
 use crate::reading::{class, slot};
 use crate::table::Table;
@@ -53,8 +53,15 @@ fn array_in<S: Source>(
 {
     match table.element_type(class) {
         None => Err(bad(StreamKind::BadDesc, at)),
-        Some(code) => array_of(alloc, pull, table, class, code, left),
+        Some(code) => array_of(alloc, pull, table, at, class, code, left),
     }
+}
+
+/// Returns how many parts so many elements of a type are: references alone are parts.
+fn refs_among(code: TypeCode, n: u32) -> usize
+    ensures { result ≡ refs_among code n }
+{
+    if is_primitive(code) { 0 } else { n as usize }
 }
 
 /// The elements of an array.
@@ -64,15 +71,17 @@ fn array_of<S: Source>(
     alloc: Global,
     pull: &mut Pull<'_, S>,
     table: &mut Table,
+    at: u64,
     class: u32,
     code: TypeCode,
     left: u32,
 ) -> Result<Slot, StreamFault>
     requires room { length table.old.nodes.items < NODES }
     requires left { left ≤ LEVELS }
-    ensures { ReadsNodes S.half pull.old pull.new table.old table.new result GivesNode (λ end. array_of end 0 (slot_at end left Reference table.old.unread.items) class (Some code)) }
+    ensures { ReadsNodes S.half pull.old pull.new table.old table.new result GivesNode (λ end. array_of end at (slot_at end left Reference table.old.unread.items) class (Some code)) }
 {
     let n = count(pull)?;
+    count_parts(table, refs_among(code, n), at)?;
     let number = table.begin(Node::Array {
         class,
         values: Values::Bytes(ByteList::new(alloc)),
@@ -119,7 +128,6 @@ fn slots<S: Source>(
     let mut slots = SlotList::new(alloc);
     for _ in 0..n {
         let slot = slot(alloc, pull, table, SlotPlace::Reference, left)?;
-        table.add_entries(1)?;
         slots.push(slot)?;
     }
     Ok(slots)

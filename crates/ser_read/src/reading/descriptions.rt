@@ -8,7 +8,7 @@ ghost use Rattle.ser_read.specs.NodeReading.{ReadsNodes, Any, GivesNode};
 
 use crate::fault::{StreamFault, StreamKind};
 use crate::front::{DescFront, desc_front};
-use crate::pieces::{bad, blank, names};
+use crate::pieces::{bad, blank, count_parts, names};
 use crate::pulled::{byte, count, short_text};
 use crate::reading::annotations::items;
 use crate::reading::slot;
@@ -62,6 +62,7 @@ fn desc_behind<S: Source>(
     requires left { left ≤ LEVELS }
     ensures { ReadsNodes S.half pull.old pull.new table.old table.new result Any (λ end. desc_behind end at (slot_at end left) table.old.unread.items name front) }
 {
+    count_parts(table, usize::from(front.fields), at)?;
     let fields = fields(alloc, pull, table, at, front.fields, left)?;
     let mut desc = ClassDesc {
         name,
@@ -95,7 +96,6 @@ fn fields<S: Source>(
     let mut fields = Vec::new(alloc);
     for _ in 0..n {
         let field = field(alloc, pull, table, at, left)?;
-        table.add_entries(1)?;
         fields.push(field)?;
     }
     Ok(FieldList::from_vec(fields))
@@ -161,16 +161,18 @@ pub(super) fn proxy<S: Source>(
     alloc: Global,
     pull: &mut Pull<'_, S>,
     table: &mut Table,
+    at: u64,
     left: u32,
 ) -> Result<Slot, StreamFault>
     requires room { length table.old.nodes.items < NODES }
     requires left { left ≤ LEVELS }
-    ensures { ReadsNodes S.half pull.old pull.new table.old table.new result GivesNode (λ end. proxy_at end (slot_at end left) table.old.unread.items) }
+    ensures { ReadsNodes S.half pull.old pull.new table.old table.new result GivesNode (λ end. proxy_at end at (slot_at end left) table.old.unread.items) }
 {
     let n = count(pull)?;
+    count_parts(table, n as usize, at)?;
     let number = table.begin(blank(alloc))?;
     table.open(number)?;
-    let names = names(alloc, pull, table, n)?;
+    let names = names(alloc, pull, n)?;
     let note = items(alloc, pull, table, left)?;
     let parent = slot(alloc, pull, table, SlotPlace::Parent, left)?;
     table.close();

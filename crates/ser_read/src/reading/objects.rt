@@ -1,9 +1,9 @@
 //! Objects: for each class of the chain its values and its annotation.
-ghost use Rattle.std.specs.Prelude.{◌≤◌, ◌<◌, ◌+◌, length};
+ghost use Rattle.std.specs.Prelude.{◌≡◌, ◌≤◌, ◌<◌, ◌+◌, None, nat_lt, length, IfSome};
 ghost use Rattle.ser_values.specs.declared.node.SlotPlace.TheVariants.{Reference};
 ghost use Rattle.ser_values.specs.declared.limits.TheConstants.{LEVELS, NODES, PARTS};
 ghost use Rattle.stream_grammar.specs.Reading.{slot_at, value_at, with_class, object_at};
-ghost use Rattle.ser_read.specs.ObjectRows.{values_by, part_by, parts_by, object_by};
+ghost use Rattle.ser_read.specs.ObjectRows.{values_by, part_by, parts_by, sizes_by, object_by};
 ghost use Rattle.ser_read.specs.NodeReading.{ReadsNodes, Any, GivesNode};
 
 use crate::fault::{Large, StreamFault};
@@ -15,6 +15,7 @@ use crate::row::ClassRow;
 use crate::shape::shape_of;
 use crate::table::Table;
 use class_desc::{Slot, TypeCode, is_primitive};
+use ser_values::limits::PARTS;
 use ser_values::{Node, Part, PartList, SlotPlace, Value, ValueList};
 use std::alloc::Global;
 use wire_io::pull::Pull;
@@ -55,7 +56,7 @@ fn object_in<S: Source>(
 {
     let shape = shape_of(alloc, table, class)?;
     let rows = shape.rows.as_slice();
-    if table.lacks_parts(rows.len()) {
+    if lacks_object(table, rows) {
         return Err(StreamFault::TooLarge {
             what: Large::Nodes,
             at,
@@ -64,6 +65,33 @@ fn object_in<S: Source>(
     match shape.fault {
         Some(kind) => Err(bad(kind, at)),
         None => object_after(alloc, pull, table, class, rows, left),
+    }
+}
+
+/// Returns how many parts an object of these rows has beside those of its notes. None where it is past the limit.
+#[tactic(auto, unfolding(crate::specs::ObjectRows::sizes_by))]
+fn sizes_of(rows: &[ClassRow]) -> Option<usize>
+    ensures few { IfSome result (λ n. (n ≡ sizes_by rows.now) × (n ≤ PARTS)) }
+    ensures many { result ≡ None → PARTS < sizes_by rows.now }
+{
+    let mut total: usize = 0;
+    for row in rows {
+        let more = row.codes.as_slice().len();
+        if more >= PARTS - total {
+            return None;
+        }
+        total += more + 1;
+    }
+    Some(total)
+}
+
+/// Returns whether there is no room for an object of these rows.
+fn lacks_object(table: &Table, rows: &[ClassRow]) -> bool
+    ensures { result ≡ nat_lt PARTS (table.now.parts + sizes_by rows.now) }
+{
+    match sizes_of(rows) {
+        None => true,
+        Some(more) => table.lacks_parts(more),
     }
 }
 
@@ -79,11 +107,13 @@ fn object_after<S: Source>(
     left: u32,
 ) -> Result<Slot, StreamFault>
     requires room { length table.old.nodes.items < NODES }
-    requires parts { table.old.parts + length rows.now ≤ PARTS }
+    requires parts { table.old.parts + sizes_by rows.now ≤ PARTS }
     requires left { left ≤ LEVELS }
     ensures { ReadsNodes S.half pull.old pull.new table.old table.new result GivesNode (λ end. object_by end (slot_at end left Reference table.old.unread.items) class rows.now) }
 {
-    table.add_parts(rows.len());
+    if let Some(more) = sizes_of(rows) {
+        table.add_parts(more);
+    }
     let number = table.begin(Node::Object {
         class,
         parts: PartList::new(alloc),
@@ -113,11 +143,6 @@ fn parts<S: Source>(
     Ok(PartList::from_vec(parts))
 }
 
-/// Counts the entries of a part of an object before its annotation's items: a value for each field, and the annotation.
-fn entries_of(row: &ClassRow) -> usize {
-    row.codes.as_slice().len() + usize::from(row.note)
-}
-
 /// A part of an object.
 #[cycle(reading)]
 #[tactic(auto, unfolding(crate::specs::ObjectRows::part_by))]
@@ -131,7 +156,6 @@ fn part<S: Source>(
     requires left { left ≤ LEVELS }
     ensures { ReadsNodes S.half pull.old pull.new table.old table.new result Any (λ end. part_by end (slot_at end left Reference table.old.unread.items) row.now) }
 {
-    table.add_entries(entries_of(row))?;
     let values = values(alloc, pull, table, row.codes.as_slice(), left)?;
     let note = note(alloc, pull, table, row.note, left)?;
     Ok(Part { values, note })

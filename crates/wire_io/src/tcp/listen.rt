@@ -139,8 +139,10 @@ impl<R: Copy + Drop> TcpListen<R> {
 
     /// The link of the next connection, if it listens and one comes within [`WAIT_SECONDS`].
     fn next_link_soon(&self) -> io::Result<Option<TcpLink<R>>>
-        ensures source { IfOk result (λ came. IfSome came (λ link. link.source ≡ untold_read 0 false)) }
-        ensures sink { IfOk result (λ came. IfSome came (λ link. link.sink ≡ untold_write 0 false)) }
+        ensures source { IfOk result
+            (λ came. IfSome came (λ link. link.source ≡ untold_read 0 false)) }
+        ensures sink { IfOk result
+            (λ came. IfSome came (λ link. link.sink ≡ untold_write 0 false)) }
     {
         match next_stream_soon(self.socket()?)? {
             Some((stream, peer)) => Ok(Some(self.link_of(stream, peer)?)),

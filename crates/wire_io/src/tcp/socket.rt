@@ -21,6 +21,7 @@ pub(crate) enum Handle {
 }
 
 impl Handle {
+    /// Returns the socket.
     pub(crate) fn stream(&self) -> &TcpStream {
         match self {
             Handle::Own(stream) => stream,

@@ -9,12 +9,12 @@ use Rattle.dgc_server.proofs.IndexLaws.{none-is-counted, own-counted}
 use Rattle.dgc_server.proofs.Chunked.{all-counted, both_ok, on_err}
 use Rattle.dgc_server.proofs.Freeing.{if_ok}
 use Rattle.dgc_server.proofs.Ordered.{client-of}
-use Rattle.dgc_server.proofs.Board.{always_err}
+use Rattle.dgc_server.proofs.BoardLaws.{always_err}
 use Rattle.dgc_server.proofs.clients.note_call.Goals as goal
 
 pub note_own-requires-clause-enough : goal.note_own-requires-clause-enough
 note_own-requires-clause-enough c = λ w o.
-    let es = all_of c.args.chunks.now.items in
+    let es = all_of c.args.board.now.chunks.items in
     let own = own-counted (is_counted w c.args.from o) (none-is-counted c.args.from o w) es c.args.client.now in
     let counted = c.requires.counted w o in
     let least : one_if (is_counted w c.args.from o (entry_of es c.args.client.now)) ≤ counted_at w c.args.counts.now o = omega arith in
@@ -22,15 +22,15 @@ note_own-requires-clause-enough c = λ w o.
 
 pub returns-clause-counted : goal.returns-clause-counted
 returns-clause-counted c = both_ok c.note_own.result c.note_own.ensures.ok c.note_own.ensures.counts (λ ok counts.
-    let es = all_of c.args.chunks.now.items in
+    let es = all_of c.args.board.now.chunks.items in
     let client = c.args.client.now in
     let call = c.args.call.now in
-    let whole : all_of c.split_full.new.chunks.items ≡ es = c.split_full.ensures.same in
+    let whole : all_of c.split_full.new.board.chunks.items ≡ es = c.split_full.ensures.same in
     let next : Entry = entry_after c.args.lease call.kind call.number.now call.objects.now call.time (entry_of es client) in
     let P : List Entry → Type 0 = λ l. (w : Way) (o : ObjId) → counted_at w c.note_own.new.counts o + one_if (is_counted w c.args.from o (entry_of l client))
     ≡ counted_at w c.args.counts.now o + one_if (is_counted w c.args.from o (entry_after c.args.lease call.kind call.number.now call.objects.now call.time (entry_of l client))) in
     let moved : P es = subst P whole counts in
-    all-counted c.args.from es next (λ w o. counted_at w c.args.counts.now o) (λ w o. counted_at w c.note_own.new.counts o) (all_of c.note_own.new.chunks.items) c.requires.ordered c.requires.counted
+    all-counted c.args.from es next (λ w o. counted_at w c.args.counts.now o) (λ w o. counted_at w c.note_own.new.counts o) (all_of c.note_own.new.board.chunks.items) c.requires.ordered c.requires.counted
     (ok ∙ ap (λ l. with_entry (entry_after c.args.lease call.kind call.number.now call.objects.now call.time (entry_of l client)) l) whole)
     (λ w o. ap (λ d. counted_at w c.note_own.new.counts o + one_if (is_counted w c.args.from o (entry_of es d))) (client-of es client) ∙ moved w o))
 

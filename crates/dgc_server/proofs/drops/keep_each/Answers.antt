@@ -9,7 +9,8 @@ use Rattle.dgc_server.specs.HolderIndex.{IsSettled}
 use Rattle.dgc_server.specs.Chunks.{all_of, IsBounded, IsCalmChunk}
 use Rattle.dgc_server.proofs.Chunked.{all-append}
 use Rattle.dgc_server.proofs.Moving.{same-at, take-chunk, take-set-next, drop-set-next, take-end}
-use Rattle.dgc_server.proofs.Board.{every-at, every-next, settled-of}
+use Rattle.dgc_server.proofs.BoardLaws.{every-at, every-next, settled-of}
+use Rattle.dgc_server.proofs.Skipping.{same-end}
 use Rattle.dgc_server.proofs.drops.keep_each.Goals as goal
 
 pub loop-i-preserved : goal.loop-i-preserved
@@ -28,6 +29,7 @@ loop-i-preserved c =
     c.keep.ensures ∙ ap (λ (z : Chunk). filter (is_entry_kept c.args.now) z.entries.items) (sym own) in record {
       long = length-set cs i y ∙ long;
       rest = drop-set-next cs all i y inv.rest;
+      ends = same-end cs i y x (ap (λ (z : Chunk). z.least) c.index_mut.ensures.value) ∙ inv.ends;
       bounded = λ n a. (let calm : IsCalmChunk c.args.now n x = subst (IsCalmChunk c.args.now n) own (every-at (IsCalmChunk c.args.now n) all i x within a) in
           let S : List Entry → Type 0 = AllByRecursion (IsSettled c.args.now x.least) in
           every-next (IsBounded c.args.now n) cs i y here (inv.bounded n a)

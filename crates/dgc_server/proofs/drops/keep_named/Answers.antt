@@ -7,11 +7,12 @@ use Rattle.dgc_server.specs.Chunks.{all_of, IsCalmChunk}
 use Rattle.dgc_server.proofs.Chunked.{all-append, set-same, set-counts}
 use Rattle.dgc_server.proofs.Moving.{objects-append, only-part, take-set-next, take-end}
 use Rattle.dgc_server.proofs.Purging.{only-none, only-only}
-use Rattle.dgc_server.proofs.Board.{every-at, every-set}
+use Rattle.dgc_server.proofs.BoardLaws.{every-at, every-set}
+use Rattle.dgc_server.proofs.Skipping.{same-end}
 use Rattle.dgc_server.proofs.drops.keep_named.Goals as goal
 
 pub loop-i-init : goal.loop-i-init
-loop-i-init c = record { same = refl; to_go = c.requires; calm = λ m n a. a; first = λ z. z; front = λ z y. rw z refl }
+loop-i-init c = record { same = refl; to_go = c.requires; calm = λ m n a. a; ends = refl; first = λ z. z; front = λ z y. rw z refl }
 
 pub keep_named-to_go-requires : goal.keep_named-to_go-requires
 keep_named-to_go-requires c =
@@ -48,6 +49,7 @@ loop-i-preserved c =
       calm = λ m n a. (let all = inv.calm m n a in
           let own : IsCalmChunk m n x = subst (IsCalmChunk m n) (sym c.index_mut.ensures.value) (every-at (IsCalmChunk m n) cs i x here all) in
           every-set (IsCalmChunk m n) cs i y all (record { calm = λ h. c.keep_named-to_go.ensures.calm m x.least (own.calm h); least = own.least }));
+      ends = same-end cs i y x (ap (λ (z : Chunk). z.least) c.index_mut.ensures.value) ∙ inv.ends;
       first = λ z. refl;
       front = λ z y0.
           let done : y.entries.items ≡ map (with_only q) x.entries.items = c.keep_named-to_go.ensures.all (inv.first y0) in

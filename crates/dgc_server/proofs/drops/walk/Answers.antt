@@ -9,11 +9,12 @@ use Rattle.dgc_server.proofs.Walking.{rest_of}
 use Rattle.dgc_server.proofs.Chunked.{all-append, all-part, set-same, set-counts, set-all, part-fewer}
 use Rattle.dgc_server.proofs.Moving.{many-append, rest-append, take-set-next, take-end}
 use Rattle.std.proofs.lemmas.List.{append-nil}
-use Rattle.dgc_server.proofs.Board.{every-at, every-set, part-bounded}
+use Rattle.dgc_server.proofs.BoardLaws.{every-at, every-set, part-bounded}
+use Rattle.dgc_server.proofs.Skipping.{same-end}
 use Rattle.dgc_server.proofs.drops.walk.Goals as goal
 
 pub loop-i-init : goal.loop-i-init
-loop-i-init c = record { same = refl; kept = c.requires.kept; counted = c.requires.counted; bounded = λ n a. a; first = λ z. z; front = λ z y. rw z refl }
+loop-i-init c = record { same = refl; kept = c.requires.kept; counted = c.requires.counted; bounded = λ n a. a; ends = refl; first = λ z. z; front = λ z y. rw z refl }
 
 pub walk-to_go-requires-clause-kept : goal.walk-to_go-requires-clause-kept
 walk-to_go-requires-clause-kept c =
@@ -51,6 +52,7 @@ loop-i-preserved c =
       bounded = λ n a. (let all = c.loop-i.invariant.bounded n a in
           let own : IsBounded c.args.time n x = subst (IsBounded c.args.time n) (sym c.index_mut.ensures.value) (every-at (IsBounded c.args.time n) cs i x here all) in
           every-set (IsBounded c.args.time n) cs i y all (part-bounded c.args.time n x y (λ s. c.walk-to_go.ensures.settled x.least s) refl own));
+      ends = same-end cs i y x (ap (λ (z : Chunk). z.least) c.index_mut.ensures.value) ∙ c.loop-i.invariant.ends;
       first = λ z. refl;
       front = λ z y0. (let none : length (filter names y.entries.items) ≡ 0 = c.walk-to_go.ensures.all (c.loop-i.invariant.first y0) in
           let front = c.loop-i.invariant.front z y0 in omega (arith, parted, none, front));

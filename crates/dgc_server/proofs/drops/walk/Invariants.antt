@@ -2,7 +2,7 @@ use Rattle.std.proofs.Common.{◌≡◌, ℕ, ◌-◌, length, filter, take, tru
 use Rattle.std.specs.List.{list_all, AllByRecursion}
 use Rattle.dgc_server.specs.Entry.{is_entry_kept}
 use Rattle.dgc_server.specs.HolderIndex.{entry_names}
-use Rattle.dgc_server.specs.Chunks.{all_of, IsBounded}
+use Rattle.dgc_server.specs.Chunks.{all_of, ends_of, IsBounded}
 use Rattle.dgc_server.proofs.Walking.{rest_of}
 use Rattle.dgc_server.proofs.drops.walk.Given as goal
 
@@ -16,6 +16,7 @@ invariant-loop-i l =
       kept : list_all (is_entry_kept l.time) (all_of l.chunks.items) ≡ true;
       counted : l.to_go ≡ length (filter (entry_names l.object) (all_of l.chunks.items));
       bounded : (n : ℕ) → AllByRecursion (IsBounded l.time n) l.initial.chunks.items → AllByRecursion (IsBounded l.time n) l.chunks.items;
+      ends : ends_of l.chunks.items ≡ ends_of l.initial.chunks.items;
       first : l.client ≡ 0 → l.first ≡ 0;
       front : l.chunk ≡ 0 → l.client ≡ 0 → length (filter (entry_names l.object) (all_of (take l.i l.chunks.items))) ≡ 0;
     }

@@ -1,61 +1,68 @@
-use Rattle.std.proofs.Common.{◌≡◌, ◌<◌, ◌+◌, drop, get_or, ap, sym, ◌∙◌, arith}
+use Rattle.std.proofs.Common.{◌≡◌, ◌<◌, ◌+◌, drop, length, get_or, ap, sym, ◌∙◌, arith}
 use Rattle.std.specs.Prelude.{◌||◌, true, false}
 use Rattle.std.specs.List.{list_any}
 use Rattle.std.proofs.lemmas.List.Folds.{list_any-append}
-use Rattle.dgc_server.specs.declared.clients.Chunk.{Chunk}
 use Rattle.dgc_server.specs.HolderIndex.{ends_between}
 use Rattle.dgc_server.specs.Chunks.{all_of, IsBounded}
-use Rattle.dgc_server.proofs.Board.{every-at, all-settled}
+use Rattle.dgc_server.proofs.BoardLaws.{all-settled}
 use Rattle.dgc_server.proofs.Ending.{none-ends}
 use Rattle.dgc_server.proofs.Moving.{drop-chunk, drop-end}
+use Rattle.dgc_server.proofs.Skipping.{Skipped, skipped, over, every-from, chunk-at}
 use Rattle.dgc_server.proofs.lease_ends.has_ended_in.Goals as goal
 
 pub returns-then-to-next : goal.returns-then-to-next
 returns-then-to-next c =
+    let cs = c.args.board.now.chunks.items in
     let later = c.requires.later in let quiet = c.if-to-next.true in
-    sym (none-ends c.args.from c.args.next c.args.to (all_of c.args.chunks.now) later quiet (all-settled c.args.from c.args.next c.args.chunks.now (omega arith) c.requires.bounded))
+    sym (none-ends c.args.from c.args.next c.args.to (all_of cs) later quiet (all-settled c.args.from c.args.next cs (omega arith) c.requires.board.bounded))
 
-pub loop-chunk-preserved-then-to-chunk : goal.loop-chunk-preserved-then-to-chunk
-loop-chunk-preserved-then-to-chunk c =
-    let cs = c.args.chunks.now in
-    let i = c.loop-chunk.chunk-index in
-    let x = c.chunk-item.result in
-    let own = get_or cs i x in
+pub loop-i-init : goal.loop-i-init
+loop-i-init c =
+    let cs = c.args.board.now.chunks.items in
     let p = ends_between c.args.from c.args.to in
-    let later = c.requires.later in
-    let test = c.if-to-chunk.true in
-    let least = ap (λ (y : Chunk). y.least) c.chunk-item.is in
-    let quiet : c.args.to < own.least = omega arith in
-    let none : list_any p own.entries.items ≡ false =
-    none-ends c.args.from own.least c.args.to own.entries.items later quiet ((every-at (IsBounded c.args.from c.args.next) cs i x c.loop-chunk-test.true c.requires.bounded).settled (omega arith)) in
-    sym (ap (list_any p) (drop-chunk cs i x c.loop-chunk-test.true) ∙ list_any-append p own.entries.items (all_of (drop (i + 1) cs))
-    ∙ ap (λ b. b || list_any p (all_of (drop (i + 1) cs))) none) ∙ c.loop-chunk.invariant
+    let s : Skipped c.args.from c.args.to cs 0 c.next_due-i.result = skipped c.args.from c.args.next c.args.to cs 0 c.next_due-i.result c.requires.later (omega arith) c.requires.board.bounded c.next_due-i.ensures in
+    let none = none-ends c.args.from (c.args.to + 1) c.args.to (over c.args.to cs) c.requires.later (omega arith) s.settled in record {
+      within = s.within;
+      rest = sym (ap (list_any p) s.left ∙ list_any-append p (over c.args.to cs) (all_of (drop c.next_due-i.result cs)) ∙ ap (λ b. b || list_any p (all_of (drop c.next_due-i.result cs))) none);
+    }
 
-pub loop-chunk-preserved : goal.loop-chunk-preserved
-loop-chunk-preserved c =
-    let cs = c.args.chunks.now in
-    let i = c.loop-chunk.chunk-index in
-    let x = c.chunk-item.result in
+pub loop-i-preserved : goal.loop-i-preserved
+loop-i-preserved c =
+    let cs = c.args.board.now.chunks.items in
     let p = ends_between c.args.from c.args.to in
-    let own : list_any p (get_or cs i x).entries.items ≡ false =
-    ap (λ (y : Chunk). list_any p y.entries.items) (sym c.chunk-item.is) ∙ ap (list_any p) (sym c.deref.ensures.value) ∙ sym c.has_ended_among.ensures ∙ c.if-has_ended_among.false in
-    sym (ap (list_any p) (drop-chunk cs i x c.loop-chunk-test.true) ∙ list_any-append p (get_or cs i x).entries.items (all_of (drop (i + 1) cs))
-    ∙ ap (λ b. b || list_any p (all_of (drop (i + 1) cs))) own) ∙ c.loop-chunk.invariant
+    let i = c.loop-i.i in
+    let j = c.next_due-i-in-loop-i.result in
+    let len = c.len.ensures in let test = c.loop-i-test.true in
+    let here : i < length cs = omega arith in
+    let x = chunk-at cs i here in
+    let s : Skipped c.args.from c.args.to cs (i + 1) j =
+    skipped c.args.from c.args.next c.args.to cs (i + 1) j c.requires.later (omega arith) (every-from (IsBounded c.args.from c.args.next) cs (i + 1) c.requires.board.bounded) c.next_due-i-in-loop-i.ensures in
+    let es = over c.args.to (drop (i + 1) cs) in
+    let rest = all_of (drop j cs) in
+    let none = none-ends c.args.from (c.args.to + 1) c.args.to es c.requires.later (omega arith) s.settled in
+    let own : list_any p (get_or cs i x).entries.items ≡ false = ap (list_any p) (sym (c.clients.ensures x)) ∙ sym c.has_ended_among.ensures ∙ c.if-has_ended_among.false in record {
+      within = s.within;
+      rest = sym (ap (list_any p) s.left ∙ list_any-append p es rest ∙ ap (λ b. b || list_any p rest) none)
+          ∙ sym (ap (list_any p) (drop-chunk cs i x here) ∙ list_any-append p (get_or cs i x).entries.items (all_of (drop (i + 1) cs))
+          ∙ ap (λ b. b || list_any p (all_of (drop (i + 1) cs))) own)
+          ∙ c.loop-i.invariant.rest;
+    }
 
 pub returns-then-has_ended_among : goal.returns-then-has_ended_among
 returns-then-has_ended_among c =
-    let cs = c.args.chunks.now in
-    let i = c.loop-chunk.chunk-index in
-    let x = c.chunk-item.result in
+    let cs = c.args.board.now.chunks.items in
     let p = ends_between c.args.from c.args.to in
-    let own : list_any p (get_or cs i x).entries.items ≡ true =
-    ap (λ (y : Chunk). list_any p y.entries.items) (sym c.chunk-item.is) ∙ ap (list_any p) (sym c.deref.ensures.value) ∙ sym c.has_ended_among.ensures ∙ c.if-has_ended_among.true in
-    sym (ap (list_any p) (drop-chunk cs i x c.loop-chunk-test.true) ∙ list_any-append p (get_or cs i x).entries.items (all_of (drop (i + 1) cs))
-    ∙ ap (λ b. b || list_any p (all_of (drop (i + 1) cs))) own) ∙ c.loop-chunk.invariant
+    let i = c.loop-i.i in
+    let len = c.len.ensures in let test = c.loop-i-test.true in
+    let here : i < length cs = omega arith in
+    let x = chunk-at cs i here in
+    let own : list_any p (get_or cs i x).entries.items ≡ true = ap (list_any p) (sym (c.clients.ensures x)) ∙ sym c.has_ended_among.ensures ∙ c.if-has_ended_among.true in
+    sym (ap (list_any p) (drop-chunk cs i x here) ∙ list_any-append p (get_or cs i x).entries.items (all_of (drop (i + 1) cs))
+    ∙ ap (λ b. b || list_any p (all_of (drop (i + 1) cs))) own) ∙ c.loop-i.invariant.rest
 
 pub returns : goal.returns
 returns c =
-    let cs = c.args.chunks.now in
+    let cs = c.args.board.now.chunks.items in
     let p = ends_between c.args.from c.args.to in
-    let stop = c.loop-chunk-test.false in
-    sym (ap (list_any p) (drop-end cs c.loop-chunk.chunk-index (omega arith))) ∙ c.loop-chunk.invariant
+    let stop = c.loop-i-test.false in let len = c.len.ensures in
+    sym (ap (list_any p) (drop-end cs c.loop-i.i (omega arith))) ∙ c.loop-i.invariant.rest

@@ -6,7 +6,7 @@ use Rattle.dgc_server.specs.Entry.{Entry}
 use Rattle.dgc_server.specs.HolderIndex.{is_named, with_only, object_count, IsCalm}
 use Rattle.dgc_server.proofs.Over.{over_more}
 use Rattle.dgc_server.proofs.Purging.{any_entry, only-set, only-none, one-within, one-less}
-use Rattle.dgc_server.proofs.Board.{every-at, every-set, calm-only}
+use Rattle.dgc_server.proofs.BoardLaws.{every-at, every-set, calm-only}
 use Rattle.dgc_server.proofs.table.keep_named.Goals as goal
 
 pub loop-i-init : goal.loop-i-init

@@ -2,7 +2,7 @@ use Rattle.std.proofs.Common.{◌≡◌, ◌<◌, rules, ap, sym, ◌∙◌, ari
 use Rattle.std.specs.Prelude.{vec_len}
 use Rattle.dgc_server.specs.HolderIndex.{entry_names, one_if}
 use Rattle.dgc_server.proofs.Walking.{changed, changed-same, changed-kept, changed-names, changed-front}
-use Rattle.dgc_server.proofs.Board.{settled-at}
+use Rattle.dgc_server.proofs.BoardLaws.{settled-at}
 use Rattle.dgc_server.proofs.table.walk.Goals as goal
 
 pub loop-i-preserved-then-names : goal.loop-i-preserved-then-names

@@ -9,9 +9,6 @@ use Rattle.ser_read.proofs.pieces.names.Goals as goal
 
 pub loop-init : goal.loop-init
 loop-init g c = record {
-  now = refl;
-  unread = refl;
-  grows = refl;
   lent = refl;
   leads = λ now. rw c.new-names.ensures (leads_start _ _ _ (λ end bs. many_start (plain (short_at end)) c.args.n now bs));
 }
@@ -20,19 +17,12 @@ pub returns-in_err-name-clause-stops : goal.returns-in_err-name-clause-stops
 returns-in_err-name-clause-stops g c = λ now. raised c.from_residual.result c.from_residual.ensures.1 (loop_stops (c.loop.invariant.leads now)
     (λ end bs f here is. many_err (plain (short_at end)) c.loop.names c.args.n c.loop.counter now bs f c.loop-test.true is) (plain_stops now c.in_err-name.ensures.stops))
 
-pub returns-in_err-add_entries-clause-stops : goal.returns-in_err-add_entries-clause-stops
-returns-in_err-add_entries-clause-stops g c = λ now. raised c.from_residual-in_err-add_entries.result c.from_residual-in_err-add_entries.ensures.1 (loop_stops (c.loop.invariant.leads now)
-    (λ end bs f here is. many_err (plain (short_at end)) c.loop.names c.args.n c.loop.counter now bs f c.loop-test.true is) (took (plain_reads now c.in_ok-name.ensures.reads)))
-
 pub returns-in_err-push-clause-stops : goal.returns-in_err-push-clause-stops
 returns-in_err-push-clause-stops g c = λ now. raised c.from_residual-in_err-push.result c.from_residual-in_err-push.ensures.1 (loop_stops (c.loop.invariant.leads now)
     (λ end bs f here is. many_err (plain (short_at end)) c.loop.names c.args.n c.loop.counter now bs f c.loop-test.true is) (took (plain_reads now c.in_ok-name.ensures.reads)))
 
 pub loop-preserved : goal.loop-preserved
 loop-preserved g c = record {
-  now = c.add_entries.ensures.now ∙ c.loop.invariant.now;
-  unread = c.add_entries.ensures.unread ∙ c.loop.invariant.unread;
-  grows = c.add_entries.ensures.grows ∙ c.loop.invariant.grows;
   lent = c.in_ok-name.ensures.lent ∙ c.loop.invariant.lent;
   leads = λ now. leads_more _ (c.loop.invariant.leads now) (plain_reads now c.in_ok-name.ensures.reads)
       (λ end bs rest here h. rw c.in_ok-push.ensures.ok (many_next (plain (short_at end)) c.loop.names c.args.n c.loop.counter now bs c.in_ok-name.name now rest c.loop-test.true h))

@@ -9,9 +9,6 @@ use Rattle.ser_read.proofs.pieces.names.Given as goal
 abbrev pub invariant-loop : goal.invariant-loop
 invariant-loop g l =
     record {
-      now : now_of l.table ≡ now_of l.fn.table;
-      unread : l.table.unread.items ≡ l.fn.table.unread.items;
-      grows : length l.table.nodes.items ≡ length l.fn.table.nodes.items;
       lent : l.pull.source.ghost_name ≡ l.fn.pull.source.ghost_name;
       leads : (now : Progress) → Leads short (pull_state g.S.Source.half l.fn.pull) (pull_state g.S.Source.half l.pull) (λ end. many_at (plain (short_at end)) l.n now) (λ end bs. front_of l.names (many_at (plain (short_at end)) (l.n - l.counter) now bs));
     }

@@ -9,6 +9,3 @@ returns-in_err-slot-clause-stops g c = want_raised c.from_residual.result c.from
 
 pub returns-in_err-push-clause-stops : goal.returns-in_err-push-clause-stops
 returns-in_err-push-clause-stops g c = want_raised c.from_residual-in_err-push.result c.from_residual-in_err-push.ensures.1 (want_said (λ end bs here. slot_none end (stand_of c.args.stand.now) bs (omega arith)) (want_first _ (want_took c.in_ok-slot.ensures.reads)))
-
-pub returns-in_err-add_entries-clause-stops : goal.returns-in_err-add_entries-clause-stops
-returns-in_err-add_entries-clause-stops g c = want_raised c.from_residual-in_err-add_entries.result c.from_residual-in_err-add_entries.ensures.1 (want_said (λ end bs here. slot_none end (stand_of c.args.stand.now) bs (omega arith)) (want_first _ (want_took c.in_ok-slot.ensures.reads)))

@@ -2,7 +2,7 @@ use Rattle.std.proofs.Common.{◌≡◌, Err, ◌-◌, ◌∙◌, FitsSigned, �
 use Rattle.std.proofs.lemmas.Bool.{ne_eqb}
 use Rattle.class_desc.specs.declared.slot.Slot.TheVariants as slots
 use Rattle.ser_values.specs.declared.node.SlotPlace.TheVariants.{Reference, Text}
-use Rattle.stream_grammar.specs.Reading.{FaultKind, short, bad, enum_at, fresh_at, note_at, slot_at, coded, field_at, field_of, value_at, Progress, push, fill, blank, proxy_at, array_of, array_at, type_in}
+use Rattle.stream_grammar.specs.Reading.{FaultKind, short, bad, enum_at, fresh_at, note_at, slot_at, coded, field_at, field_of, value_at, Progress, add_parts, push, fill, blank, proxy_at, array_of, array_at, type_in}
 use Rattle.ser_read.specs.ObjectRows.{part_by, values_by, parts_by}
 use Rattle.ser_read.specs.Tables.{now_of}
 use Rattle.ser_read.specs.Here.{kind_of}
@@ -26,6 +26,7 @@ use Rattle.class_desc.specs.TypeText.{code_of}
 use Rattle.class_desc.specs.ClassDesc.{is_good_desc}
 use Rattle.ser_values.specs.Shape.{fits_type}
 use Rattle.ser_values.specs.declared.node.Node.TheVariants as nodes
+use Rattle.ser_values.specs.declared.value.Values.TheVariants as kinds_of
 use Rattle.std.proofs.lemmas.Grind.{common_steps}
 use Rattle.ser_read.proofs.NodeReading.{fell}
 
@@ -66,7 +67,7 @@ arrays::array_of-returns g t c = record {
   grows = first_of (search rules, grind (arith, common_steps));
   unread = first_of (search rules, grind (arith, common_steps));
   some = first_of (search rules, grind (arith, common_steps));
-  reads = then _ c.in_ok-n.ensures.reads (then _ (rw (c.begin.ensures.unread, c.in_ok-number.ensures.now, c.new.ensures) at c.in_ok-values.ensures.reads) (done (λ end bs. made _ _ _ _ _ bs _ refl c.in_ok-number.ensures.number c.fill.ensures.now)));
+  reads = then _ c.in_ok-n.ensures.reads (otherwise _ (rw c.refs_among.ensures at c.in_ok-count_parts.ensures.room) (then _ (rw (c.begin.ensures.unread, c.count_parts.ensures.unread, c.in_ok-number.ensures.now ∙ ap (λ (n : Progress). push n (nodes.Array c.args.class (kinds_of.Bytes c.new.result))) c.in_ok-count_parts.ensures.ok, c.refs_among.ensures, c.new.ensures) at c.in_ok-values.ensures.reads) (done (λ end bs. made _ _ _ _ _ bs _ refl (c.in_ok-number.ensures.number ∙ c.count_parts.ensures.grows) c.fill.ensures.now))));
   stops = tt;
 }
 
@@ -97,7 +98,7 @@ descriptions::proxy-returns g t c = record {
   grows = first_of (search rules, grind (arith, common_steps));
   unread = first_of (search rules, grind (arith, common_steps));
   some = first_of (search rules, grind (arith, common_steps));
-  reads = then _ c.in_ok-n.ensures.reads (then _ (c.in_ok-names.ensures.reads (push (now_of c.args.table.now) (nodes.Desc blank))) (then _ (rw (c.names.ensures.unread, c.names.ensures.now, c.in_ok-open.ensures.unread, c.begin.ensures.unread, c.open.ensures.now, c.in_ok-number.ensures.now, c.blank.ensures, c.in_ok-number.ensures.number) at c.in_ok-note.ensures.reads) (then _ (rw (c.in_ok-note.ensures.unread, c.names.ensures.unread, c.in_ok-open.ensures.unread, c.begin.ensures.unread, c.in_ok-number.ensures.number) at c.in_ok-parent.ensures.reads) (done (λ end bs. made _ _ _ _ _ bs _ refl c.in_ok-number.ensures.number (c.fill.ensures.now ∙ ap (λ (n : Progress). fill n c.in_ok-number.number (nodes.Proxy (record { names = c.in_ok-names.names; note = c.in_ok-note.note; parent = c.in_ok-parent.parent }))) c.close.ensures.now))))));
+  reads = then _ c.in_ok-n.ensures.reads (otherwise _ c.in_ok-count_parts.ensures.room (then _ (c.in_ok-names.ensures.reads (add_parts c.in_ok-n.n (push (now_of c.args.table.now) (nodes.Desc blank)))) (then _ (rw (c.in_ok-open.ensures.unread, c.begin.ensures.unread, c.count_parts.ensures.unread, c.open.ensures.now, c.in_ok-number.ensures.now ∙ ap (λ (n : Progress). push n c.blank.result) c.in_ok-count_parts.ensures.ok, c.blank.ensures, c.in_ok-number.ensures.number, c.count_parts.ensures.grows) at c.in_ok-note.ensures.reads) (then _ (rw (c.in_ok-note.ensures.unread, c.in_ok-open.ensures.unread, c.begin.ensures.unread, c.count_parts.ensures.unread, c.in_ok-number.ensures.number, c.count_parts.ensures.grows) at c.in_ok-parent.ensures.reads) (done (λ end bs. made _ _ _ _ _ bs _ refl (c.in_ok-number.ensures.number ∙ c.count_parts.ensures.grows) (c.fill.ensures.now ∙ ap (λ (n : Progress). fill n c.in_ok-number.number (nodes.Proxy (record { names = c.in_ok-names.names; note = c.in_ok-note.note; parent = c.in_ok-parent.parent }))) c.close.ensures.now)))))));
   stops = tt;
 }
 
@@ -111,7 +112,7 @@ descriptions::desc_behind-returns g t c =
       grows = first_of (search rules, grind (arith, common_steps));
       unread = first_of (search rules, grind (arith, common_steps));
       some = tt;
-      reads = rw (to_z-of_z w64 c.cast_signed.result fits, c.cast_signed.ensures) (then _ c.in_ok-fields.ensures.reads (when _ good (then _ (rw c.in_ok-fields.ensures.unread at c.in_ok-desc.ensures.reads) (then _ (rw (c.in_ok-desc.ensures.unread, c.in_ok-fields.ensures.unread) at c.in_ok-desc-2.ensures.reads) (done (λ end bs. refl))))));
+      reads = rw (to_z-of_z w64 c.cast_signed.result fits, c.cast_signed.ensures) (otherwise _ (rw c.from.ensures at c.in_ok-count_parts.ensures.room) (then _ (rw (c.count_parts.ensures.unread, c.in_ok-count_parts.ensures.ok, c.from.ensures) at c.in_ok-fields.ensures.reads) (when _ good (then _ (rw (c.in_ok-fields.ensures.unread, c.count_parts.ensures.unread) at c.in_ok-desc.ensures.reads) (then _ (rw (c.in_ok-desc.ensures.unread, c.in_ok-fields.ensures.unread, c.count_parts.ensures.unread) at c.in_ok-desc-2.ensures.reads) (done (λ end bs. refl)))))));
       stops = tt;
     }
 
@@ -138,7 +139,7 @@ objects::value-returns-then-is_primitive g t c = record {
 pub objects::object_in-returns : goal.objects::object_in-returns
 objects::object_in-returns g t c =
     let rows = c.as_slice-rows.ensures.value ∙ c.in_ok-shape.ensures.rows in
-    let few = sym c.lacks_parts.ensures ∙ c.if-lacks_parts.false in
+    let few = sym c.lacks_object.ensures ∙ c.if-lacks_object.false in
     let good = sym c.in_ok-shape.ensures.fault ∙ ap (λ (f : Option StreamKind). option_map kind_of f) c.in-None.is in
     record {
       lent = first_of (search rules, grind (arith, common_steps));
@@ -182,7 +183,7 @@ annotations::item-returns-in_ok-take g t c = record {
   grows = first_of (search rules, grind (arith, common_steps));
   unread = first_of (search rules, grind (arith, common_steps));
   some = tt;
-  reads = said (λ end bs here. item_block end _ c.args.code _ bs c.if-code-eq119.true) (then _ c.in_ok-n.ensures.reads (then _ (rw c.from.ensures at c.in_ok-take.ensures.reads) (done (λ end bs. refl))));
+  reads = said (λ end bs here. item_block end c.args.at _ c.args.code _ bs c.if-code-eq119.true) (then _ c.in_ok-n.ensures.reads (then _ (rw c.from.ensures at c.in_ok-take.ensures.reads) (done (λ end bs. refl))));
   stops = tt;
 }
 
@@ -192,7 +193,7 @@ annotations::item-returns-in_ok-take-2 g t c = record {
   grows = first_of (search rules, grind (arith, common_steps));
   unread = first_of (search rules, grind (arith, common_steps));
   some = tt;
-  reads = said (λ end bs here. item_long end _ c.args.code _ bs c.if-code-eq122.true) (then _ c.in_ok-n-2.ensures.reads (then _ (rw c.from-then-code-eq122.ensures at c.in_ok-take-2.ensures.reads) (done (λ end bs. refl))));
+  reads = said (λ end bs here. item_long end c.args.at _ c.args.code _ bs c.if-code-eq122.true) (then _ c.in_ok-n-2.ensures.reads (then _ (rw c.from-then-code-eq122.ensures at c.in_ok-take-2.ensures.reads) (done (λ end bs. refl))));
   stops = tt;
 }
 
@@ -203,7 +204,7 @@ objects::part-returns g t c = record {
   grows = first_of (search rules, grind (arith, common_steps));
   unread = first_of (search rules, grind (arith, common_steps));
   some = tt;
-  reads = then _ (rw (c.add_entries.ensures.unread, c.add_entries.ensures.now, c.as_slice.ensures) at c.in_ok-values.ensures.reads) (then _ (rw (c.in_ok-values.ensures.unread, c.add_entries.ensures.unread) at c.in_ok-note.ensures.reads) (done (λ end bs. refl)));
+  reads = then _ (rw c.as_slice.ensures at c.in_ok-values.ensures.reads) (then _ (rw c.in_ok-values.ensures.unread at c.in_ok-note.ensures.reads) (done (λ end bs. refl)));
   stops = tt;
 }
 
@@ -220,9 +221,9 @@ slot-returns g t c = record {
 pub arrays::slots-loop-preserved : goal.arrays::slots-loop-preserved
 arrays::slots-loop-preserved g t c = record {
   lent = c.in_ok-slot.ensures.lent ∙ c.loop.invariant.lent;
-  grows = omega (arith, c.add_entries.ensures.grows, c.slot.ensures.grows, c.loop.invariant.grows);
-  unread = c.add_entries.ensures.unread ∙ c.in_ok-slot.ensures.unread ∙ c.loop.invariant.unread;
-  leads = rw c.add_entries.ensures.now (leads_more _ c.loop.invariant.leads (rw c.loop.invariant.unread at c.in_ok-slot.ensures.reads) (λ end bs rest here h. rw c.in_ok-push.ensures.ok (many_next (slot_at end c.args.left Reference c.args.table.now.unread.items) c.loop.slots c.args.n c.loop.counter (now_of c.loop.table) bs c.in_ok-slot.slot (now_of c.slot.new.table) rest c.loop-test.true h))
+  grows = omega (arith, c.slot.ensures.grows, c.loop.invariant.grows);
+  unread = c.in_ok-slot.ensures.unread ∙ c.loop.invariant.unread;
+  leads = (leads_more _ c.loop.invariant.leads (rw c.loop.invariant.unread at c.in_ok-slot.ensures.reads) (λ end bs rest here h. rw c.in_ok-push.ensures.ok (many_next (slot_at end c.args.left Reference c.args.table.now.unread.items) c.loop.slots c.args.n c.loop.counter (now_of c.loop.table) bs c.in_ok-slot.slot (now_of c.slot.new.table) rest c.loop-test.true h))
       (λ end bs here is. many_err (slot_at end c.args.left Reference c.args.table.now.unread.items) c.loop.slots c.args.n c.loop.counter (now_of c.loop.table) bs short c.loop-test.true is));
 }
 
@@ -239,9 +240,9 @@ arrays::slots-returns g t c = record {
 pub descriptions::fields-loop-preserved : goal.descriptions::fields-loop-preserved
 descriptions::fields-loop-preserved g t c = record {
   lent = c.in_ok-field.ensures.lent ∙ c.loop.invariant.lent;
-  grows = omega (arith, c.add_entries.ensures.grows, c.field.ensures.grows, c.loop.invariant.grows);
-  unread = c.add_entries.ensures.unread ∙ c.in_ok-field.ensures.unread ∙ c.loop.invariant.unread;
-  leads = rw c.add_entries.ensures.now (leads_more _ c.loop.invariant.leads (rw c.loop.invariant.unread at c.in_ok-field.ensures.reads) (λ end bs rest here h. rw c.in_ok-push.ensures.items (many_next (field_at end c.args.at (slot_at end c.args.left Text c.args.table.now.unread.items)) c.loop.fields.items c.args.n c.loop.counter (now_of c.loop.table) bs c.in_ok-field.field (now_of c.field.new.table) rest c.loop-test.true h))
+  grows = omega (arith, c.field.ensures.grows, c.loop.invariant.grows);
+  unread = c.in_ok-field.ensures.unread ∙ c.loop.invariant.unread;
+  leads = (leads_more _ c.loop.invariant.leads (rw c.loop.invariant.unread at c.in_ok-field.ensures.reads) (λ end bs rest here h. rw c.in_ok-push.ensures.items (many_next (field_at end c.args.at (slot_at end c.args.left Text c.args.table.now.unread.items)) c.loop.fields.items c.args.n c.loop.counter (now_of c.loop.table) bs c.in_ok-field.field (now_of c.field.new.table) rest c.loop-test.true h))
       (λ end bs here is. many_err (field_at end c.args.at (slot_at end c.args.left Text c.args.table.now.unread.items)) c.loop.fields.items c.args.n c.loop.counter (now_of c.loop.table) bs short c.loop-test.true is));
 }
 
@@ -332,9 +333,9 @@ annotations::items-returns-then-code-eq120 g t c = record {
 pub annotations::items-loop-items-preserved : goal.annotations::items-loop-items-preserved
 annotations::items-loop-items-preserved g t c = record {
   lent = c.in_ok-item.ensures.lent ∙ c.in_ok-code.ensures.lent ∙ c.loop-items.invariant.lent;
-  grows = omega (arith, c.add_entries.ensures.grows, c.item.ensures.grows, c.loop-items.invariant.grows);
-  unread = c.add_entries.ensures.unread ∙ c.in_ok-item.ensures.unread ∙ c.loop-items.invariant.unread;
-  slack = rw (c.add_entries.ensures.now, c.in_ok-add.ensures) (slack_more (λ end. coded end c.args.left (slot_at end (c.args.left - 1)) Reference c.args.table.now.unread.items c.loop-items.pull.at c.in_ok-code.code) c.loop-items.invariant.slack c.in_ok-code.ensures.reads (rw c.loop-items.invariant.unread at c.in_ok-item.ensures.reads) (ne_eqb c.in_ok-code.code 120 c.if-code-eq120.false)
+  grows = omega (arith, c.item.ensures.grows, c.loop-items.invariant.grows);
+  unread = c.in_ok-item.ensures.unread ∙ c.loop-items.invariant.unread;
+  slack = rw c.in_ok-add.ensures (slack_more (λ end. coded end c.args.left (slot_at end (c.args.left - 1)) Reference c.args.table.now.unread.items c.loop-items.pull.at c.in_ok-code.code) c.loop-items.invariant.slack c.in_ok-code.ensures.reads (rw c.loop-items.invariant.unread at c.in_ok-item.ensures.reads) (ne_eqb c.in_ok-code.code 120 c.if-code-eq120.false)
       (λ end bs here. slot_gives end c.args.left Reference c.args.table.now.unread.items (now_of c.loop-items.table) (c.in_ok-code.code ∷ bs) c.loop-items.pull.at c.in_ok-code.code bs here refl));
 }
 
@@ -360,6 +361,10 @@ pub descriptions::proxy-returns-in_err-n : goal.descriptions::proxy-returns-in_e
 unfolding proxy_at
 descriptions::proxy-returns-in_err-n g t c = fell c.from_residual.result c.from_residual.ensures.1 (λ f. tt) (first_of (search rules, grind (arith, common_steps))) (first_of (search rules, grind (arith, common_steps))) (first _ c.in_err-n.ensures.stops)
 
+pub descriptions::proxy-returns-in_err-count_parts : goal.descriptions::proxy-returns-in_err-count_parts
+unfolding proxy_at
+descriptions::proxy-returns-in_err-count_parts g t c = fell c.from_residual-in_err-count_parts.result c.from_residual-in_err-count_parts.ensures.1 (λ f. tt) (first_of (search rules, grind (arith, common_steps))) (first_of (search rules, grind (arith, common_steps))) (later _ c.in_ok-n.ensures.reads (rw c.in_err-count_parts.ensures.err.0 (many_here c.args.at (λ end bs here. rw c.in_err-count_parts.ensures.err.1 refl))))
+
 pub descriptions::proxy-returns-in_err-number : goal.descriptions::proxy-returns-in_err-number
 unfolding proxy_at
 descriptions::proxy-returns-in_err-number g t c = fell c.from_residual-in_err-number.result c.from_residual-in_err-number.ensures.1 (λ f. tt) (first_of (search rules, grind (arith, common_steps))) (first_of (search rules, grind (arith, common_steps))) (first _ (took c.in_ok-n.ensures.reads))
@@ -370,31 +375,35 @@ descriptions::proxy-returns-in_err-open g t c = fell c.from_residual-in_err-open
 
 pub descriptions::proxy-returns-in_err-names : goal.descriptions::proxy-returns-in_err-names
 unfolding proxy_at
-descriptions::proxy-returns-in_err-names g t c = fell c.from_residual-in_err-names.result c.from_residual-in_err-names.ensures.1 (λ f. tt) (first_of (search rules, grind (arith, common_steps))) (first_of (search rules, grind (arith, common_steps))) (later _ c.in_ok-n.ensures.reads (first _ (c.in_err-names.ensures.stops (push (now_of c.args.table.now) (nodes.Desc blank)))))
+descriptions::proxy-returns-in_err-names g t c = fell c.from_residual-in_err-names.result c.from_residual-in_err-names.ensures.1 (λ f. tt) (first_of (search rules, grind (arith, common_steps))) (first_of (search rules, grind (arith, common_steps))) (later _ c.in_ok-n.ensures.reads (stops_otherwise _ c.in_ok-count_parts.ensures.room (first _ (c.in_err-names.ensures.stops (add_parts c.in_ok-n.n (push (now_of c.args.table.now) (nodes.Desc blank)))))))
 
 pub descriptions::proxy-returns-in_err-note : goal.descriptions::proxy-returns-in_err-note
 unfolding proxy_at
-descriptions::proxy-returns-in_err-note g t c = fell c.from_residual-in_err-note.result c.from_residual-in_err-note.ensures.1 (λ f. tt) (first_of (search rules, grind (arith, common_steps))) (first_of (search rules, grind (arith, common_steps))) (later _ c.in_ok-n.ensures.reads (later _ (c.in_ok-names.ensures.reads (push (now_of c.args.table.now) (nodes.Desc blank))) (first _ (rw (c.names.ensures.unread, c.names.ensures.now, c.in_ok-open.ensures.unread, c.begin.ensures.unread, c.open.ensures.now, c.in_ok-number.ensures.now, c.blank.ensures, c.in_ok-number.ensures.number) at c.in_err-note.ensures.stops))))
+descriptions::proxy-returns-in_err-note g t c = fell c.from_residual-in_err-note.result c.from_residual-in_err-note.ensures.1 (λ f. tt) (first_of (search rules, grind (arith, common_steps))) (first_of (search rules, grind (arith, common_steps))) (later _ c.in_ok-n.ensures.reads (stops_otherwise _ c.in_ok-count_parts.ensures.room (later _ (c.in_ok-names.ensures.reads (add_parts c.in_ok-n.n (push (now_of c.args.table.now) (nodes.Desc blank)))) (first _ (rw (c.in_ok-open.ensures.unread, c.begin.ensures.unread, c.count_parts.ensures.unread, c.open.ensures.now, c.in_ok-number.ensures.now ∙ ap (λ (n : Progress). push n c.blank.result) c.in_ok-count_parts.ensures.ok, c.blank.ensures, c.in_ok-number.ensures.number, c.count_parts.ensures.grows) at c.in_err-note.ensures.stops)))))
 
 pub descriptions::proxy-returns-in_err-parent : goal.descriptions::proxy-returns-in_err-parent
 unfolding proxy_at
-descriptions::proxy-returns-in_err-parent g t c = fell c.from_residual-in_err-parent.result c.from_residual-in_err-parent.ensures.1 (λ f. tt) (first_of (search rules, grind (arith, common_steps))) (first_of (search rules, grind (arith, common_steps))) (later _ c.in_ok-n.ensures.reads (later _ (c.in_ok-names.ensures.reads (push (now_of c.args.table.now) (nodes.Desc blank))) (later _ (rw (c.names.ensures.unread, c.names.ensures.now, c.in_ok-open.ensures.unread, c.begin.ensures.unread, c.open.ensures.now, c.in_ok-number.ensures.now, c.blank.ensures, c.in_ok-number.ensures.number) at c.in_ok-note.ensures.reads) (first _ (rw (c.in_ok-note.ensures.unread, c.names.ensures.unread, c.in_ok-open.ensures.unread, c.begin.ensures.unread, c.in_ok-number.ensures.number) at c.in_err-parent.ensures.stops)))))
+descriptions::proxy-returns-in_err-parent g t c = fell c.from_residual-in_err-parent.result c.from_residual-in_err-parent.ensures.1 (λ f. tt) (first_of (search rules, grind (arith, common_steps))) (first_of (search rules, grind (arith, common_steps))) (later _ c.in_ok-n.ensures.reads (stops_otherwise _ c.in_ok-count_parts.ensures.room (later _ (c.in_ok-names.ensures.reads (add_parts c.in_ok-n.n (push (now_of c.args.table.now) (nodes.Desc blank)))) (later _ (rw (c.in_ok-open.ensures.unread, c.begin.ensures.unread, c.count_parts.ensures.unread, c.open.ensures.now, c.in_ok-number.ensures.now ∙ ap (λ (n : Progress). push n c.blank.result) c.in_ok-count_parts.ensures.ok, c.blank.ensures, c.in_ok-number.ensures.number, c.count_parts.ensures.grows) at c.in_ok-note.ensures.reads) (first _ (rw (c.in_ok-note.ensures.unread, c.in_ok-open.ensures.unread, c.begin.ensures.unread, c.count_parts.ensures.unread, c.in_ok-number.ensures.number, c.count_parts.ensures.grows) at c.in_err-parent.ensures.stops))))))
+
+pub descriptions::desc_behind-returns-in_err-count_parts : goal.descriptions::desc_behind-returns-in_err-count_parts
+unfolding desc_behind
+descriptions::desc_behind-returns-in_err-count_parts g t c = fell c.from_residual.result c.from_residual.ensures.1 (λ f. tt) (first_of (search rules, grind (arith, common_steps))) (first_of (search rules, grind (arith, common_steps))) (rw c.in_err-count_parts.ensures.err.0 (many_here c.args.at (λ end bs here. rw (rw c.from.ensures at c.in_err-count_parts.ensures.err.1) refl)))
 
 pub descriptions::desc_behind-returns-in_err-fields : goal.descriptions::desc_behind-returns-in_err-fields
 unfolding desc_behind
-descriptions::desc_behind-returns-in_err-fields g t c = fell c.from_residual.result c.from_residual.ensures.1 (λ f. tt) (first_of (search rules, grind (arith, common_steps))) (first_of (search rules, grind (arith, common_steps))) (first _ c.in_err-fields.ensures.stops)
+descriptions::desc_behind-returns-in_err-fields g t c = fell c.from_residual-in_err-fields.result c.from_residual-in_err-fields.ensures.1 (λ f. tt) (first_of (search rules, grind (arith, common_steps))) (first_of (search rules, grind (arith, common_steps))) (stops_otherwise _ (rw c.from.ensures at c.in_ok-count_parts.ensures.room) (first _ (rw (c.count_parts.ensures.unread, c.in_ok-count_parts.ensures.ok, c.from.ensures) at c.in_err-fields.ensures.stops)))
 
 pub descriptions::desc_behind-returns-in_err-desc : goal.descriptions::desc_behind-returns-in_err-desc
 unfolding desc_behind
 descriptions::desc_behind-returns-in_err-desc g t c =
     let good : is_good_desc (record { name = c.args.name; suid = cast_signed w64 c.args.front.suid; flags = c.args.front.flags; fields = c.in_ok-fields.fields; note = []; parent = slots.Null }) ≡ true = search rules in
-    fell c.from_residual-in_err-desc.result c.from_residual-in_err-desc.ensures.1 (λ f. tt) (first_of (search rules, grind (arith, common_steps))) (first_of (search rules, grind (arith, common_steps))) (later _ c.in_ok-fields.ensures.reads (stops_when _ good (first _ (rw c.in_ok-fields.ensures.unread at c.in_err-desc.ensures.stops))))
+    fell c.from_residual-in_err-desc.result c.from_residual-in_err-desc.ensures.1 (λ f. tt) (first_of (search rules, grind (arith, common_steps))) (first_of (search rules, grind (arith, common_steps))) (stops_otherwise _ (rw c.from.ensures at c.in_ok-count_parts.ensures.room) (later _ (rw (c.count_parts.ensures.unread, c.in_ok-count_parts.ensures.ok, c.from.ensures) at c.in_ok-fields.ensures.reads) (stops_when _ good (first _ (rw (c.in_ok-fields.ensures.unread, c.count_parts.ensures.unread) at c.in_err-desc.ensures.stops)))))
 
 pub descriptions::desc_behind-returns-in_err-desc-2 : goal.descriptions::desc_behind-returns-in_err-desc-2
 unfolding desc_behind
 descriptions::desc_behind-returns-in_err-desc-2 g t c =
     let good : is_good_desc (record { name = c.args.name; suid = cast_signed w64 c.args.front.suid; flags = c.args.front.flags; fields = c.in_ok-fields.fields; note = []; parent = slots.Null }) ≡ true = search rules in
-    fell c.from_residual-in_err-desc-2.result c.from_residual-in_err-desc-2.ensures.1 (λ f. tt) (first_of (search rules, grind (arith, common_steps))) (first_of (search rules, grind (arith, common_steps))) (later _ c.in_ok-fields.ensures.reads (stops_when _ good (later _ (rw c.in_ok-fields.ensures.unread at c.in_ok-desc.ensures.reads) (first _ (rw (c.in_ok-desc.ensures.unread, c.in_ok-fields.ensures.unread) at c.in_err-desc-2.ensures.stops)))))
+    fell c.from_residual-in_err-desc-2.result c.from_residual-in_err-desc-2.ensures.1 (λ f. tt) (first_of (search rules, grind (arith, common_steps))) (first_of (search rules, grind (arith, common_steps))) (stops_otherwise _ (rw c.from.ensures at c.in_ok-count_parts.ensures.room) (later _ (rw (c.count_parts.ensures.unread, c.in_ok-count_parts.ensures.ok, c.from.ensures) at c.in_ok-fields.ensures.reads) (stops_when _ good (later _ (rw (c.in_ok-fields.ensures.unread, c.count_parts.ensures.unread) at c.in_ok-desc.ensures.reads) (first _ (rw (c.in_ok-desc.ensures.unread, c.in_ok-fields.ensures.unread, c.count_parts.ensures.unread) at c.in_err-desc-2.ensures.stops))))))
 
 pub descriptions::desc_behind-returns-then-is_err : goal.descriptions::desc_behind-returns-then-is_err
 unfolding desc_behind
@@ -406,7 +415,7 @@ descriptions::desc_behind-returns-then-is_err g t c =
       unread = tt;
       some = tt;
       reads = tt;
-      stops = rw c.bad.ensures (later _ c.in_ok-fields.ensures.reads (stops_otherwise _ poor (bad_here BadDesc c.args.at tt (λ end bs here. refl))));
+      stops = rw c.bad.ensures (stops_otherwise _ (rw c.from.ensures at c.in_ok-count_parts.ensures.room) (later _ (rw (c.count_parts.ensures.unread, c.in_ok-count_parts.ensures.ok, c.from.ensures) at c.in_ok-fields.ensures.reads) (stops_otherwise _ poor (bad_here BadDesc c.args.at tt (λ end bs here. refl)))));
     }
 
 pub class-returns-in_err-slot : goal.class-returns-in_err-slot
@@ -451,13 +460,17 @@ pub arrays::array_of-returns-in_err-n : goal.arrays::array_of-returns-in_err-n
 unfolding array_of
 arrays::array_of-returns-in_err-n g t c = fell c.from_residual.result c.from_residual.ensures.1 (λ f. tt) (first_of (search rules, grind (arith, common_steps))) (first_of (search rules, grind (arith, common_steps))) (first _ c.in_err-n.ensures.stops)
 
+pub arrays::array_of-returns-in_err-count_parts : goal.arrays::array_of-returns-in_err-count_parts
+unfolding array_of
+arrays::array_of-returns-in_err-count_parts g t c = fell c.from_residual-in_err-count_parts.result c.from_residual-in_err-count_parts.ensures.1 (λ f. tt) (first_of (search rules, grind (arith, common_steps))) (first_of (search rules, grind (arith, common_steps))) (later _ c.in_ok-n.ensures.reads (rw c.in_err-count_parts.ensures.err.0 (many_here c.args.at (λ end bs here. rw (rw c.refs_among.ensures at c.in_err-count_parts.ensures.err.1) refl))))
+
 pub arrays::array_of-returns-in_err-number : goal.arrays::array_of-returns-in_err-number
 unfolding array_of
 arrays::array_of-returns-in_err-number g t c = fell c.from_residual-in_err-number.result c.from_residual-in_err-number.ensures.1 (λ f. tt) (first_of (search rules, grind (arith, common_steps))) (first_of (search rules, grind (arith, common_steps))) (first _ (took c.in_ok-n.ensures.reads))
 
 pub arrays::array_of-returns-in_err-values : goal.arrays::array_of-returns-in_err-values
 unfolding array_of
-arrays::array_of-returns-in_err-values g t c = fell c.from_residual-in_err-values.result c.from_residual-in_err-values.ensures.1 (λ f. tt) (first_of (search rules, grind (arith, common_steps))) (first_of (search rules, grind (arith, common_steps))) (later _ c.in_ok-n.ensures.reads (first _ (rw (c.begin.ensures.unread, c.in_ok-number.ensures.now, c.new.ensures) at c.in_err-values.ensures.stops)))
+arrays::array_of-returns-in_err-values g t c = fell c.from_residual-in_err-values.result c.from_residual-in_err-values.ensures.1 (λ f. tt) (first_of (search rules, grind (arith, common_steps))) (first_of (search rules, grind (arith, common_steps))) (later _ c.in_ok-n.ensures.reads (stops_otherwise _ (rw c.refs_among.ensures at c.in_ok-count_parts.ensures.room) (first _ (rw (c.begin.ensures.unread, c.count_parts.ensures.unread, c.in_ok-number.ensures.now ∙ ap (λ (n : Progress). push n (nodes.Array c.args.class (kinds_of.Bytes c.new.result))) c.in_ok-count_parts.ensures.ok, c.refs_among.ensures, c.new.ensures) at c.in_err-values.ensures.stops))))
 
 pub arrays::elements-returns-in_err-slots : goal.arrays::elements-returns-in_err-slots
 arrays::elements-returns-in_err-slots g t c = fell c.from_residual.result c.from_residual.ensures.1 (λ f. tt) (first_of (search rules, grind (arith, common_steps))) (first_of (search rules, grind (arith, common_steps))) (breaks_said (λ end bs here. elements_refs c.args.code c.args.n (slot_at end c.args.left Reference c.args.table.now.unread.items) (now_of c.args.table.now) bs (sym c.is_primitive.ensures ∙ c.if-is_primitive.false)) (first _ c.in_err-slots.ensures.stops))
@@ -510,45 +523,39 @@ descriptions::field_of-returns-then-not-fits_type g t c =
     }
 
 pub annotations::item-returns-in_err-n : goal.annotations::item-returns-in_err-n
-annotations::item-returns-in_err-n g t c = fell c.from_residual.result c.from_residual.ensures.1 (λ f. tt) (first_of (search rules, grind (arith, common_steps))) (first_of (search rules, grind (arith, common_steps))) (breaks_said (λ end bs here. item_block end _ c.args.code _ bs c.if-code-eq119.true) (first _ c.in_err-n.ensures.stops))
+annotations::item-returns-in_err-n g t c = fell c.from_residual.result c.from_residual.ensures.1 (λ f. tt) (first_of (search rules, grind (arith, common_steps))) (first_of (search rules, grind (arith, common_steps))) (breaks_said (λ end bs here. item_block end c.args.at _ c.args.code _ bs c.if-code-eq119.true) (first _ c.in_err-n.ensures.stops))
 
 pub annotations::item-returns-in_err-take : goal.annotations::item-returns-in_err-take
-annotations::item-returns-in_err-take g t c = fell c.from_residual-in_err-take.result c.from_residual-in_err-take.ensures.1 (λ f. tt) (first_of (search rules, grind (arith, common_steps))) (first_of (search rules, grind (arith, common_steps))) (breaks_said (λ end bs here. item_block end _ c.args.code _ bs c.if-code-eq119.true) (later _ c.in_ok-n.ensures.reads (first _ (rw c.from.ensures at c.in_err-take.ensures.stops))))
+annotations::item-returns-in_err-take g t c = fell c.from_residual-in_err-take.result c.from_residual-in_err-take.ensures.1 (λ f. tt) (first_of (search rules, grind (arith, common_steps))) (first_of (search rules, grind (arith, common_steps))) (breaks_said (λ end bs here. item_block end c.args.at _ c.args.code _ bs c.if-code-eq119.true) (later _ c.in_ok-n.ensures.reads (first _ (rw c.from.ensures at c.in_err-take.ensures.stops))))
 
 pub annotations::item-returns-in_err-n-2 : goal.annotations::item-returns-in_err-n-2
-annotations::item-returns-in_err-n-2 g t c = fell c.from_residual-in_err-n-2.result c.from_residual-in_err-n-2.ensures.1 (λ f. tt) (first_of (search rules, grind (arith, common_steps))) (first_of (search rules, grind (arith, common_steps))) (breaks_said (λ end bs here. item_long end _ c.args.code _ bs c.if-code-eq122.true) (first _ c.in_err-n-2.ensures.stops))
+annotations::item-returns-in_err-n-2 g t c = fell c.from_residual-in_err-n-2.result c.from_residual-in_err-n-2.ensures.1 (λ f. tt) (first_of (search rules, grind (arith, common_steps))) (first_of (search rules, grind (arith, common_steps))) (breaks_said (λ end bs here. item_long end c.args.at _ c.args.code _ bs c.if-code-eq122.true) (first _ c.in_err-n-2.ensures.stops))
 
 pub annotations::item-returns-in_err-take-2 : goal.annotations::item-returns-in_err-take-2
-annotations::item-returns-in_err-take-2 g t c = fell c.from_residual-in_err-take-2.result c.from_residual-in_err-take-2.ensures.1 (λ f. tt) (first_of (search rules, grind (arith, common_steps))) (first_of (search rules, grind (arith, common_steps))) (breaks_said (λ end bs here. item_long end _ c.args.code _ bs c.if-code-eq122.true) (later _ c.in_ok-n-2.ensures.reads (first _ (rw c.from-then-code-eq122.ensures at c.in_err-take-2.ensures.stops))))
+annotations::item-returns-in_err-take-2 g t c = fell c.from_residual-in_err-take-2.result c.from_residual-in_err-take-2.ensures.1 (λ f. tt) (first_of (search rules, grind (arith, common_steps))) (first_of (search rules, grind (arith, common_steps))) (breaks_said (λ end bs here. item_long end c.args.at _ c.args.code _ bs c.if-code-eq122.true) (later _ c.in_ok-n-2.ensures.reads (first _ (rw c.from-then-code-eq122.ensures at c.in_err-take-2.ensures.stops))))
 
-pub annotations::item-returns-in_err-construct : goal.annotations::item-returns-in_err-construct
-annotations::item-returns-in_err-construct g t c = fell c.from_residual-in_err-construct.result c.from_residual-in_err-construct.ensures.1 (λ f. tt) (first_of (search rules, grind (arith, common_steps))) (first_of (search rules, grind (arith, common_steps))) (breaks_said (λ end bs here. item_other end _ c.args.code _ bs (ne_eqb c.args.code 119 c.if-code-eq119.false) (ne_eqb c.args.code 122 c.if-code-eq122.false)) (first _ c.in_err-construct.ensures.stops))
+pub annotations::item-returns-in_err-count_parts : goal.annotations::item-returns-in_err-count_parts
+annotations::item-returns-in_err-count_parts g t c = fell c.from_residual-in_err-count_parts.result c.from_residual-in_err-count_parts.ensures.1 (λ f. tt) (first_of (search rules, grind (arith, common_steps))) (first_of (search rules, grind (arith, common_steps))) (breaks_said (λ end bs here. item_other end c.args.at _ c.args.code _ bs (ne_eqb c.args.code 119 c.if-code-eq119.false) (ne_eqb c.args.code 122 c.if-code-eq122.false)) (later _ c.in_ok-slot.ensures.reads (rw c.in_err-count_parts.ensures.err.0 (many_here c.args.at (λ end bs here. rw c.in_err-count_parts.ensures.err.1 refl)))))
 
-pub objects::part-returns-in_err-add_entries : goal.objects::part-returns-in_err-add_entries
-objects::part-returns-in_err-add_entries g t c = fell c.from_residual.result c.from_residual.ensures.1 (λ f. tt) (first_of (search rules, grind (arith, common_steps))) (first_of (search rules, grind (arith, common_steps))) no_memory
+pub annotations::item-returns-in_err-slot : goal.annotations::item-returns-in_err-slot
+annotations::item-returns-in_err-slot g t c = fell c.from_residual-in_err-slot.result c.from_residual-in_err-slot.ensures.1 (λ f. tt) (first_of (search rules, grind (arith, common_steps))) (first_of (search rules, grind (arith, common_steps))) (breaks_said (λ end bs here. item_other end c.args.at _ c.args.code _ bs (ne_eqb c.args.code 119 c.if-code-eq119.false) (ne_eqb c.args.code 122 c.if-code-eq122.false)) (first _ c.in_err-slot.ensures.stops))
 
 pub objects::part-returns-in_err-values : goal.objects::part-returns-in_err-values
 unfolding part_by
-objects::part-returns-in_err-values g t c = fell c.from_residual-in_err-values.result c.from_residual-in_err-values.ensures.1 (λ f. tt) (first_of (search rules, grind (arith, common_steps))) (first_of (search rules, grind (arith, common_steps))) (first _ (rw (c.add_entries.ensures.unread, c.add_entries.ensures.now, c.as_slice.ensures) at c.in_err-values.ensures.stops))
+objects::part-returns-in_err-values g t c = fell c.from_residual.result c.from_residual.ensures.1 (λ f. tt) (first_of (search rules, grind (arith, common_steps))) (first_of (search rules, grind (arith, common_steps))) (first _ (rw c.as_slice.ensures at c.in_err-values.ensures.stops))
 
 pub objects::part-returns-in_err-note : goal.objects::part-returns-in_err-note
 unfolding part_by
-objects::part-returns-in_err-note g t c = fell c.from_residual-in_err-note.result c.from_residual-in_err-note.ensures.1 (λ f. tt) (first_of (search rules, grind (arith, common_steps))) (first_of (search rules, grind (arith, common_steps))) (later _ (rw (c.add_entries.ensures.unread, c.add_entries.ensures.now, c.as_slice.ensures) at c.in_ok-values.ensures.reads) (first _ (rw (c.in_ok-values.ensures.unread, c.add_entries.ensures.unread) at c.in_err-note.ensures.stops)))
+objects::part-returns-in_err-note g t c = fell c.from_residual-in_err-note.result c.from_residual-in_err-note.ensures.1 (λ f. tt) (first_of (search rules, grind (arith, common_steps))) (first_of (search rules, grind (arith, common_steps))) (later _ (rw c.as_slice.ensures at c.in_ok-values.ensures.reads) (first _ (rw c.in_ok-values.ensures.unread at c.in_err-note.ensures.stops)))
 
 pub arrays::slots-returns-in_err-slot : goal.arrays::slots-returns-in_err-slot
 arrays::slots-returns-in_err-slot g t c = fell c.from_residual.result c.from_residual.ensures.1 (λ f. tt) (first_of (search rules, grind (arith, common_steps))) (first_of (search rules, grind (arith, common_steps))) (loop_stops c.loop.invariant.leads (λ end bs f here is. many_err (slot_at end c.args.left Reference c.args.table.now.unread.items) c.loop.slots c.args.n c.loop.counter (now_of c.loop.table) bs f c.loop-test.true is) (rw c.loop.invariant.unread at c.in_err-slot.ensures.stops))
-
-pub arrays::slots-returns-in_err-add_entries : goal.arrays::slots-returns-in_err-add_entries
-arrays::slots-returns-in_err-add_entries g t c = fell c.from_residual-in_err-add_entries.result c.from_residual-in_err-add_entries.ensures.1 (λ f. tt) (first_of (search rules, grind (arith, common_steps))) (first_of (search rules, grind (arith, common_steps))) (loop_stops c.loop.invariant.leads (λ end bs f here is. many_err (slot_at end c.args.left Reference c.args.table.now.unread.items) c.loop.slots c.args.n c.loop.counter (now_of c.loop.table) bs f c.loop-test.true is) (took (rw c.loop.invariant.unread at c.in_ok-slot.ensures.reads)))
 
 pub arrays::slots-returns-in_err-push : goal.arrays::slots-returns-in_err-push
 arrays::slots-returns-in_err-push g t c = fell c.from_residual-in_err-push.result c.from_residual-in_err-push.ensures.1 (λ f. tt) (first_of (search rules, grind (arith, common_steps))) (first_of (search rules, grind (arith, common_steps))) (loop_stops c.loop.invariant.leads (λ end bs f here is. many_err (slot_at end c.args.left Reference c.args.table.now.unread.items) c.loop.slots c.args.n c.loop.counter (now_of c.loop.table) bs f c.loop-test.true is) (took (rw c.loop.invariant.unread at c.in_ok-slot.ensures.reads)))
 
 pub descriptions::fields-returns-in_err-field : goal.descriptions::fields-returns-in_err-field
 descriptions::fields-returns-in_err-field g t c = fell c.from_residual.result c.from_residual.ensures.1 (λ f. tt) (first_of (search rules, grind (arith, common_steps))) (first_of (search rules, grind (arith, common_steps))) (loop_stops c.loop.invariant.leads (λ end bs f here is. many_err (field_at end c.args.at (slot_at end c.args.left Text c.args.table.now.unread.items)) c.loop.fields.items c.args.n c.loop.counter (now_of c.loop.table) bs f c.loop-test.true is) (rw c.loop.invariant.unread at c.in_err-field.ensures.stops))
-
-pub descriptions::fields-returns-in_err-add_entries : goal.descriptions::fields-returns-in_err-add_entries
-descriptions::fields-returns-in_err-add_entries g t c = fell c.from_residual-in_err-add_entries.result c.from_residual-in_err-add_entries.ensures.1 (λ f. tt) (first_of (search rules, grind (arith, common_steps))) (first_of (search rules, grind (arith, common_steps))) (loop_stops c.loop.invariant.leads (λ end bs f here is. many_err (field_at end c.args.at (slot_at end c.args.left Text c.args.table.now.unread.items)) c.loop.fields.items c.args.n c.loop.counter (now_of c.loop.table) bs f c.loop-test.true is) (took (rw c.loop.invariant.unread at c.in_ok-field.ensures.reads)))
 
 pub descriptions::fields-returns-in_err-push : goal.descriptions::fields-returns-in_err-push
 descriptions::fields-returns-in_err-push g t c = fell c.from_residual-in_err-push.result c.from_residual-in_err-push.ensures.1 (λ f. tt) (first_of (search rules, grind (arith, common_steps))) (first_of (search rules, grind (arith, common_steps))) (loop_stops c.loop.invariant.leads (λ end bs f here is. many_err (field_at end c.args.at (slot_at end c.args.left Text c.args.table.now.unread.items)) c.loop.fields.items c.args.n c.loop.counter (now_of c.loop.table) bs f c.loop-test.true is) (took (rw c.loop.invariant.unread at c.in_ok-field.ensures.reads)))
@@ -571,19 +578,16 @@ annotations::items-returns-in_err-code g t c = fell c.from_residual.result c.fro
 pub annotations::items-returns-in_err-item : goal.annotations::items-returns-in_err-item
 annotations::items-returns-in_err-item g t c = fell c.from_residual-in_err-item.result c.from_residual-in_err-item.ensures.1 (λ f. tt) (first_of (search rules, grind (arith, common_steps))) (first_of (search rules, grind (arith, common_steps))) (slack_stops (λ end. coded end c.args.left (slot_at end (c.args.left - 1)) Reference c.args.table.now.unread.items c.loop-items.pull.at c.in_ok-code.code) c.loop-items.invariant.slack c.in_ok-code.ensures.reads (ne_eqb c.in_ok-code.code 120 c.if-code-eq120.false) (λ end bs here. slot_gives end c.args.left Reference c.args.table.now.unread.items (now_of c.loop-items.table) (c.in_ok-code.code ∷ bs) c.loop-items.pull.at c.in_ok-code.code bs here refl) (rw c.loop-items.invariant.unread at c.in_err-item.ensures.stops))
 
-pub annotations::items-returns-in_err-add_entries : goal.annotations::items-returns-in_err-add_entries
-annotations::items-returns-in_err-add_entries g t c = fell c.from_residual-in_err-add_entries.result c.from_residual-in_err-add_entries.ensures.1 (λ f. tt) (first_of (search rules, grind (arith, common_steps))) (first_of (search rules, grind (arith, common_steps))) (slack_stops (λ end. coded end c.args.left (slot_at end (c.args.left - 1)) Reference c.args.table.now.unread.items c.loop-items.pull.at c.in_ok-code.code) c.loop-items.invariant.slack c.in_ok-code.ensures.reads (ne_eqb c.in_ok-code.code 120 c.if-code-eq120.false) (λ end bs here. slot_gives end c.args.left Reference c.args.table.now.unread.items (now_of c.loop-items.table) (c.in_ok-code.code ∷ bs) c.loop-items.pull.at c.in_ok-code.code bs here refl) (took (rw c.loop-items.invariant.unread at c.in_ok-item.ensures.reads)))
-
 pub annotations::items-returns-in_err-add : goal.annotations::items-returns-in_err-add
 annotations::items-returns-in_err-add g t c = fell c.from_residual-in_err-add.result c.from_residual-in_err-add.ensures.1 (λ f. tt) (first_of (search rules, grind (arith, common_steps))) (first_of (search rules, grind (arith, common_steps))) (slack_stops (λ end. coded end c.args.left (slot_at end (c.args.left - 1)) Reference c.args.table.now.unread.items c.loop-items.pull.at c.in_ok-code.code) c.loop-items.invariant.slack c.in_ok-code.ensures.reads (ne_eqb c.in_ok-code.code 120 c.if-code-eq120.false) (λ end bs here. slot_gives end c.args.left Reference c.args.table.now.unread.items (now_of c.loop-items.table) (c.in_ok-code.code ∷ bs) c.loop-items.pull.at c.in_ok-code.code bs here refl) (took (rw c.loop-items.invariant.unread at c.in_ok-item.ensures.reads)))
 
 pub annotations::items-loop-items-smaller : goal.annotations::items-loop-items-smaller
 annotations::items-loop-items-smaller g t c = nearer c.in_ok-code.ensures.reads c.in_ok-item.ensures.reads c.item.new.pull.within
 
-pub objects::object_in-returns-then-lacks_parts : goal.objects::object_in-returns-then-lacks_parts
-objects::object_in-returns-then-lacks_parts g t c =
+pub objects::object_in-returns-then-lacks_object : goal.objects::object_in-returns-then-lacks_object
+objects::object_in-returns-then-lacks_object g t c =
     let rows = c.as_slice-rows.ensures.value ∙ c.in_ok-shape.ensures.rows in
-    let lacks = sym c.lacks_parts.ensures ∙ c.if-lacks_parts.true in
+    let lacks = sym c.lacks_object.ensures ∙ c.if-lacks_object.true in
     record {
       lent = first_of (search rules, grind (arith, common_steps));
       grows = first_of (search rules, grind (arith, common_steps));
@@ -683,7 +687,7 @@ annotations::note-returns-else-writes g t c = record {
 pub objects::object_in-returns-in-Some : goal.objects::object_in-returns-in-Some
 objects::object_in-returns-in-Some g t c =
     let rows = c.as_slice-rows.ensures.value ∙ c.in_ok-shape.ensures.rows in
-    let few = sym c.lacks_parts.ensures ∙ c.if-lacks_parts.false in
+    let few = sym c.lacks_object.ensures ∙ c.if-lacks_object.false in
     let wrong = sym c.in_ok-shape.ensures.fault ∙ ap (λ (f : Option StreamKind). option_map kind_of f) c.in-Some.is in
     record {
       lent = first_of (search rules, grind (arith, common_steps));

@@ -30,11 +30,6 @@ returns-in_err-item-in-Some-clause-stops g c = whole_raised c.from_residual-in_e
     (whole_stops (λ end. coded end 200 (slot_at end (200 - 1)) Reference c.args.table.now.unread.items c.loop-items.pull.at c.in-Some.code) c.in_err-item-in-Some.field-0.0 c.loop-items.invariant.slack (rw c.in-Some.is at c.in_ok-next_code.ensures.reads)
     (λ end bs here. slot_gives end 200 Reference c.args.table.now.unread.items (now_of c.loop-items.table) (c.in-Some.code ∷ bs) c.loop-items.pull.at c.in-Some.code bs here refl) (rw c.loop-items.invariant.unread at c.in_err-item-in-Some.ensures.stops))
 
-pub returns-in_err-add_entries-in-Some-clause-stops : goal.returns-in_err-add_entries-in-Some-clause-stops
-returns-in_err-add_entries-in-Some-clause-stops g c = whole_raised c.from_residual-in_err-add_entries-in-Some.result c.from_residual-in_err-add_entries-in-Some.ensures.1
-    (whole_stops (λ end. coded end 200 (slot_at end (200 - 1)) Reference c.args.table.now.unread.items c.loop-items.pull.at c.in-Some.code) OutOfMemory c.loop-items.invariant.slack (rw c.in-Some.is at c.in_ok-next_code.ensures.reads)
-    (λ end bs here. slot_gives end 200 Reference c.args.table.now.unread.items (now_of c.loop-items.table) (c.in-Some.code ∷ bs) c.loop-items.pull.at c.in-Some.code bs here refl) (took (rw c.loop-items.invariant.unread at c.in_ok-item-in-Some.ensures.reads)))
-
 pub returns-in_err-add-in-Some-clause-stops : goal.returns-in_err-add-in-Some-clause-stops
 returns-in_err-add-in-Some-clause-stops g c = whole_raised c.from_residual-in_err-add-in-Some.result c.from_residual-in_err-add-in-Some.ensures.1
     (whole_stops (λ end. coded end 200 (slot_at end (200 - 1)) Reference c.args.table.now.unread.items c.loop-items.pull.at c.in-Some.code) OutOfMemory c.loop-items.invariant.slack (rw c.in-Some.is at c.in_ok-next_code.ensures.reads)
@@ -44,8 +39,8 @@ pub loop-items-preserved : goal.loop-items-preserved
 loop-items-preserved g c =
     record {
       lent = c.in_ok-item-in-Some.ensures.lent ∙ c.in_ok-next_code.ensures.lent ∙ c.loop-items.invariant.lent;
-      unread = c.add_entries.ensures.unread ∙ c.in_ok-item-in-Some.ensures.unread ∙ c.loop-items.invariant.unread;
-      slack = rw (c.add_entries.ensures.now, c.in_ok-add-in-Some.ensures) (slack_next {within = false} (λ end. coded end 200 (slot_at end (200 - 1)) Reference c.args.table.now.unread.items c.loop-items.pull.at c.in-Some.code) c.loop-items.invariant.slack
+      unread = c.in_ok-item-in-Some.ensures.unread ∙ c.loop-items.invariant.unread;
+      slack = rw c.in_ok-add-in-Some.ensures (slack_next {within = false} (λ end. coded end 200 (slot_at end (200 - 1)) Reference c.args.table.now.unread.items c.loop-items.pull.at c.in-Some.code) c.loop-items.invariant.slack
           (rw c.in-Some.is at c.in_ok-next_code.ensures.reads) (rw c.loop-items.invariant.unread at c.in_ok-item-in-Some.ensures.reads) refl
           (λ end bs here. slot_gives end 200 Reference c.args.table.now.unread.items (now_of c.loop-items.table) (c.in-Some.code ∷ bs) c.loop-items.pull.at c.in-Some.code bs here refl));
     }

@@ -5,7 +5,7 @@ use Rattle.history.specs.Table.{places}
 use Rattle.space.specs.Built.{SpaceHistory}
 use Rattle.space.specs.TurnAnswers.{IsAnswerTo}
 use Rattle.turn_lock.specs.declared.view.SeatState.TheVariants.{Idle}
-use Rattle.turn_lock.specs.Rule.{Sat, events_after, in_state}
+use Rattle.turn_lock.specs.Rule.{Sat, events_answered, in_state}
 use Rattle.turn_lock.proofs.Turning.{after_step, space_is, answered_rows, turned_at, may_publish, has_published, may_leave}
 use Rattle.turn_lock.proofs.steps.turn.Goals as goal
 
@@ -20,7 +20,7 @@ publish_answer-requires-clause-called g c =
     let s2 : SpaceHistory = c.turn-answer.new.self in
     let part = c.requires.idle.2 in
     let step : Step v.config x.1 e answer s2.events = subst (λ (s : SpaceHistory). Step s.configuration s.events e answer s2.events) there c.turn-answer.ensures.step in
-    let is = space_is s2 v.config (events_after x.1 e answer)
+    let is = space_is s2 v.config (events_answered x.1 e answer)
     (answered_rows answer v.config x.1 c.deref_mut.result.now s2 e there c.turn-answer.ensures.config c.turn-answer.ensures.collector c.turn-answer.ensures.err)
     (c.turn-answer.ensures.config ∙ ap (λ (s : SpaceHistory). s.configuration) there) (after_step v.config x.1 s2.events e answer step) in
     may_publish c.enter-desk.new.seat.me v x.0 x.1 c.of-taken.result.value e answer s2 x.4 c.of-taken.ensures c.requires.number part is
@@ -36,7 +36,7 @@ leave-requires-clause-called g c =
     let s2 : SpaceHistory = c.turn-answer.new.self in
     let part = c.requires.idle.2 in
     let step : Step v.config x.1 e answer s2.events = subst (λ (s : SpaceHistory). Step s.configuration s.events e answer s2.events) there c.turn-answer.ensures.step in
-    let is = space_is s2 v.config (events_after x.1 e answer)
+    let is = space_is s2 v.config (events_answered x.1 e answer)
     (answered_rows answer v.config x.1 c.deref_mut.result.now s2 e there c.turn-answer.ensures.config c.turn-answer.ensures.collector c.turn-answer.ensures.err)
     (c.turn-answer.ensures.config ∙ ap (λ (s : SpaceHistory). s.configuration) there) (after_step v.config x.1 s2.events e answer step) in
     let told = has_published c.enter-desk.new.seat.me c.publish_answer.new.seat.me v x.0 x.1 c.of-taken.result.value e answer x.4 c.of-taken.ensures c.publish_answer.ensures.view in

@@ -16,6 +16,16 @@ returns-then-wants_tick-clause-turned g c =
     let t = subst (λ (n : ℕ). TurnedWithEntry (view_of q) n c.args.moment Tick c.turn_of_pass.result.0 (view_of r)) c.wants_tick.ensures.pass.1 c.turn_of_pass.ensures.turned in
     turned_from (view_of p) (view_of q) (view_of r) p.number c.args.moment Tick c.turn_of_pass.result.0 c.wants_tick.ensures.sees t
 
+pub returns-then-wants_tick-clause-needed : goal.returns-then-wants_tick-clause-needed
+returns-then-wants_tick-clause-needed g c =
+    let q = c.wants_tick.new.self in let r = c.turn_of_pass.new.pass in
+    record {
+      between = view_of q;
+      sees = c.wants_tick.ensures.sees;
+      needs = c.wants_tick.ensures.due c.if-wants_tick.true;
+      turned = subst (λ (n : ℕ). TurnedWithEntry (view_of q) n c.args.moment Tick c.turn_of_pass.result.0 (view_of r)) c.wants_tick.ensures.pass.1 c.turn_of_pass.ensures.turned;
+    }
+
 pub returns-then-wants_tick-clause-collector : goal.returns-then-wants_tick-clause-collector
 returns-then-wants_tick-clause-collector g c =
     collects_from (view_of c.args.pass.now) (view_of c.wants_tick.new.self) (view_of c.turn_of_pass.new.pass) c.args.moment Tick c.turn_of_pass.result.0 c.wants_tick.ensures.sees c.turn_of_pass.ensures.collector

@@ -6,7 +6,7 @@ use Rattle.dgc_server.proofs.Purging.{only-none, kept-whole}
 use Rattle.dgc_server.proofs.clients.Clients.drop_objects.Goals as goal
 
 pub invariant_of-self : goal.invariant_of-self
-invariant_of-self c = record { filled = c.drop_objects.ensures.filled; bounded = c.drop_objects.ensures.bounded c.self.inside.next c.self.invariant.bounded }
+invariant_of-self c = record { filled = c.drop_objects.ensures.filled; bounded = c.drop_objects.ensures.bounded c.self.inside.next c.self.invariant.bounded; ends = c.drop_objects.ensures.ends }
 
 pub returns-then-pairs-eq0-clause-entries : goal.returns-then-pairs-eq0-clause-entries
 returns-then-pairs-eq0-clause-entries c =

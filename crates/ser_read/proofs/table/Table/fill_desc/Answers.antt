@@ -7,5 +7,4 @@ invariant_of-self c = record {
   known = rw (c.element_code.ensures.value, c.write_desc.ensures, map-set, c.args.self.now.known) refl;
   few_nodes = simp length-set c.args.self.now.few_nodes;
   few_parts = c.args.self.now.few_parts;
-  few_entries = c.args.self.now.few_entries;
 }

@@ -15,6 +15,7 @@ returns g c =
     record {
       root = root_after c.args.lock.now c.args.self.now c.turn_of_pass.new.pass c.turn_of_pass.result.1 c.requires.own t.own went;
       counts = (refl, refl);
+      kept = refl;
       went = went;
       asked = t.asked;
       turned = subst (λ (p : Pass). TurnedWithEntry (view_of p) p.number c.args.moment c.args.ask c.turn_of_pass.result.0 (view_of c.turn_of_pass.new.pass)) c.own.ensures.value t.turned;

@@ -1,5 +1,5 @@
 use Rattle.std.proofs.Common.{◌∙◌, sym, inl, inr}
-use Rattle.call_dispatch.proofs.system_calls.dispatch_call.Goals as goal
+use Rattle.call_dispatch.proofs.dispatch.dispatch_call.Goals as goal
 
 pub returns-then-is_system-clause-answers : goal.returns-then-is_system-clause-answers
 returns-then-is_system-clause-answers g c first reads = inl (sym c.is_system.ensures ∙ c.if-is_system.true, c.call_system_object.ensures.answers first reads)

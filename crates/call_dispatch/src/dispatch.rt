@@ -1,4 +1,4 @@
-//! Calls of the registry and of the collector, which every server has of itself.
+//! Calls by their object: the registry and the collector, which every server has of itself, or an exported object.
 ghost use Rattle.std.specs.Prelude.{◌≡◌, ◌≢◌, ◌≤◌, ◌<◌, ◌+◌, ◌^◌, pos, ◌<ℤ◌, length, true, false, Err, IfOk};
 ghost use Rattle.mod_utf.specs.Utf.{utf};
 ghost use Rattle.wire_io.specs.Pulled.{PullState, pull_state};

@@ -3,7 +3,7 @@ use Rattle.wire_io.specs.Pulled.{pull_state}
 use Rattle.call_dispatch.specs.ConnectionState.{observed_of}
 use Rattle.system_objects.specs.Terms.{terms_of}
 use Rattle.call_dispatch.proofs.SystemTurns.{unknown_answers, read_answers}
-use Rattle.call_dispatch.proofs.system_calls.call_system_object.Goals as goal
+use Rattle.call_dispatch.proofs.dispatch.call_system_object.Goals as goal
 
 pub returns-in_default-clause-answers : goal.returns-in_default-clause-answers
 returns-in_default-clause-answers g c first reads =

@@ -6,7 +6,7 @@ use Rattle.call_dispatch.specs.Systems.{drawn_at}
 use Rattle.system_objects.specs.Terms.{terms_of}
 use Rattle.system_objects.proofs.SystemAsks.{request_quiet, request_is, is_barred, is_asked, is_asked_for_new, without_return}
 use Rattle.call_dispatch.proofs.SystemTurns.{read_unbegun, read_barred, read_asked}
-use Rattle.call_dispatch.proofs.system_calls.answer_method.Goals as goal
+use Rattle.call_dispatch.proofs.dispatch.answer_method.Goals as goal
 
 pub returns-in-Ok-Rejected-clause-answers : goal.returns-in-Ok-Rejected-clause-answers
 returns-in-Ok-Rejected-clause-answers g c head bytes known call =

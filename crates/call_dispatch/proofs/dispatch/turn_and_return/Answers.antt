@@ -2,7 +2,7 @@ use Rattle.std.proofs.Common.{refl}
 use Rattle.std.proofs.lemmas.Result.{err_from_is_err_and}
 use Rattle.system_objects.specs.Terms.{terms_of}
 use Rattle.call_dispatch.proofs.SystemTurns.{turn_even, turn_untold, turn_lost}
-use Rattle.call_dispatch.proofs.system_calls.turn_and_return.Goals as goal
+use Rattle.call_dispatch.proofs.dispatch.turn_and_return.Goals as goal
 
 pub returns-then-is_lost-clause-asks : goal.returns-then-is_lost-clause-asks
 returns-then-is_lost-clause-asks g c =
