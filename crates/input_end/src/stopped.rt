@@ -1,7 +1,7 @@
 //! A listener that is told to stop at the end of an input.
 ghost use Rattle.std.specs.Prelude.{◌≡◌, ◌||◌, true, false, if◌then◌else◌, IfOk, IsErr, OnOk, Ok};
 ghost use Rattle.input_end.specs.Ends.{listening_until};
-ghost use Rattle.wire_io.specs.Links.{accepted_as, Listens, Accepts, Waits, IfCame};
+ghost use Rattle.wire_io.specs.Links.{accepted_as, Listens, Accepts, Waits, Looks, IfCame};
 ghost use Rattle.wire_io.specs.Wire.{AreNewHalves, next_count};
 ghost use Rattle.wire_io.specs.declared.listener.Waited.TheVariants.{Told};
 
@@ -10,7 +10,7 @@ use wire_io::{Failed, Link, Listener, Waited};
 
 /// A listener over another one, which is also told to stop at the end of an input.
 ///
-/// Each `wait` first looks for the end. No other call looks. An `accept` after the end fails, and counts as one more fault beside those
+/// Each `wait` and each `is_told` first looks for the end. No other call looks. An `accept` after the end fails, and counts as one more fault beside those
 /// of the listener inside.
 #[derive(Drop)]
 pub struct StoppedByInput<L, E> {
@@ -133,6 +133,27 @@ impl<L: Listener, E: InputEnd> Listener for StoppedByInput<L, E> {
             return Ok(Waited::Told);
         }
         self.listener.wait()
+    }
+
+    /// Looks for the end of the input, once. At the end it closes the listener inside. Else it has that listener look.
+    fn is_told(&mut self) -> bool
+        ensures looks { Looks
+            (listening_until (E.seen self.old.input) self.old.faults
+            (L.listening self.old.listener))
+            (listening_until (E.seen self.new.input) self.new.faults
+            (L.listening self.new.listener)) result }
+        ensures looks_once { E.looked self.old.input self.new.input (E.seen self.new.input) }
+        ensures faults { self.new.faults ≡ self.old.faults }
+        ensures ended { E.seen self.new.input ≡ true
+            → (result ≡ true) × (self.new.listener ≡ self.old.listener) }
+        ensures inside { E.seen self.new.input ≡ false
+            → Looks (L.listening self.old.listener) (L.listening self.new.listener) result }
+    {
+        if self.input.look() {
+            self.listener.close();
+            return true;
+        }
+        self.listener.is_told()
     }
 
     /// Closes the listener inside.

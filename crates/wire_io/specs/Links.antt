@@ -63,6 +63,13 @@ Waits shown old new (Ok Told) = (new.accepted ≡ old.accepted) × (new.faults �
 Waits shown old new (Err _) =
     (new.accepted ≡ old.accepted) × Rose old.faults new.faults × (new.told ≡ old.told) × (old.told ≡ false)
 
+-- What a look did whether a listener was told to stop, with this answer. It gave no link, and is no fault. A listener that was told before answers that
+-- again.
+abbrev pub Looks : Listening → Listening → Bool → Type 0
+Looks old new answer =
+    (new.ports ≡ old.ports) × (new.accepted ≡ old.accepted) × (new.faults ≡ old.faults) × (new.told ≡ answer)
+    × (old.told ≡ true → answer ≡ true)
+
 -- what holds of the link that came, if one did
 abbrev pub IfCame : {L : Type 0} → Waited L → (L → Type 0) → Type 0
 IfCame (Came link) Holds = Holds link

@@ -1,7 +1,7 @@
 //! Where connections come from.
 ghost use Rattle.std.specs.Prelude.{◌≡◌, ◌≤◌, ℕ, List, [], ◌∷◌, ◌++◌, length, None, Option, Some, false, IfOk, IsSomeAnd, IfSome, IsTrue, OnOk, OnErr, Ok, Contains, ◌↔◌, ◌<◌};
 ghost use Rattle.std.specs.List.{AllByRecursion};
-ghost use Rattle.wire_io.specs.Links.{Listening, accepted_as, Listens, Accepts, Waits, IfCame, IfNoneCame, IsNew, accepted_in_memory, listening_in_memory};
+ghost use Rattle.wire_io.specs.Links.{Listening, accepted_as, Listens, Accepts, Waits, Looks, IfCame, IfNoneCame, IsNew, accepted_in_memory, listening_in_memory};
 ghost use Rattle.wire_io.specs.Mem.{source_half, sink_half};
 ghost use Rattle.wire_io.specs.declared.listener.Waited.{Waited};
 ghost use Rattle.wire_io.specs.Wire.{AreNewHalves, next_count};
@@ -75,9 +75,17 @@ pub trait Listener {
             (λ link. AreNewHalves (Self.In.half link.source) (Self.Out.half link.sink))) }
         ensures ports { (listening self.new).ports ≡ (listening self.old).ports };
 
-    /// Gives the port that is listened on back to the system, if the listener holds one. The system then refuses the clients that wait there.
+    /// Looks whether the listener was told to stop. It accepts no link and does not wait.
     ///
-    /// A listener over another one calls it when it is told to stop and the one inside is not. Contracts see no change.
+    /// Once it answered true, each further call does, and each further wait answers `Told`.
+    fn is_told(&mut self) -> bool
+        ensures looks { Looks (listening self.old) (listening self.new) result };
+
+    /// Gives the port that is listened on back to the system, if the listener holds one. The system then refuses the clients that wait there. A
+    /// listener whose links can be told to end tells them.
+    ///
+    /// A listener over another one calls it when it is told to stop and the one inside is not, and a server where it accepts no more links. Contracts
+    /// see no change.
     fn close(&mut self)
         ensures { self.new ≡ self.old }
     {}
@@ -93,8 +101,8 @@ pub type MemLinks = Sequence<MemLink>;
 /// It tells the addresses and ports that it was told to listen on and the links that it gave. A call that finds no memory to note that
 /// fails too, and so does an `accept` after it was told to stop. What it notes of a link is a snapshot, which takes no bytes and is known to contracts alone.
 ///
-/// Its waits are counted from 0, up to `u64::MAX`, where the count stands still. It is told to stop at the wait whose index is `stop`, and at
-/// those after it. A wait before that whose index stands in `quiet` gives no link, and any other does what `accept` does.
+/// Its waits are counted from 0, up to `u64::MAX`, where the count stands still, and a look counts as one. It is told to stop at the wait whose
+/// index is `stop`, and at those after it. A wait before that whose index stands in `quiet` gives no link, and any other does what `accept` does.
 pub struct MemListener {
     alloc: Global,
     links: vec::IntoIter<MemLink>,
@@ -337,5 +345,20 @@ impl Listener for MemListener {
             Ok(link) => Ok(Waited::Came(link)),
             Err(failed) => Err(failed),
         }
+    }
+
+    /// A look counts as a wait: it is told to stop by its index.
+    fn is_told(&mut self) -> bool
+        ensures looks { Looks
+            (listening_in_memory self.old) (listening_in_memory self.new) result }
+        ensures stops { IsTrue result ↔ IsSomeAnd self.old.stop (λ first. first ≤ self.old.waits) }
+        ensures count { self.new.waits ≡ next_count self.old.waits }
+        ensures script { (self.new.quiet ≡ self.old.quiet) × (self.new.stop ≡ self.old.stop) }
+        ensures links { self.new.links ≡ self.old.links }
+    {
+        let index = self.waits;
+        self.waits = index.saturating_add(1);
+        self.told = is_stopped(self.stop, index);
+        self.told
     }
 }

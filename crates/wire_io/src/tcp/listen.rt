@@ -1,6 +1,6 @@
 //! A listener over TCP.
 ghost use Rattle.std.specs.Prelude.{◌≡◌, None, false, IfOk, IfSome, OnOk, OnErr};
-ghost use Rattle.wire_io.specs.Links.{accepted_as, Listens, Accepts, Waits, IfCame, untold_listener};
+ghost use Rattle.wire_io.specs.Links.{accepted_as, Listens, Accepts, Waits, Looks, IfCame, untold_listener};
 ghost use Rattle.wire_io.specs.Wire.{AreNewHalves, next_count, untold_read, untold_write};
 
 use crate::limits::{LOOK_SECONDS, WAIT_SECONDS};
@@ -88,6 +88,14 @@ fn is_set(flag: &Option<Arc<AtomicBool>>) -> bool {
     match flag {
         Some(flag) => flag.load(Ordering::SeqCst),
         None => false,
+    }
+}
+
+/// Sets this flag, if there is one.
+fn set(flag: &Option<Arc<AtomicBool>>) {
+    match flag {
+        Some(flag) => flag.store(true, Ordering::SeqCst),
+        None => {}
     }
 }
 
@@ -250,9 +258,7 @@ where
         ensures counted { OnErr result
             (self.new ≡ record self.old { faults = next_count self.old.faults }) }
     {
-        if self.told || is_set(&self.flag) {
-            self.told = true;
-            self.close();
+        if self.is_told() {
             return Ok(Waited::Told);
         }
         match self.next_link_soon() {
@@ -265,10 +271,23 @@ where
         }
     }
 
-    /// Drops the socket. An `accept` or a `wait` from then on is a fault, unless the listener was told to stop or listens anew.
+    /// Looks at the flag. Where it is set the socket is dropped.
+    fn is_told(&mut self) -> bool
+        ensures looks { Looks self.old self.new result }
+    {
+        if self.told || is_set(&self.flag) {
+            self.told = true;
+            self.close();
+        }
+        self.told
+    }
+
+    /// Drops the socket, and sets the flag, if there is one: so nothing more is read of the links that it gave. Without a flag an `accept` or a `wait`
+    /// from then on is a fault, unless the listener listens anew.
     fn close(&mut self)
         ensures { self.new ≡ self.old }
     {
         self.listener = None;
+        set(&self.flag);
     }
 }
