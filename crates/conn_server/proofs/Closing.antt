@@ -17,7 +17,7 @@ use Rattle.turn_lock.specs.declared.view.View.{View}
 use Rattle.call_dispatch.specs.Acts.{WorkerState}
 use Rattle.system_objects.specs.declared.book.Kind.{Kind}
 use Rattle.conn_server.specs.Accepts.{IsAccepting, live_of, reports_of, shown_all}
-use Rattle.conn_server.specs.Collects.{Collected}
+use Rattle.conn_server.specs.Taken.{Taken}
 use Rattle.conn_server.specs.Joins.{IsJoined}
 use Rattle.conn_server.specs.Made.{shown_admitted}
 use Rattle.conn_server.specs.Reports.{AreTurnsOf, IsKnown, IsAllJoined, IsReportOf, ServesLinks, events_after, report_with}
@@ -66,8 +66,8 @@ module _ {I O T H : Type 0} (IsLink : ℕ → Accepted × Asked → LinkReport I
     paired_known v n (s ∷ all) [] p = absurd p
 
     -- Where no link is live any more.
-    module _ {C : Type 0} (collected : C → Collected (LinkReport I O T H)) (expects : C → LinkReport I O T H → Type 0) (kinds : List Kind) (a : Acceptor I O T H C)
-        (is : IsAccepting Talked Made shown collected expects lock kinds a) (left : vec_len a.live ≡ 0) where
+    module _ {C : Type 0} (taken : C → Taken (LinkReport I O T H)) (expects : C → LinkReport I O T H → Type 0) (kinds : List Kind) (a : Acceptor I O T H C)
+        (is : IsAccepting Talked Made shown taken expects lock kinds a) (left : vec_len a.live ≡ 0) where
       none_live : live_of a.all ≡ []
       none_live = sym is.live_are ∙ none_left _ a.live.items a.live.ok.0 left
 
@@ -78,7 +78,7 @@ module _ {I O T H : Type 0} (IsLink : ℕ → Accepted × Asked → LinkReport I
       pub count_closed : a.begun ≡ length (reports_of a.all)
       count_closed = is.begun ∙ paired_length (IsJoined Talked Made shown lock (view_of a.root.pass)) 1 a.all (reports_of a.all) joined
 
-      pub all_closed : IsAllJoined IsLink lock (shown_all read_half write_half given a.all) a.root (reports_of a.all) (collected a.collector).ticks
+      pub all_closed : IsAllJoined IsLink lock (shown_all read_half write_half given a.all) a.root (reports_of a.all) (taken a.taker).ticks
       all_closed =
           let out = is.out in
           let opens = live_length a.all in
@@ -87,7 +87,7 @@ module _ {I O T H : Type 0} (IsLink : ℕ → Accepted × Asked → LinkReport I
             own = is.own;
             out = omega (arith, out, opens, open_none);
             made = is.made ∙ paired_length (IsJoined Talked Made shown lock (view_of a.root.pass)) 1 a.all (reports_of a.all) joined;
-            ticked = ticked_first (view_of a.root.pass) (collected a.collector).ticks is.ticked;
+            ticked = ticked_first (view_of a.root.pass) (taken a.taker).ticks is.ticked;
             known = paired_known (view_of a.root.pass) 1 a.all (reports_of a.all) joined;
           }
 

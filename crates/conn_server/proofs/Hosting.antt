@@ -11,7 +11,7 @@ use Rattle.call_dispatch.specs.declared.outcome.Invocation.{Invocation}
 use Rattle.call_dispatch.specs.declared.outcome.Outcome.{Outcome}
 use Rattle.system_objects.specs.declared.book.Kind.{Kind}
 use Rattle.conn_server.specs.Accepts.{Follows, IsAccepting, TicksOn, shown_all, links_of, ticks_of, with_all}
-use Rattle.conn_server.specs.Collects.{Collected}
+use Rattle.conn_server.specs.Taken.{Taken}
 use Rattle.conn_server.specs.Hosts.{IsHosting, IsHalted}
 use Rattle.conn_server.specs.Made.{IsMadeFor}
 use Rattle.conn_server.specs.Quiet.{MayPass, TicksQuietly}
@@ -29,12 +29,12 @@ use Rattle.conn_server.proofs.Listening.{one_more, with_none}
 use Rattle.conn_server.proofs.Quiet.{passes_on, quiet_first, quiet_later, quiet_link, quiet_same}
 
 module _ {I O T H C : Type 0} (read_half : I → ReadHalf) (write_half : O → WriteHalf) (given : T → Option (List ℕ)) (shown : H → WorkerState) (may : Invocation → Outcome → Type 0) (moves : States → Call → States → Type 0)
-    (collected : C → Collected (LinkReport I O T H)) (expects : C → LinkReport I O T H → Type 0) (lock : TurnLock) (kinds : List Kind) (plan : ServePlan) (l0 : Listening) (gave_first : Option (List ℕ)) where
+    (taken : C → Taken (LinkReport I O T H)) (expects : C → LinkReport I O T H → Type 0) (lock : TurnLock) (kinds : List Kind) (plan : ServePlan) (l0 : Listening) (gave_first : Option (List ℕ)) where
   abbrev Taking : Acceptor I O T H C → Type 0
-  Taking a = IsAccepting (TalksOver read_half write_half given shown may moves kinds) (IsMadeFor read_half write_half given shown moves plan) shown collected expects lock kinds a
+  Taking a = IsAccepting (TalksOver read_half write_half given shown may moves kinds) (IsMadeFor read_half write_half given shown moves plan) shown taken expects lock kinds a
 
   abbrev Going : Listening → Option (List ℕ) → Acceptor I O T H C → OwnHand H → Type 0
-  Going l gave a own = IsHosting read_half write_half given shown may moves collected expects lock kinds plan l0 l gave_first gave a own
+  Going l gave a own = IsHosting read_half write_half given shown may moves taken expects lock kinds plan l0 l gave_first gave a own
 
   abbrev links_now : Acceptor I O T H C → List Accepted
   links_now a = links_of (shown_all read_half write_half given a.all)
@@ -54,7 +54,7 @@ module _ {I O T H C : Type 0} (read_half : I → ReadHalf) (write_half : O → W
       (quiet_same shown moves (passing a own) gave_first gave before before_after ticks ticks_after own.hand t same other)
 
   -- Links ended, and the listener was asked, or wasn't.
-  pub hosting_joined : (l l2 : Listening) (gave : Option (List ℕ)) (a b : Acceptor I O T H C) (own : OwnHand H) → Going l gave a own → Taking b → Follows a b → (collected b.collector).ticks ≡ (collected a.collector).ticks
+  pub hosting_joined : (l l2 : Listening) (gave : Option (List ℕ)) (a b : Acceptor I O T H C) (own : OwnHand H) → Going l gave a own → Taking b → Follows a b → (taken b.taker).ticks ≡ (taken a.taker).ticks
       → shown_all read_half write_half given b.all ≡ shown_all read_half write_half given a.all → b.begun ≡ a.begun → l2.accepted ≡ l.accepted → l.faults ≤ l2.faults → l2.ports ≡ l.ports → l2.told ≡ l.told → Going l2 gave b own
   hosting_joined l l2 gave a b own is then follows same_ticks same begun same_links more same_ports told =
       let few = is.few in
@@ -63,7 +63,7 @@ module _ {I O T H C : Type 0} (read_half : I → ReadHalf) (write_half : O → W
         is = then;
         hosts = follows.1 ∙ is.hosts;
         few = omega (arith, few, begun);
-        quiet = quiet_then gave a b own (ticks_now a) (ticks_now b) (collected a.collector).ticks (collected b.collector).ticks follows is.quiet same_ticks (ap (λ l. ticks_of l) same);
+        quiet = quiet_then gave a b own (ticks_now a) (ticks_now b) (taken a.taker).ticks (taken b.taker).ticks follows is.quiet same_ticks (ap (λ l. ticks_of l) same);
         links = same_links ∙ (is.links ∙ ap (λ l. with_all l0.accepted (links_of l)) (sym same));
         faults = omega (arith, faults, more);
         same_told = told ∙ is.same_told;
@@ -72,14 +72,14 @@ module _ {I O T H C : Type 0} (read_half : I → ReadHalf) (write_half : O → W
 
   -- A quiet second passed.
   pub hosting_quiet : (l : Listening) (gave gave2 : Option (List ℕ)) (a b : Acceptor I O T H C) (own own2 : OwnHand H) → Going l gave a own → Taking b → Follows a b → b.all ≡ a.all → b.begun ≡ a.begun
-      → (TicksQuietly shown moves (passing a own) gave_first gave (ticks_now a) (collected a.collector).ticks own.hand → TicksQuietly shown moves (passing b own2) gave_first gave2 (ticks_now a) (collected b.collector).ticks own2.hand) → Going l gave2 b own2
+      → (TicksQuietly shown moves (passing a own) gave_first gave (ticks_now a) (taken a.taker).ticks own.hand → TicksQuietly shown moves (passing b own2) gave_first gave2 (ticks_now a) (taken b.taker).ticks own2.hand) → Going l gave2 b own2
   hosting_quiet l gave gave2 a b own own2 is then follows same begun ticks =
       let few = is.few in
       record {
         is = then;
         hosts = follows.1 ∙ is.hosts;
         few = omega (arith, few, begun);
-        quiet = quiet_same shown moves (passing b own2) gave_first gave2 (ticks_now a) (ticks_now b) (collected b.collector).ticks (collected b.collector).ticks own2.hand (ticks is.quiet) refl (ap (λ (l : List (StartedLink I O T H)). ticks_of (shown_all read_half write_half given l)) same);
+        quiet = quiet_same shown moves (passing b own2) gave_first gave2 (ticks_now a) (ticks_now b) (taken b.taker).ticks (taken b.taker).ticks own2.hand (ticks is.quiet) refl (ap (λ (l : List (StartedLink I O T H)). ticks_of (shown_all read_half write_half given l)) same);
         links = is.links ∙ ap (λ (l : List (StartedLink I O T H)). with_all l0.accepted (links_of (shown_all read_half write_half given l))) (sym same);
         faults = is.faults;
         same_told = is.same_told;
@@ -88,15 +88,15 @@ module _ {I O T H C : Type 0} (read_half : I → ReadHalf) (write_half : O → W
 
   -- A link was begun.
   pub hosting_link : (l l2 : Listening) (link : Accepted) (gave : Option (List ℕ)) (a b : Acceptor I O T H C) (own : OwnHand H) → Going l gave a own → a.begun < plan.count → l2.accepted ≡ with_next l.accepted link → l.faults ≤ l2.faults → l2.ports ≡ l.ports → l2.told ≡ l.told
-      → Taking b → Follows a b → TicksOn (collected a.collector).ticks (collected b.collector).ticks (ticks_now a) (ticks_now b) → links_now b ≡ links_now a ++ link ∷ [] → b.begun ≡ a.begun + 1 → Going l2 gave b own
+      → Taking b → Follows a b → TicksOn (taken a.taker).ticks (taken b.taker).ticks (ticks_now a) (ticks_now b) → links_now b ≡ links_now a ++ link ∷ [] → b.begun ≡ a.begun + 1 → Going l2 gave b own
   hosting_link l l2 link gave a b own is few next more same_ports told then follows ticks links begun =
       let faults = is.faults in
       record {
         is = then;
         hosts = follows.1 ∙ is.hosts;
         few = omega (arith, few, begun);
-        quiet = quiet_link shown moves (passing b own) gave_first gave (ticks_now a) (ticks_now b) (collected a.collector).ticks (collected b.collector).ticks own.hand
-            (quiet_then gave a b own (ticks_now a) (ticks_now a) (collected a.collector).ticks (collected a.collector).ticks follows is.quiet refl refl) ticks;
+        quiet = quiet_link shown moves (passing b own) gave_first gave (ticks_now a) (ticks_now b) (taken a.taker).ticks (taken b.taker).ticks own.hand
+            (quiet_then gave a b own (ticks_now a) (ticks_now a) (taken a.taker).ticks (taken a.taker).ticks follows is.quiet refl refl) ticks;
         links = one_more l0.accepted l.accepted l2.accepted (links_now a) link is.links next ∙ ap (with_all l0.accepted) (sym links);
         faults = omega (arith, faults, more);
         same_told = told ∙ is.same_told;
@@ -105,14 +105,14 @@ module _ {I O T H C : Type 0} (read_half : I → ReadHalf) (write_half : O → W
 
   -- There was no memory for a link.
   pub halted_lost : (l l2 : Listening) (link : Accepted) (gave : Option (List ℕ)) (a b : Acceptor I O T H C) (own : OwnHand H) (lost : LostLink I O T) → Going l gave a own → a.begun < plan.count → l2.accepted ≡ with_next l.accepted link → l.faults ≤ l2.faults → l2.ports ≡ l.ports → l2.told ≡ l.told
-      → Taking b → Follows a b → (collected b.collector).ticks ≡ (collected a.collector).ticks → ticks_now b ≡ ticks_now a → links_now b ≡ links_now a → b.begun ≡ a.begun → IsLostLink read_half write_half given link lost
-      → IsHalted read_half write_half given shown may moves collected expects lock kinds plan l0 l2 gave_first gave b own (record { stop = OutOfMemory; lost = Some lost })
+      → Taking b → Follows a b → (taken b.taker).ticks ≡ (taken a.taker).ticks → ticks_now b ≡ ticks_now a → links_now b ≡ links_now a → b.begun ≡ a.begun → IsLostLink read_half write_half given link lost
+      → IsHalted read_half write_half given shown may moves taken expects lock kinds plan l0 l2 gave_first gave b own (record { stop = OutOfMemory; lost = Some lost })
   halted_lost l l2 link gave a b own lost is few next more same_ports told then follows same_ticks same same_links begun lost_is =
       let faults = is.faults in
       record {
         is = then;
         hosts = follows.1 ∙ is.hosts;
-        quiet = quiet_then gave a b own (ticks_now a) (ticks_now b) (collected a.collector).ticks (collected b.collector).ticks follows is.quiet same_ticks same;
+        quiet = quiet_then gave a b own (ticks_now a) (ticks_now b) (taken a.taker).ticks (taken b.taker).ticks follows is.quiet same_ticks same;
         missed = link ∷ [];
         links = one_more l0.accepted l.accepted l2.accepted (links_now a) link is.links next ∙ ap (λ l. with_all l0.accepted (l ++ link ∷ [])) (sym same_links);
         stopped = (omega (arith, few, begun), refl);
@@ -125,7 +125,7 @@ module _ {I O T H C : Type 0} (read_half : I → ReadHalf) (write_half : O → W
 
   -- No more links are accepted, for another cause.
   pub halted_none : (l : Listening) (gave : Option (List ℕ)) (a : Acceptor I O T H C) (own : OwnHand H) (stop : Stop) → Going l gave a own → HostStopped stop l.told plan.count a.begun [] → (stop ≡ AcceptFault → Rose l0.faults l.faults)
-      → IsHalted read_half write_half given shown may moves collected expects lock kinds plan l0 l gave_first gave a own (record { stop = stop; lost = None })
+      → IsHalted read_half write_half given shown may moves taken expects lock kinds plan l0 l gave_first gave a own (record { stop = stop; lost = None })
   halted_none l gave a own stop is stopped fault = record {
     is = is.is;
     hosts = is.hosts;
@@ -141,16 +141,16 @@ module _ {I O T H C : Type 0} (read_half : I → ReadHalf) (write_half : O → W
   }
 
   -- The listener was told to stop.
-  pub halted_told : (l l2 : Listening) (gave : Option (List ℕ)) (a b : Acceptor I O T H C) (own : OwnHand H) → Going l gave a own → Taking b → Follows a b → (collected b.collector).ticks ≡ (collected a.collector).ticks
+  pub halted_told : (l l2 : Listening) (gave : Option (List ℕ)) (a b : Acceptor I O T H C) (own : OwnHand H) → Going l gave a own → Taking b → Follows a b → (taken b.taker).ticks ≡ (taken a.taker).ticks
       → shown_all read_half write_half given b.all ≡ shown_all read_half write_half given a.all → b.begun ≡ a.begun → l2.accepted ≡ l.accepted → l.faults ≤ l2.faults → l2.told ≡ true → l2.ports ≡ l.ports
-      → IsHalted read_half write_half given shown may moves collected expects lock kinds plan l0 l2 gave_first gave b own (record { stop = Told; lost = None })
+      → IsHalted read_half write_half given shown may moves taken expects lock kinds plan l0 l2 gave_first gave b own (record { stop = Told; lost = None })
   halted_told l l2 gave a b own is then follows same_ticks same begun same_links more told same_ports =
       let few = is.few in
       let faults = is.faults in
       record {
         is = then;
         hosts = follows.1 ∙ is.hosts;
-        quiet = quiet_then gave a b own (ticks_now a) (ticks_now b) (collected a.collector).ticks (collected b.collector).ticks follows is.quiet same_ticks (ap (λ l. ticks_of l) same);
+        quiet = quiet_then gave a b own (ticks_now a) (ticks_now b) (taken a.taker).ticks (taken b.taker).ticks follows is.quiet same_ticks (ap (λ l. ticks_of l) same);
         missed = [];
         links = same_links ∙ (is.links ∙ (ap (λ l. with_all l0.accepted (links_of l)) (sym same) ∙ ap (with_all l0.accepted) (sym (append-nil (links_now b)))));
         stopped = (told, omega (arith, few, begun), refl);
@@ -163,17 +163,17 @@ module _ {I O T H C : Type 0} (read_half : I → ReadHalf) (write_half : O → W
 
 -- At first no link is accepted.
 pub hosting_first : {I O T H C : Type 0} (read_half : I → ReadHalf) (write_half : O → WriteHalf) (given : T → Option (List ℕ)) (shown : H → WorkerState) (may : Invocation → Outcome → Type 0) (moves : States → Call → States → Type 0)
-    (collected : C → Collected (LinkReport I O T H)) (expects : C → LinkReport I O T H → Type 0) (lock : TurnLock) (kinds : List Kind) (plan : ServePlan) (l : Listening) (gave : Option (List ℕ)) (a : Acceptor I O T H C) (own : OwnHand H)
-    → IsAccepting (TalksOver read_half write_half given shown may moves kinds) (IsMadeFor read_half write_half given shown moves plan) shown collected expects lock kinds a → a.all ≡ [] → (collected a.collector).ticks ≡ [] → own.hand ≡ None → a.keeps ≡ false
-    → IsHosting read_half write_half given shown may moves collected expects lock kinds plan l l gave gave a own
-hosting_first {I = I} {O = O} {T = T} {H = H} read_half write_half given shown may moves collected expects lock kinds plan l gave a own is none no_tick handless hosts =
+    (taken : C → Taken (LinkReport I O T H)) (expects : C → LinkReport I O T H → Type 0) (lock : TurnLock) (kinds : List Kind) (plan : ServePlan) (l : Listening) (gave : Option (List ℕ)) (a : Acceptor I O T H C) (own : OwnHand H)
+    → IsAccepting (TalksOver read_half write_half given shown may moves kinds) (IsMadeFor read_half write_half given shown moves plan) shown taken expects lock kinds a → a.all ≡ [] → (taken a.taker).ticks ≡ [] → own.hand ≡ None → a.keeps ≡ false
+    → IsHosting read_half write_half given shown may moves taken expects lock kinds plan l l gave gave a own
+hosting_first {I = I} {O = O} {T = T} {H = H} read_half write_half given shown may moves taken expects lock kinds plan l gave a own is none no_tick handless hosts =
     let count = is.begun ∙ ap (λ (l : List (StartedLink I O T H)). length l) none in
     record {
       is = is;
       hosts = hosts;
       few = omega (arith, count);
-      quiet = subst (λ (o : Option H). TicksQuietly shown moves (MayPass (opening_of lock) (view_of a.root.pass).seen own.missed) gave gave (ticks_of (shown_all read_half write_half given a.all)) (collected a.collector).ticks o) (sym handless)
-          (quiet_first shown moves (MayPass (opening_of lock) (view_of a.root.pass).seen own.missed) gave (ticks_of (shown_all read_half write_half given a.all)) (collected a.collector).ticks (ap (λ (l : List (StartedLink I O T H)). ticks_of (shown_all read_half write_half given l)) none) no_tick);
+      quiet = subst (λ (o : Option H). TicksQuietly shown moves (MayPass (opening_of lock) (view_of a.root.pass).seen own.missed) gave gave (ticks_of (shown_all read_half write_half given a.all)) (taken a.taker).ticks o) (sym handless)
+          (quiet_first shown moves (MayPass (opening_of lock) (view_of a.root.pass).seen own.missed) gave (ticks_of (shown_all read_half write_half given a.all)) (taken a.taker).ticks (ap (λ (l : List (StartedLink I O T H)). ticks_of (shown_all read_half write_half given l)) none) no_tick);
       links = sym (with_none l.accepted) ∙ ap (λ (s : List (StartedLink I O T H)). with_all l.accepted (links_of (shown_all read_half write_half given s))) (sym none);
       faults = omega arith;
       same_told = refl;

@@ -1,6 +1,6 @@
--- What a collector keeps, from one call to the next.
+-- What a taker keeps, from one call to the next.
 use Rattle.std.proofs.Common.{◌∙◌, refl}
-use Rattle.conn_server.specs.Collects.{Keeps}
+use Rattle.conn_server.specs.Taken.{Keeps}
 
 module _ {C S : Type 0} (holds : C → Type 0) (stays : C → S) where
   pub keeps_self : (c : C) → Keeps holds stays c c

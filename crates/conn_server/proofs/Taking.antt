@@ -19,7 +19,7 @@ use Rattle.turn_lock.specs.declared.view.View.{View}
 use Rattle.call_dispatch.specs.Acts.{WorkerState}
 use Rattle.system_objects.specs.declared.book.Kind.{Kind}
 use Rattle.conn_server.specs.Accepts.{ExpectsAll, Follows, IsAccepting, IsBegun, IsSame, live_of, open_all, reports_of}
-use Rattle.conn_server.specs.Collects.{Collected, IsEmpty, SameAll, SameReports}
+use Rattle.conn_server.specs.Taken.{Taken, IsEmpty, SameAll, SameReports}
 use Rattle.conn_server.specs.Handed.{AreHanded}
 use Rattle.conn_server.specs.Made.{IsTakenBelow}
 use Rattle.conn_server.specs.Rows.{EachAt}
@@ -68,13 +68,13 @@ ticking_grown lock a b ticks was is g t =
     }
 
 module _ {I O T H C : Type 0} (Talked : AdmittedLink I O T H → LinkReport I O T H → Type 0) (Made : ℕ → AdmittedLink I O T H → Type 0) (shown : H → WorkerState)
-    (collected : C → Collected (LinkReport I O T H)) (expects : C → LinkReport I O T H → Type 0) (lock : TurnLock) (kinds : List Kind) where
+    (taken : C → Taken (LinkReport I O T H)) (expects : C → LinkReport I O T H → Type 0) (lock : TurnLock) (kinds : List Kind) where
   -- At first there is no link.
-  pub first_accepting : (a : Acceptor I O T H C) → IsFresh lock a.root → a.begun ≡ 0 → a.live.items ≡ [] → a.all ≡ [] → IsEmpty (collected a.collector) → (a.keeps ≡ false → (collected a.collector).events ≡ []) → ExpectsAll Talked Made expects a.collector
-      → IfSome a.handed (λ n. n ≡ length (opening_of lock).events) → IsAccepting Talked Made shown collected expects lock kinds a
+  pub first_accepting : (a : Acceptor I O T H C) → IsFresh lock a.root → a.begun ≡ 0 → a.live.items ≡ [] → a.all ≡ [] → IsEmpty (taken a.taker) → (a.keeps ≡ false → (taken a.taker).events ≡ []) → ExpectsAll Talked Made expects a.taker
+      → IfSome a.handed (λ n. n ≡ length (opening_of lock).events) → IsAccepting Talked Made shown taken expects lock kinds a
   first_accepting a fresh none no_live no_link empty no_event expected at_end =
       let opens : open_all a.all ≡ 0 = ap (λ (l : List (StartedLink I O T H)). open_all l) no_link in
-      let reports : length (collected a.collector).reports ≡ 0 = ap length empty.no_report in
+      let reports : length (taken a.taker).reports ≡ 0 = ap length empty.no_report in
       let count : length a.all ≡ 0 = ap length no_link in
       record {
         own = fresh.own;
@@ -86,19 +86,19 @@ module _ {I O T H C : Type 0} (Talked : AdmittedLink I O T H → LinkReport I O 
         given = subst (λ (x : List (StartedLink I O T H) × List (LinkReport I O T H)). IsPermutation (reports_of x.0) x.1) (λ i. (sym no_link i, sym empty.no_report i)) (IsPermutation-refl []);
         room = omega (arith, opens, reports);
         expected = expected;
-        handed_on = λ host. handed_first lock (view_of a.root.pass) (collected a.collector).events a.handed (ap (λ (y : View). y.seen) fresh.knows) (no_event host) at_end;
+        handed_on = λ host. handed_first lock (view_of a.root.pass) (taken a.taker).events a.handed (ap (λ (y : View). y.seen) fresh.knows) (no_event host) at_end;
         links = subst (λ (l : List (StartedLink I O T H)). EachAt (IsBegun Talked Made shown lock kinds (view_of a.root.pass)) 1 l) (sym no_link) tt;
       }
 
-  -- What a collector may be given, it still may be.
+  -- What a taker may be given, it still may be.
   still_expected : (c d : C) → ((report : LinkReport I O T H) → expects c report → expects d report) → ExpectsAll Talked Made expects c → ExpectsAll Talked Made expects d
   still_expected c d still expected = λ k admitted report made talked by. still report (expected k admitted report made talked by)
 
-  pub same_accepting : (a b : Acceptor I O T H C) → IsSame collected expects a b → IsAccepting Talked Made shown collected expects lock kinds a → IsAccepting Talked Made shown collected expects lock kinds b
+  pub same_accepting : (a b : Acceptor I O T H C) → IsSame taken expects a b → IsAccepting Talked Made shown taken expects lock kinds a → IsAccepting Talked Made shown taken expects lock kinds b
   same_accepting a b same is =
       let room = is.room in let more = same.reports.room in
       let opens : open_all b.all ≡ open_all a.all = ap (λ (l : List (StartedLink I O T H)). open_all l) same.all in
-      let reports : length (collected b.collector).reports ≡ length (collected a.collector).reports = ap length same.reports.reports in
+      let reports : length (taken b.taker).reports ≡ length (taken a.taker).reports = ap length same.reports.reports in
       let count : length a.all ≡ length b.all = ap length (sym same.all) in
       record {
         own = subst (λ (r : Root). IsRootOf lock r) (sym same.root) is.own;
@@ -109,46 +109,46 @@ module _ {I O T H C : Type 0} (Talked : AdmittedLink I O T H → LinkReport I O 
         live_are = same.live_are ∙ (is.live_are ∙ ap (λ (l : List (StartedLink I O T H)). live_of l) (sym same.all));
         given = subst (λ (x : List (StartedLink I O T H) × List (LinkReport I O T H)). IsPermutation (reports_of x.0) x.1) (λ i. (sym same.all i, sym same.reports.reports i)) is.given;
         room = omega (arith, room, more, opens, reports);
-        expected = still_expected a.collector b.collector same.reports.still is.expected;
+        expected = still_expected a.taker b.taker same.reports.still is.expected;
         handed_on = λ host. subst (λ (x : Root × List Event × Option ℕ). AreHanded lock (view_of x.0.pass) x.1 x.2) (λ i. (sym same.root i, sym same.events i, sym same.handed_on i)) (is.handed_on (sym same.same_keeps ∙ host));
         links = subst (λ (x : Root × List (StartedLink I O T H)). EachAt (IsBegun Talked Made shown lock kinds (view_of x.0.pass)) 1 x.1) (λ i. (sym same.root i, sym same.all i)) is.links;
       }
 
-  pub tick_accepting : (a b : Acceptor I O T H C) (more : List Asked) → IsAccepting Talked Made shown collected expects lock kinds a → IsRootOf lock b.root → b.root.made ≡ a.root.made → b.root.out ≡ a.root.out
-      → Gained (view_of a.root.pass) (view_of b.root.pass) more → (collected b.collector).ticks ≡ (collected a.collector).ticks ++ more → SameReports collected expects a.collector b.collector
-      → b.begun ≡ a.begun → b.live ≡ a.live → b.all ≡ a.all → (b.keeps ≡ false → AreHanded lock (view_of b.root.pass) (collected b.collector).events b.handed) → IsAccepting Talked Made shown collected expects lock kinds b
+  pub tick_accepting : (a b : Acceptor I O T H C) (more : List Asked) → IsAccepting Talked Made shown taken expects lock kinds a → IsRootOf lock b.root → b.root.made ≡ a.root.made → b.root.out ≡ a.root.out
+      → Gained (view_of a.root.pass) (view_of b.root.pass) more → (taken b.taker).ticks ≡ (taken a.taker).ticks ++ more → SameReports taken expects a.taker b.taker
+      → b.begun ≡ a.begun → b.live ≡ a.live → b.all ≡ a.all → (b.keeps ≡ false → AreHanded lock (view_of b.root.pass) (taken b.taker).events b.handed) → IsAccepting Talked Made shown taken expects lock kinds b
   tick_accepting a b more is own made out went ticks kept begun live all handed =
       let room = is.room in let more_room = kept.room in
       let opens : open_all b.all ≡ open_all a.all = ap (λ (l : List (StartedLink I O T H)). open_all l) all in
-      let reports : length (collected b.collector).reports ≡ length (collected a.collector).reports = ap length kept.reports in
+      let reports : length (taken b.taker).reports ≡ length (taken a.taker).reports = ap length kept.reports in
       let count : length a.all ≡ length b.all = ap length (sym all) in
       record {
         own = own;
         out = out ∙ (is.out ∙ sym opens);
         made = made ∙ (is.made ∙ count);
         begun = begun ∙ (is.begun ∙ count);
-        ticked = subst (λ (l : List Asked). IsTicking (view_of b.root.pass) l) (sym ticks) (ticking_on (view_of a.root.pass) (view_of b.root.pass) (collected a.collector).ticks more is.ticked went);
+        ticked = subst (λ (l : List Asked). IsTicking (view_of b.root.pass) l) (sym ticks) (ticking_on (view_of a.root.pass) (view_of b.root.pass) (taken a.taker).ticks more is.ticked went);
         live_are = ap (λ l. l.items) live ∙ (is.live_are ∙ ap (λ (l : List (StartedLink I O T H)). live_of l) (sym all));
         given = subst (λ (x : List (StartedLink I O T H) × List (LinkReport I O T H)). IsPermutation (reports_of x.0) x.1) (λ i. (sym all i, sym kept.reports i)) is.given;
         room = omega (arith, room, more_room, opens, reports);
-        expected = still_expected a.collector b.collector kept.still is.expected;
+        expected = still_expected a.taker b.taker kept.still is.expected;
         handed_on = handed;
         links = subst (λ (l : List (StartedLink I O T H)). EachAt (IsBegun Talked Made shown lock kinds (view_of b.root.pass)) 1 l) (sym all)
             (each_later Talked Made shown lock kinds (view_of a.root.pass) (view_of b.root.pass) (learns_gained (view_of a.root.pass) (view_of b.root.pass) more went) 1 a.all is.links);
       }
 
   -- A turn was made, and no event handed on.
-  pub handed_at_turn : (a : Acceptor I O T H C) (w : View) (more : List Asked) (events : Events) (next : Option ℕ) → IsAccepting Talked Made shown collected expects lock kinds a → Gained (view_of a.root.pass) w more
-      → events ≡ (collected a.collector).events → next ≡ a.handed → a.keeps ≡ false → AreHanded lock w events next
+  pub handed_at_turn : (a : Acceptor I O T H C) (w : View) (more : List Asked) (events : Events) (next : Option ℕ) → IsAccepting Talked Made shown taken expects lock kinds a → Gained (view_of a.root.pass) w more
+      → events ≡ (taken a.taker).events → next ≡ a.handed → a.keeps ≡ false → AreHanded lock w events next
   handed_at_turn a w more events next is went same_events same host =
-      handed_later lock (view_of a.root.pass) w (collected a.collector).events events a.handed next (is.handed_on host) (learns_gained (view_of a.root.pass) w more went).seen same_events same
+      handed_later lock (view_of a.root.pass) w (taken a.taker).events events a.handed next (is.handed_on host) (learns_gained (view_of a.root.pass) w more went).seen same_events same
 
-  pub link_accepting : (a b : Acceptor I O T H C) (task : LinkTask I O T H) (x : StartedLink I O T H) → IsAccepting Talked Made shown collected expects lock kinds a → IsRootOf lock b.root
+  pub link_accepting : (a b : Acceptor I O T H C) (task : LinkTask I O T H) (x : StartedLink I O T H) → IsAccepting Talked Made shown taken expects lock kinds a → IsRootOf lock b.root
       → view_of task.pass ≡ right_of (view_of a.root.pass) → view_of b.root.pass ≡ left_of (view_of a.root.pass) → b.root.out ≡ a.root.out + 1 → b.root.made ≡ a.root.made + 1
       → task.by ≡ a.begun + 1 → IsLinkTask shown lock task → Made (a.begun + 1) task.admitted
       → IsTakenBelow (length (view_of a.root.pass).seen) task.admitted.tick.value.end → task_of x ≡ task → x.by ≡ task.by → ((v : View) → IsUnder Talked lock kinds v (task_of x) x.link_state) → open_in x.link_state ≡ 1
       → b.live.items ≡ a.live.items ++ x ∷ [] → b.all ≡ a.all ++ x ∷ [] → b.begun ≡ a.begun + 1
-      → length (collected a.collector).reports + vec_len a.live < (collected a.collector).report_limit → SameAll collected expects a.collector b.collector → b.handed ≡ a.handed → b.keeps ≡ a.keeps → IsAccepting Talked Made shown collected expects lock kinds b
+      → length (taken a.taker).reports + vec_len a.live < (taken a.taker).report_limit → SameAll taken expects a.taker b.taker → b.handed ≡ a.handed → b.keeps ≡ a.keeps → IsAccepting Talked Made shown taken expects lock kinds b
   link_accepting a b task x is own right left out made by task_at for_it after_it task_is x_by link_state one live all begun room same same_handed same_keeps =
       let v = view_of a.root.pass in
       let w = view_of b.root.pass in
@@ -161,7 +161,7 @@ module _ {I O T H C : Type 0} (Talked : AdmittedLink I O T H → LinkReport I O 
       let view : view_of (task_of x).pass ≡ right_of v = ap (λ (j : LinkTask I O T H). view_of j.pass) task_is ∙ right in
       let number : v.made + 1 ≡ length a.all + 1 = omega (arith, was, n) in
       let live_count : vec_len a.live ≡ open_all a.all = a.live.ok.0 ∙ (ap length is.live_are ∙ live_length a.all) in
-      let reports : length (collected b.collector).reports ≡ length (collected a.collector).reports = ap length same.reports.reports in
+      let reports : length (taken b.taker).reports ≡ length (taken a.taker).reports = ap length same.reports.reports in
       let limit = same.reports.room in
       let here : IsBegun Talked Made shown lock kinds w (length a.all + 1) x = record {
         number = x_by ∙ (by ∙ ap (λ n. n + 1) length_is);
@@ -180,18 +180,18 @@ module _ {I O T H C : Type 0} (Talked : AdmittedLink I O T H → LinkReport I O 
         out = omega (arith, out, o, longer);
         made = omega (arith, made, n, count);
         begun = omega (arith, begun, length_is, count);
-        ticked = subst (λ (l : List Asked). IsTicking w l) (sym same.ticks) (ticking_left v w (collected a.collector).ticks left is.ticked);
+        ticked = subst (λ (l : List Asked). IsTicking w l) (sym same.ticks) (ticking_left v w (taken a.taker).ticks left is.ticked);
         live_are = live ∙ (ap (λ (l : List (StartedLink I O T H)). l ++ x ∷ []) is.live_are ∙ (sym (live_begun a.all x one) ∙ ap (λ (l : List (StartedLink I O T H)). live_of l) (sym all)));
         given = subst (λ (y : List (LinkReport I O T H) × List (LinkReport I O T H)). IsPermutation y.0 y.1) (λ i. (sym (ap (λ (l : List (StartedLink I O T H)). reports_of l) all ∙ reports_begun a.all x one) i, sym same.reports.reports i)) is.given;
         room = omega (arith, room, live_count, longer, reports, limit);
-        expected = still_expected a.collector b.collector same.reports.still is.expected;
-        handed_on = λ host. handed_later lock v w (collected a.collector).events (collected b.collector).events a.handed b.handed (is.handed_on (sym same_keeps ∙ host)) (learns_left v w left).seen same.events same_handed;
+        expected = still_expected a.taker b.taker same.reports.still is.expected;
+        handed_on = λ host. handed_later lock v w (taken a.taker).events (taken b.taker).events a.handed b.handed (is.handed_on (sym same_keeps ∙ host)) (learns_left v w left).seen same.events same_handed;
         links = subst (λ (l : List (StartedLink I O T H)). EachAt (IsBegun Talked Made shown lock kinds w) 1 l) (sym all)
             (each_on (IsBegun Talked Made shown lock kinds w) 1 a.all x (each_later Talked Made shown lock kinds v w (learns_left v w left) 1 a.all is.links) here);
       }
 
   -- The live link at a place.
-  pub found_live : (a : Acceptor I O T H C) (place : ℕ) (x : StartedLink I O T H) → IsAccepting Talked Made shown collected expects lock kinds a → place < vec_len a.live → x ≡ get_or a.live.items place x
+  pub found_live : (a : Acceptor I O T H C) (place : ℕ) (x : StartedLink I O T H) → IsAccepting Talked Made shown taken expects lock kinds a → place < vec_len a.live → x ≡ get_or a.live.items place x
       → Found Talked Made shown lock kinds (view_of a.root.pass) a.all place x
   found_live a place x is there taken = found Talked Made shown lock kinds (view_of a.root.pass) a.all a.live.items place x is.links is.live_are (subst (λ (n : ℕ). place < n) a.live.ok.0 there) taken
 
@@ -204,12 +204,12 @@ module _ {I O T H C : Type 0} (Talked : AdmittedLink I O T H → LinkReport I O 
 
   -- A link ended.
   pub settled_accepting : (a b : Acceptor I O T H C) (place n : ℕ) (x : StartedLink I O T H) (st : LinkState I O T H) (report : LinkReport I O T H) (f : Found Talked Made shown lock kinds (view_of a.root.pass) a.all place x)
-      → IsAccepting Talked Made shown collected expects lock kinds a → IsRootOf lock b.root → b.root.out + 1 ≡ a.root.out → b.root.made ≡ a.root.made → Grows (view_of a.root.pass) (view_of b.root.pass)
+      → IsAccepting Talked Made shown taken expects lock kinds a → IsRootOf lock b.root → b.root.out + 1 ≡ a.root.out → b.root.made ≡ a.root.made → Grows (view_of a.root.pass) (view_of b.root.pass)
       → IsUnder Talked lock kinds (view_of b.root.pass) (task_of x) st → open_in st ≡ 0 → report_in st ≡ report ∷ []
       → n + 1 ≡ x.by → b.live.items ≡ remove a.live.items place → b.all ≡ set a.all n (record { by = x.by; task = x.task; link_state = st }) → b.begun ≡ a.begun
-      → (collected b.collector).reports ≡ (collected a.collector).reports ++ report ∷ [] → (collected b.collector).ticks ≡ (collected a.collector).ticks
-      → (collected a.collector).report_limit ≤ (collected b.collector).report_limit → ((other : LinkReport I O T H) → expects a.collector other → expects b.collector other)
-      → (collected b.collector).events ≡ (collected a.collector).events → b.handed ≡ a.handed → b.keeps ≡ a.keeps → IsAccepting Talked Made shown collected expects lock kinds b
+      → (taken b.taker).reports ≡ (taken a.taker).reports ++ report ∷ [] → (taken b.taker).ticks ≡ (taken a.taker).ticks
+      → (taken a.taker).report_limit ≤ (taken b.taker).report_limit → ((other : LinkReport I O T H) → expects a.taker other → expects b.taker other)
+      → (taken b.taker).events ≡ (taken a.taker).events → b.handed ≡ a.handed → b.keeps ≡ a.keeps → IsAccepting Talked Made shown taken expects lock kinds b
   settled_accepting a b place n x st report f is own out made grows ended none one number live all begun reports ticks limit still events same_handed same_keeps =
       let v = view_of a.root.pass in
       let w = view_of b.root.pass in
@@ -222,7 +222,7 @@ module _ {I O T H C : Type 0} (Talked : AdmittedLink I O T H → LinkReport I O 
       let shorter : open_all (m.before ++ y ∷ m.after) + 1 ≡ open_all a.all = open_ended a.all place x y m none in
       let opens : open_all b.all ≡ open_all (m.before ++ y ∷ m.after) = ap (λ (l : List (StartedLink I O T H)). open_all l) now in
       let count : length b.all ≡ length a.all = ap length all ∙ length-set a.all n y in
-      let longer : length (collected b.collector).reports ≡ length (collected a.collector).reports + 1 = ap length reports ∙ length-append (collected a.collector).reports (report ∷ []) in
+      let longer : length (taken b.taker).reports ≡ length (taken a.taker).reports + 1 = ap length reports ∙ length-append (taken a.taker).reports (report ∷ []) in
       let room = is.room in
       let o = is.out in
       let here_begun : IsBegun Talked Made shown lock kinds w (length m.before + 1) y = record { number = at_number; task = f.begun.task; link_state = ended } in
@@ -231,13 +231,13 @@ module _ {I O T H C : Type 0} (Talked : AdmittedLink I O T H → LinkReport I O 
         out = omega (arith, out, o, shorter, opens);
         made = made ∙ (is.made ∙ sym count);
         begun = begun ∙ (is.begun ∙ sym count);
-        ticked = subst (λ (l : List Asked). IsTicking w l) (sym ticks) (ticking_grown lock a.root b.root (collected a.collector).ticks is.own own grows is.ticked);
+        ticked = subst (λ (l : List Asked). IsTicking w l) (sym ticks) (ticking_grown lock a.root b.root (taken a.taker).ticks is.own own grows is.ticked);
         live_are = live ∙ (ap (λ (l : List (StartedLink I O T H)). remove l place) is.live_are ∙ (sym (live_ended a.all place x y m none) ∙ ap (λ (l : List (StartedLink I O T H)). live_of l) (sym now)));
-        given = subst (λ (l : List (StartedLink I O T H)). IsPermutation (reports_of l) (collected b.collector).reports) (sym now)
-            (given_ended a.all place x y m report (collected a.collector).reports (collected b.collector).reports one is.given reports);
+        given = subst (λ (l : List (StartedLink I O T H)). IsPermutation (reports_of l) (taken b.taker).reports) (sym now)
+            (given_ended a.all place x y m report (taken a.taker).reports (taken b.taker).reports one is.given reports);
         room = omega (arith, room, shorter, opens, longer, limit);
-        expected = still_expected a.collector b.collector still is.expected;
-        handed_on = λ host. handed_later lock v w (collected a.collector).events (collected b.collector).events a.handed b.handed (is.handed_on (sym same_keeps ∙ host)) grows.seen events same_handed;
+        expected = still_expected a.taker b.taker still is.expected;
+        handed_on = λ host. handed_later lock v w (taken a.taker).events (taken b.taker).events a.handed b.handed (is.handed_on (sym same_keeps ∙ host)) grows.seen events same_handed;
         links = subst (λ (l : List (StartedLink I O T H)). EachAt (IsBegun Talked Made shown lock kinds w) 1 l) (sym now)
             (each_instead (IsBegun Talked Made shown lock kinds w) 1 m.before x y m.after later here_begun);
       }
@@ -255,8 +255,8 @@ module _ {I O T H C : Type 0} (Talked : AdmittedLink I O T H → LinkReport I O 
       ap (map shows) now ∙ (map_instead shows m.before x y m.after same ∙ ap (map shows) (sym m.whole))
 
 -- An acceptor that is the same but for more room follows.
-pub follows_same : {I O T H C : Type 0} (collected : C → Collected (LinkReport I O T H)) (expects : C → LinkReport I O T H → Type 0) (a b : Acceptor I O T H C) → IsSame collected expects a b → Follows a b
-follows_same collected expects a b same = (λ front begins. subst (λ (r : Root). StartsWith (view_of r.pass).seen front) (sym same.root) begins, same.same_keeps)
+pub follows_same : {I O T H C : Type 0} (taken : C → Taken (LinkReport I O T H)) (expects : C → LinkReport I O T H → Type 0) (a b : Acceptor I O T H C) → IsSame taken expects a b → Follows a b
+follows_same taken expects a b same = (λ front begins. subst (λ (r : Root). StartsWith (view_of r.pass).seen front) (sym same.root) begins, same.same_keeps)
 
 -- One acceptor follows another that follows a first one.
 pub follows_on : {I O T H C : Type 0} (a b c : Acceptor I O T H C) → Follows a b → Follows b c → Follows a c

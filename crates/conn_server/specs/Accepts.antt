@@ -10,7 +10,7 @@ use Rattle.turn_lock.specs.declared.view.View.{View}
 use Rattle.call_dispatch.specs.Acts.{WorkerState}
 use Rattle.system_objects.specs.declared.book.Kind.{Kind}
 use Rattle.std.specs.List.Sorted.{IsPermutation}
-use Rattle.conn_server.specs.Collects.{Collected, SameReports}
+use Rattle.conn_server.specs.Taken.{Taken, SameReports}
 use Rattle.conn_server.specs.Handed.{AreHanded}
 use Rattle.conn_server.specs.Made.{IsTakenBelow, shown_admitted}
 use Rattle.conn_server.specs.Rows.{EachAt}
@@ -80,25 +80,25 @@ abbrev pub reports_of : {I O T H : Type 0} → List (StartedLink I O T H) → Li
 reports_of [] = []
 reports_of (s ∷ all) = report_in s.link_state ++ reports_of all
 
--- The collector may be given the report of each link that was made so and served so.
+-- The taker may be given the report of each link that was made so and served so.
 abbrev pub ExpectsAll : {I O T H C : Type 0} → (AdmittedLink I O T H → LinkReport I O T H → Type 0) → (ℕ → AdmittedLink I O T H → Type 0) → (C → LinkReport I O T H → Type 0) → C → Type 0
 ExpectsAll {I = I} {O = O} {T = T} {H = H} Talked Made expects c = (k : ℕ) (admitted : AdmittedLink I O T H) (report : LinkReport I O T H) → Made k admitted → Talked admitted report → report.by ≡ k → expects c report
 
 -- Every link was begun with its pass; those that haven't ended are kept, and the reports of the others were handed on, each once; there is room for
--- the reports to come; the root made these turns of its own; and the collector of a host, whose reports don't keep their entries, has the first
+-- the reports to come; the root made these turns of its own; and the taker of a host, whose reports don't keep their entries, has the first
 -- events after the opening's.
 pub record IsAccepting {I O T H C : Type 0} (Talked : AdmittedLink I O T H → LinkReport I O T H → Type 0) (Made : ℕ → AdmittedLink I O T H → Type 0) (shown : H → WorkerState)
-    (collected : C → Collected (LinkReport I O T H)) (expects : C → LinkReport I O T H → Type 0) (lock : TurnLock) (kinds : List Kind) (a : Acceptor I O T H C) : Type 0 where
+    (taken : C → Taken (LinkReport I O T H)) (expects : C → LinkReport I O T H → Type 0) (lock : TurnLock) (kinds : List Kind) (a : Acceptor I O T H C) : Type 0 where
   pub own : IsRootOf lock a.root
   pub out : a.root.out ≡ open_all a.all
   pub made : a.root.made ≡ length a.all
   pub begun : a.begun ≡ length a.all
-  pub ticked : IsTicking (view_of a.root.pass) (collected a.collector).ticks
+  pub ticked : IsTicking (view_of a.root.pass) (taken a.taker).ticks
   pub live_are : a.live.items ≡ live_of a.all
-  pub given : IsPermutation (reports_of a.all) (collected a.collector).reports
-  pub room : length (collected a.collector).reports + open_all a.all ≤ (collected a.collector).report_limit
-  pub expected : ExpectsAll Talked Made expects a.collector
-  pub handed_on : a.keeps ≡ false → AreHanded lock (view_of a.root.pass) (collected a.collector).events a.handed
+  pub given : IsPermutation (reports_of a.all) (taken a.taker).reports
+  pub room : length (taken a.taker).reports + open_all a.all ≤ (taken a.taker).report_limit
+  pub expected : ExpectsAll Talked Made expects a.taker
+  pub handed_on : a.keeps ≡ false → AreHanded lock (view_of a.root.pass) (taken a.taker).events a.handed
   pub links : EachAt (IsBegun Talked Made shown lock kinds (view_of a.root.pass)) 1 a.all
 
 -- What begins the history that the root had seen begins what it has seen, and reports keep their entries where they did.
@@ -106,38 +106,38 @@ abbrev pub Follows : {I O T H C : Type 0} → Acceptor I O T H C → Acceptor I 
 Follows a b = ((front : Events) → StartsWith (view_of a.root.pass).seen front → StartsWith (view_of b.root.pass).seen front) × (b.keeps ≡ a.keeps)
 
 -- There is more room, and all else is the same.
-pub record IsSame {I O T H C : Type 0} (collected : C → Collected (LinkReport I O T H)) (expects : C → LinkReport I O T H → Type 0) (a b : Acceptor I O T H C) : Type 0 where
+pub record IsSame {I O T H C : Type 0} (taken : C → Taken (LinkReport I O T H)) (expects : C → LinkReport I O T H → Type 0) (a b : Acceptor I O T H C) : Type 0 where
   pub root : b.root ≡ a.root
   pub begun : b.begun ≡ a.begun
   pub live_are : b.live.items ≡ a.live.items
   pub all : b.all ≡ a.all
-  pub ticks : (collected b.collector).ticks ≡ (collected a.collector).ticks
-  pub events : (collected b.collector).events ≡ (collected a.collector).events
+  pub ticks : (taken b.taker).ticks ≡ (taken a.taker).ticks
+  pub events : (taken b.taker).events ≡ (taken a.taker).events
   pub handed_on : b.handed ≡ a.handed
   pub same_keeps : b.keeps ≡ a.keeps
-  pub reports : SameReports collected expects a.collector b.collector
+  pub reports : SameReports taken expects a.taker b.taker
 
 -- The links are the same, and there is no less room for their reports.
-pub record HasSameLinks {I O T H C : Type 0} (collected : C → Collected (LinkReport I O T H)) (a b : Acceptor I O T H C) : Type 0 where
+pub record HasSameLinks {I O T H C : Type 0} (taken : C → Taken (LinkReport I O T H)) (a b : Acceptor I O T H C) : Type 0 where
   pub begun : b.begun ≡ a.begun
   pub live_are : b.live ≡ a.live
   pub all : b.all ≡ a.all
-  pub reports : (collected b.collector).reports ≡ (collected a.collector).reports
-  pub room : (collected a.collector).report_limit ≤ (collected b.collector).report_limit
+  pub reports : (taken b.taker).reports ≡ (taken a.taker).reports
+  pub room : (taken a.taker).report_limit ≤ (taken b.taker).report_limit
 
 -- There is room for one more of each.
-pub record HasRoom {I O T H C : Type 0} (collected : C → Collected (LinkReport I O T H)) (a : Acceptor I O T H C) : Type 0 where
-  pub ticks : length (collected a.collector).ticks < (collected a.collector).tick_limit
+pub record HasRoom {I O T H C : Type 0} (taken : C → Taken (LinkReport I O T H)) (a : Acceptor I O T H C) : Type 0 where
+  pub ticks : length (taken a.taker).ticks < (taken a.taker).tick_limit
   pub live_room : vec_len a.live < vec_capacity a.live
-  pub reports : length (collected a.collector).reports + vec_len a.live < (collected a.collector).report_limit
+  pub reports : length (taken a.taker).reports + vec_len a.live < (taken a.taker).report_limit
 
 -- The admitted link is the next one, there is room for the link, and the root has seen the turn before it.
 pub record IsNext {I O T H C : Type 0} (Talked : AdmittedLink I O T H → LinkReport I O T H → Type 0) (Made : ℕ → AdmittedLink I O T H → Type 0) (shown : H → WorkerState)
-    (collected : C → Collected (LinkReport I O T H)) (expects : C → LinkReport I O T H → Type 0) (lock : TurnLock) (kinds : List Kind) (a : Acceptor I O T H C) (admitted : AdmittedLink I O T H) : Type 0 where
-  pub accepting : IsAccepting Talked Made shown collected expects lock kinds a
+    (taken : C → Taken (LinkReport I O T H)) (expects : C → LinkReport I O T H → Type 0) (lock : TurnLock) (kinds : List Kind) (a : Acceptor I O T H C) (admitted : AdmittedLink I O T H) : Type 0 where
+  pub accepting : IsAccepting Talked Made shown taken expects lock kinds a
   pub few : a.begun < LAST_NUMBER
   pub can : IsAdmittedLink shown admitted
   pub made : Made (a.begun + 1) admitted
   pub after_tick : IsTakenBelow (length (view_of a.root.pass).seen) admitted.tick.value.end
   pub live_room : vec_len a.live < vec_capacity a.live
-  pub reports : length (collected a.collector).reports + vec_len a.live < (collected a.collector).report_limit
+  pub reports : length (taken a.taker).reports + vec_len a.live < (taken a.taker).report_limit

@@ -1,4 +1,4 @@
--- Which events of the one history a collector was given.
+-- Which events of the one history a taker was given.
 use Rattle.std.specs.Prelude.{◌≡◌, ℕ, ◌++◌, length, Option, IfSome}
 use Rattle.turn_lock.specs.Handles.{opening_of}
 use Rattle.turn_lock.specs.Rule.{Events, StartsWith}

@@ -15,7 +15,7 @@ use Rattle.call_dispatch.specs.declared.outcome.Invocation.{Invocation}
 use Rattle.call_dispatch.specs.declared.outcome.Outcome.{Outcome}
 use Rattle.system_objects.specs.declared.book.Kind.{Kind}
 use Rattle.conn_server.specs.Accepts.{IsAccepting, shown_all, links_of, ticks_of, with_all}
-use Rattle.conn_server.specs.Collects.{Collected}
+use Rattle.conn_server.specs.Taken.{Taken}
 use Rattle.conn_server.specs.Handed.{AreHanded}
 use Rattle.conn_server.specs.Made.{IsMadeFor}
 use Rattle.conn_server.specs.Quiet.{MayPass, TicksQuietly}
@@ -36,12 +36,12 @@ use Rattle.conn_server.specs.declared.server.HostJoined.{HostJoined}
 -- Links are accepted: since the listener told l0 and the clock of quiet seconds had given the first moments, these links were begun, and the root
 -- made these turns of its own. The listener tells l1 now.
 pub record IsHosting {I O T H C : Type 0} (read_half : I → ReadHalf) (write_half : O → WriteHalf) (given : T → Option (List ℕ)) (shown : H → WorkerState) (may : Invocation → Outcome → Type 0) (moves : States → Call → States → Type 0)
-    (collected : C → Collected (LinkReport I O T H)) (expects : C → LinkReport I O T H → Type 0) (lock : TurnLock) (kinds : List Kind) (plan : ServePlan) (l0 l1 : Listening) (gave_first gave_last : Option (List ℕ))
+    (taken : C → Taken (LinkReport I O T H)) (expects : C → LinkReport I O T H → Type 0) (lock : TurnLock) (kinds : List Kind) (plan : ServePlan) (l0 l1 : Listening) (gave_first gave_last : Option (List ℕ))
     (a : Acceptor I O T H C) (own : OwnHand H) : Type 0 where
-  pub is : IsAccepting (TalksOver read_half write_half given shown may moves kinds) (IsMadeFor read_half write_half given shown moves plan) shown collected expects lock kinds a
+  pub is : IsAccepting (TalksOver read_half write_half given shown may moves kinds) (IsMadeFor read_half write_half given shown moves plan) shown taken expects lock kinds a
   pub hosts : a.keeps ≡ false
   pub few : a.begun ≤ plan.count
-  pub quiet : TicksQuietly shown moves (MayPass (opening_of lock) (view_of a.root.pass).seen own.missed) gave_first gave_last (ticks_of (shown_all read_half write_half given a.all)) (collected a.collector).ticks own.hand
+  pub quiet : TicksQuietly shown moves (MayPass (opening_of lock) (view_of a.root.pass).seen own.missed) gave_first gave_last (ticks_of (shown_all read_half write_half given a.all)) (taken a.taker).ticks own.hand
   pub links : l1.accepted ≡ with_all l0.accepted (links_of (shown_all read_half write_half given a.all))
   pub faults : l0.faults ≤ l1.faults
   pub same_told : l1.told ≡ l0.told
@@ -49,11 +49,11 @@ pub record IsHosting {I O T H C : Type 0} (read_half : I → ReadHalf) (write_ha
 
 -- No more links are accepted.
 pub record IsHalted {I O T H C : Type 0} (read_half : I → ReadHalf) (write_half : O → WriteHalf) (given : T → Option (List ℕ)) (shown : H → WorkerState) (may : Invocation → Outcome → Type 0) (moves : States → Call → States → Type 0)
-    (collected : C → Collected (LinkReport I O T H)) (expects : C → LinkReport I O T H → Type 0) (lock : TurnLock) (kinds : List Kind) (plan : ServePlan) (l0 l1 : Listening) (gave_first gave_last : Option (List ℕ))
+    (taken : C → Taken (LinkReport I O T H)) (expects : C → LinkReport I O T H → Type 0) (lock : TurnLock) (kinds : List Kind) (plan : ServePlan) (l0 l1 : Listening) (gave_first gave_last : Option (List ℕ))
     (a : Acceptor I O T H C) (own : OwnHand H) (halt : Halt I O T) : Type 0 where
-  pub is : IsAccepting (TalksOver read_half write_half given shown may moves kinds) (IsMadeFor read_half write_half given shown moves plan) shown collected expects lock kinds a
+  pub is : IsAccepting (TalksOver read_half write_half given shown may moves kinds) (IsMadeFor read_half write_half given shown moves plan) shown taken expects lock kinds a
   pub hosts : a.keeps ≡ false
-  pub quiet : TicksQuietly shown moves (MayPass (opening_of lock) (view_of a.root.pass).seen own.missed) gave_first gave_last (ticks_of (shown_all read_half write_half given a.all)) (collected a.collector).ticks own.hand
+  pub quiet : TicksQuietly shown moves (MayPass (opening_of lock) (view_of a.root.pass).seen own.missed) gave_first gave_last (ticks_of (shown_all read_half write_half given a.all)) (taken a.taker).ticks own.hand
   pub missed : List Accepted
   pub links : l1.accepted ≡ with_all l0.accepted (links_of (shown_all read_half write_half given a.all) ++ missed)
   pub stopped : HostStopped halt.stop l1.told plan.count a.begun missed
@@ -65,24 +65,24 @@ pub record IsHalted {I O T H C : Type 0} (read_half : I → ReadHalf) (write_hal
 
 -- A step came to this: further links are accepted, or no more are.
 abbrev pub GoesOn : {I O T H C : Type 0} → (I → ReadHalf) → (O → WriteHalf) → (T → Option (List ℕ)) → (H → WorkerState) → (Invocation → Outcome → Type 0) → (States → Call → States → Type 0)
-    → (C → Collected (LinkReport I O T H)) → (C → LinkReport I O T H → Type 0) → TurnLock → List Kind → ServePlan → Listening → Listening → Option (List ℕ) → Option (List ℕ)
+    → (C → Taken (LinkReport I O T H)) → (C → LinkReport I O T H → Type 0) → TurnLock → List Kind → ServePlan → Listening → Listening → Option (List ℕ) → Option (List ℕ)
     → Acceptor I O T H C → OwnHand H → Option (Halt I O T) → Type 0
-GoesOn read_half write_half given shown may moves collected expects lock kinds plan l0 l1 gave_first gave_last a own None =
-    IsHosting read_half write_half given shown may moves collected expects lock kinds plan l0 l1 gave_first gave_last a own
-GoesOn read_half write_half given shown may moves collected expects lock kinds plan l0 l1 gave_first gave_last a own (Some halt) =
-    IsHalted read_half write_half given shown may moves collected expects lock kinds plan l0 l1 gave_first gave_last a own halt
+GoesOn read_half write_half given shown may moves taken expects lock kinds plan l0 l1 gave_first gave_last a own None =
+    IsHosting read_half write_half given shown may moves taken expects lock kinds plan l0 l1 gave_first gave_last a own
+GoesOn read_half write_half given shown may moves taken expects lock kinds plan l0 l1 gave_first gave_last a own (Some halt) =
+    IsHalted read_half write_half given shown may moves taken expects lock kinds plan l0 l1 gave_first gave_last a own halt
 
--- All threads of a host were joined: the links that were served, their reports, each of which the collector was given once, the root's own turns, and
--- the events that the collector was given.
+-- All threads of a host were joined: the links that were served, their reports, each of which the taker was given once, the root's own turns, and
+-- the events that the taker was given.
 pub record IsHosted {I O T H C : Type 0} (IsLink : ℕ → Accepted × Asked → LinkReport I O T H → Type 0) (IsLost : Accepted → LostLink I O T → Type 0) (shown : H → WorkerState) (moves : States → Call → States → Type 0)
-    (collected : C → Collected (LinkReport I O T H)) (lock : TurnLock) (count : ℕ) (before after : Listening) (gave_first gave_last : Option (List ℕ)) (o : HostJoined I O T C H) : Type 0 where
+    (taken : C → Taken (LinkReport I O T H)) (lock : TurnLock) (count : ℕ) (before after : Listening) (gave_first gave_last : Option (List ℕ)) (o : HostJoined I O T C H) : Type 0 where
   pub served : List (Accepted × Asked)
   pub links : List (LinkReport I O T H)
   pub missed : List Accepted
-  pub joined : IsAllJoined IsLink lock served o.root links (collected o.collector).ticks
-  pub handed_on : AreHanded lock (view_of o.root.pass) (collected o.collector).events o.handed
-  pub quiet : TicksQuietly shown moves (MayPass (opening_of lock) (view_of o.root.pass).seen o.own.missed) gave_first gave_last (ticks_of served) (collected o.collector).ticks o.own.hand
-  pub reports : IsPermutation links (collected o.collector).reports
+  pub joined : IsAllJoined IsLink lock served o.root links (taken o.taker).ticks
+  pub handed_on : AreHanded lock (view_of o.root.pass) (taken o.taker).events o.handed
+  pub quiet : TicksQuietly shown moves (MayPass (opening_of lock) (view_of o.root.pass).seen o.own.missed) gave_first gave_last (ticks_of served) (taken o.taker).ticks o.own.hand
+  pub reports : IsPermutation links (taken o.taker).reports
   pub told_links : after.accepted ≡ with_all before.accepted (links_of served ++ missed)
   pub stopped : HostStopped o.stop after.told count (length links) missed
   pub back : AreGivenBack IsLost missed o.lost
@@ -90,12 +90,12 @@ pub record IsHosted {I O T H C : Type 0} (IsLink : ℕ → Accepted × Asked →
 
 -- Links were served over a space that was opened so, until the listener was told to stop, or for another cause. The one history that is left is legal
 -- and goes on from the opening, and its rows are what the collector of the space made of none at each of its events. Each link that was accepted has
--- its Tick and its report, which the collector of reports was given once, but the one, if any, for which there was no memory, which is given back.
+-- its Tick and its report, which the taker was given once, but the one, if any, for which there was no memory, which is given back.
 -- The server's own turns are those Ticks and the Ticks of quiet seconds, and there are no turns but these and the links'. A moment of a quiet second had
--- no Tick only where nothing had ended then, or where the server says that it missed a Tick. The events that the collector of reports was given are the
+-- no Tick only where nothing had ended then, or where the server says that it missed a Tick. The events that the taker was given are the
 -- first after the opening's, in their order, and all of them where the server says so.
 pub record HostsLinks {I O T H C : Type 0} (IsLink : ℕ → Accepted × Asked → LinkReport I O T H → Type 0) (IsLost : Accepted → LostLink I O T → Type 0) (shown : H → WorkerState) (moves : States → Call → States → Type 0)
-    (collected : C → Collected (LinkReport I O T H)) (opening : SpaceHistory) (count : ℕ) (before after : Listening) (gave_first gave_last : Option (List ℕ)) (h : Hosted I O T C H) : Type 0 where
+    (taken : C → Taken (LinkReport I O T H)) (opening : SpaceHistory) (count : ℕ) (before after : Listening) (gave_first gave_last : Option (List ℕ)) (h : Hosted I O T C H) : Type 0 where
   pub config : h.space.configuration ≡ opening.configuration
   pub legal : IsLegal h.space.configuration h.space.events
   pub begins : StartsWith h.space.events opening.events
@@ -105,12 +105,12 @@ pub record HostsLinks {I O T H C : Type 0} (IsLink : ℕ → Accepted × Asked �
   pub missed : List Accepted
   pub told_links : after.accepted ≡ with_all before.accepted (links_of served ++ missed)
   pub reported : Paired (IsReportOf IsLink opening h.space) 1 served links
-  pub reports : IsPermutation links (collected h.collector).reports
-  pub ticks : AreTurnsOf opening 0 (collected h.collector).ticks h.space
-  pub quiet : TicksQuietly shown moves (MayPass opening h.space.events h.tick_missed) gave_first gave_last (ticks_of served) (collected h.collector).ticks h.hand
+  pub reports : IsPermutation links (taken h.taker).reports
+  pub ticks : AreTurnsOf opening 0 (taken h.taker).ticks h.space
+  pub quiet : TicksQuietly shown moves (MayPass opening h.space.events h.tick_missed) gave_first gave_last (ticks_of served) (taken h.taker).ticks h.hand
   pub others : (n : ℕ) → length links < n → events_after opening n h.space ≡ []
   pub stopped : HostStopped h.stop after.told count (length links) missed
   pub back : AreGivenBack IsLost missed h.lost
   pub untold : h.stop ≢ Told → after.told ≡ before.told
-  pub handed : StartsWith h.space.events (opening.events ++ (collected h.collector).events)
-  pub all_handed : h.whole ≡ true → h.space.events ≡ opening.events ++ (collected h.collector).events
+  pub handed : StartsWith h.space.events (opening.events ++ (taken h.taker).events)
+  pub all_handed : h.whole ≡ true → h.space.events ≡ opening.events ++ (taken h.taker).events

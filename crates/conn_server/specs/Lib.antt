@@ -6,7 +6,7 @@ pub mod Rows
 pub mod Views
 pub mod Made
 pub mod Starts
-pub mod Collects
+pub mod Taken
 pub mod Quiet
 pub mod Handed
 pub mod Accepts

@@ -37,7 +37,7 @@ use Rattle.conn_server.specs.declared.server.AllJoined.{AllJoined}
 use Rattle.conn_server.specs.declared.server.Report.{Report}
 use Rattle.conn_server.specs.declared.server.Served.{Served}
 use Rattle.turn_lock.specs.declared.handles.Root.{Root}
-use Rattle.conn_server.specs.Collects.{Collected}
+use Rattle.conn_server.specs.Taken.{Taken}
 use Rattle.std.specs.List.Sorted.{IsPermutation}
 
 -- The events of connection k after the opening ones.
@@ -110,15 +110,15 @@ pub record IsAllJoined {I O T H : Type 0} (IsLink : ℕ → Accepted × Asked �
   pub ticked : IsTicked (view_of root.pass) ticks
   pub known : Paired (IsKnown IsLink (opening_of lock) (view_of root.pass)) 1 served links
 
--- So many links were to be accepted, those that were served were joined, and the collector was given the report of each once.
+-- So many links were to be accepted, those that were served were joined, and the taker was given the report of each once.
 pub record IsServed {I O T H C : Type 0} (IsLink : ℕ → Accepted × Asked → LinkReport I O T H → Type 0) (IsLost : Accepted → LostLink I O T → Type 0)
-    (collected : C → Collected (LinkReport I O T H)) (lock : TurnLock) (count : ℕ) (accepted accepted_after : Option (List Accepted)) (o : AllJoined I O T C) : Type 0 where
+    (taken : C → Taken (LinkReport I O T H)) (lock : TurnLock) (count : ℕ) (accepted accepted_after : Option (List Accepted)) (o : AllJoined I O T C) : Type 0 where
   pub served : List (Accepted × Asked)
   pub links : List (LinkReport I O T H)
   pub missed : List Accepted
-  pub joined : IsAllJoined IsLink lock served o.root links (collected o.collector).ticks
-  pub tied : (collected o.collector).ticks ≡ ticks_of served
-  pub given : IsPermutation links (collected o.collector).reports
+  pub joined : IsAllJoined IsLink lock served o.root links (taken o.taker).ticks
+  pub tied : (taken o.taker).ticks ≡ ticks_of served
+  pub given : IsPermutation links (taken o.taker).reports
   pub told : accepted_after ≡ with_all accepted (links_of served ++ missed)
   pub stopped : Stopped o.stop count (length links) missed
   pub back : AreGivenBack IsLost missed o.lost
@@ -145,9 +145,9 @@ pub record ServesLinks {I O T H : Type 0} (IsLink : ℕ → Accepted × Asked �
 abbrev pub report_with : {I O T H C : Type 0} → List (LinkReport I O T H) → List Asked → Served I O T C → Report I O T H
 report_with links ticks s = record { links = links; ticks = ticks; stop = s.stop; lost = s.lost; space = s.space }
 
--- Links were served as above, and a collector was given the report of each link once, as the link had ended, and the entries of the server's own turns.
+-- Links were served as above, and a taker was given the report of each link once, as the link had ended, and the entries of the server's own turns.
 pub record GivesReports {I O T H C : Type 0} (IsLink : ℕ → Accepted × Asked → LinkReport I O T H → Type 0) (IsLost : Accepted → LostLink I O T → Type 0)
-    (collected : C → Collected (LinkReport I O T H)) (opening : SpaceHistory) (count : ℕ) (accepted accepted_after : Option (List Accepted)) (s : Served I O T C) : Type 0 where
+    (taken : C → Taken (LinkReport I O T H)) (opening : SpaceHistory) (count : ℕ) (accepted accepted_after : Option (List Accepted)) (s : Served I O T C) : Type 0 where
   pub links : List (LinkReport I O T H)
-  pub given : IsPermutation links (collected s.collector).reports
-  pub serves : ServesLinks IsLink IsLost opening count accepted accepted_after (report_with links (collected s.collector).ticks s)
+  pub given : IsPermutation links (taken s.taker).reports
+  pub serves : ServesLinks IsLink IsLost opening count accepted accepted_after (report_with links (taken s.taker).ticks s)

@@ -11,9 +11,9 @@ ghost use Rattle.conn_server.specs.Talks.{TalksOver};
 ghost use Rattle.conn_server.specs.declared.plan.TheConstants.{MAX_LINKS};
 
 use crate::admission::{Acceptor, LostLink};
-use crate::collector::Collector;
 use crate::link_task::LinkReport;
 use crate::shared::Shared;
+use crate::taker::ReportTaker;
 use call_dispatch::{Crew, Worker};
 use std::sync::Wait;
 use std::thread::{Scope, Threads};
@@ -45,7 +45,7 @@ fn next_link<
     R: Threads + Wait,
     L: Listener,
     H: Worker + Drop,
-    C: Collector<LinkReport<L::In, L::Out, L::Ticks, H>>,
+    C: ReportTaker<LinkReport<L::In, L::Out, L::Ticks, H>>,
 >(
     shared: &Shared<'s, R>,
     listener: &mut L,
@@ -54,12 +54,12 @@ fn next_link<
     requires accepting { IsAccepting
         (TalksOver L.In.half L.Out.half L.Ticks.given H.shown H.may H.moves shared.now.book.now)
         (IsMadeFor L.In.half L.Out.half L.Ticks.given H.shown H.moves shared.now.plan.now)
-        H.shown C.collected C.expects shared.now.lock.now shared.now.book.now acceptor.old }
+        H.shown C.taken C.expects shared.now.lock.now shared.now.book.now acceptor.old }
     ensures accepting { IsAccepting
         (TalksOver L.In.half L.Out.half L.Ticks.given H.shown H.may H.moves shared.now.book.now)
         (IsMadeFor L.In.half L.Out.half L.Ticks.given H.shown H.moves shared.now.plan.now)
-        H.shown C.collected C.expects shared.now.lock.now shared.now.book.now acceptor.new }
-    ensures ticks { (C.collected acceptor.new.collector).ticks ≡ (C.collected acceptor.old.collector).ticks }
+        H.shown C.taken C.expects shared.now.lock.now shared.now.book.now acceptor.new }
+    ensures ticks { (C.taken acceptor.new.taker).ticks ≡ (C.taken acceptor.old.taker).ticks }
     ensures links { shown_all L.In.half L.Out.half L.Ticks.given acceptor.new.all
         ≡ shown_all L.In.half L.Out.half L.Ticks.given acceptor.old.all }
     ensures begun { acceptor.new.begun ≡ acceptor.old.begun }
@@ -94,7 +94,7 @@ pub fn accept_links<
     R: Threads + Wait + Sync,
     L: Listener,
     G: Crew,
-    C: Collector<LinkReport<L::In, L::Out, L::Ticks, G::Hand>>,
+    C: ReportTaker<LinkReport<L::In, L::Out, L::Ticks, G::Hand>>,
 >(
     scope: &Scope<'s, E>,
     shared: &Shared<'s, R>,
@@ -108,11 +108,11 @@ where
     L::Ticks: 's,
     G::Hand: 's,
     requires host { length (utf shared.now.plan.now.host) ≤ MAX_HOST_BYTES }
-    requires accepting { IsAccepting (TalksOver L.In.half L.Out.half L.Ticks.given G.Hand.shown G.Hand.may G.Hand.moves shared.now.book.now) (IsMadeFor L.In.half L.Out.half L.Ticks.given G.Hand.shown G.Hand.moves shared.now.plan.now) G.Hand.shown C.collected C.expects shared.now.lock.now shared.now.book.now acceptor.old }
-    requires fresh { (acceptor.old.all ≡ []) × ((C.collected acceptor.old.collector).ticks ≡ []) }
+    requires accepting { IsAccepting (TalksOver L.In.half L.Out.half L.Ticks.given G.Hand.shown G.Hand.may G.Hand.moves shared.now.book.now) (IsMadeFor L.In.half L.Out.half L.Ticks.given G.Hand.shown G.Hand.moves shared.now.plan.now) G.Hand.shown C.taken C.expects shared.now.lock.now shared.now.book.now acceptor.old }
+    requires fresh { (acceptor.old.all ≡ []) × ((C.taken acceptor.old.taker).ticks ≡ []) }
     requires few { shared.now.plan.now.count ≤ MAX_LINKS }
-    ensures accepting { IsAccepting (TalksOver L.In.half L.Out.half L.Ticks.given G.Hand.shown G.Hand.may G.Hand.moves shared.now.book.now) (IsMadeFor L.In.half L.Out.half L.Ticks.given G.Hand.shown G.Hand.moves shared.now.plan.now) G.Hand.shown C.collected C.expects shared.now.lock.now shared.now.book.now acceptor.new }
-    ensures tied { (C.collected acceptor.new.collector).ticks ≡ ticks_of (shown_all L.In.half L.Out.half L.Ticks.given acceptor.new.all) }
+    ensures accepting { IsAccepting (TalksOver L.In.half L.Out.half L.Ticks.given G.Hand.shown G.Hand.may G.Hand.moves shared.now.book.now) (IsMadeFor L.In.half L.Out.half L.Ticks.given G.Hand.shown G.Hand.moves shared.now.plan.now) G.Hand.shown C.taken C.expects shared.now.lock.now shared.now.book.now acceptor.new }
+    ensures tied { (C.taken acceptor.new.taker).ticks ≡ ticks_of (shown_all L.In.half L.Out.half L.Ticks.given acceptor.new.all) }
     ensures links { (lost : List Accepted) × ((L.listening listener.new).accepted ≡ with_all (L.listening listener.old).accepted (links_of (shown_all L.In.half L.Out.half L.Ticks.given acceptor.new.all) ++ lost)) × Stopped result.0 shared.now.plan.now.count acceptor.new.begun lost
         × AreGivenBack (IsLostLink L.In.half L.Out.half L.Ticks.given) lost result.1 }
     ensures fault { result.0 ≡ Stop.AcceptFault → Rose (L.listening listener.old).faults (L.listening listener.new).faults }

@@ -14,7 +14,7 @@ ghost use Rattle.system_objects.specs.declared.setup.TheConstants.{DRAWS_BEGIN_B
 ghost use Rattle.turn_lock.specs.Handles.{IsRootOf, view_of};
 ghost use Rattle.turn_lock.specs.PassPorts.{PassWent};
 ghost use Rattle.conn_server.specs.Accepts.{Follows, HasRoom, HasSameLinks, IsAccepting, IsNext, IsSame, TicksOn, shown_all, links_of, ticks_of};
-ghost use Rattle.conn_server.specs.Collects.{Keeps, SameReports};
+ghost use Rattle.conn_server.specs.Taken.{Keeps, SameReports};
 ghost use Rattle.call_dispatch.specs.Hands.{IsUntold, IsUncounted};
 ghost use Rattle.conn_server.specs.Made.{gone_with, told_of, shown_admitted, IsMadeFor, IsHandFor, IsTakenBelow, IsTickEnd};
 ghost use Rattle.conn_server.specs.Plans.{link_terms};
@@ -22,11 +22,11 @@ ghost use Rattle.conn_server.specs.Stops.{IsLostLink};
 ghost use Rattle.conn_server.specs.Talks.{TalksOver};
 ghost use Rattle.conn_server.specs.declared.plan.TheConstants.{LAST_NUMBER};
 
-use crate::collector::Collector;
 use crate::link_task::{AdmittedLink, LinkReport, LinkTask, Peer};
 use crate::link_thread::{StartedLink, start};
 use crate::plan::{ServePlan, setup_for};
 use crate::shared::Shared;
+use crate::taker::ReportTaker;
 use call_dispatch::{Book, Crew, Setup, Worker, notify_unreferenced};
 use history::{Ask, Refused, Turn};
 use past::Past;
@@ -50,10 +50,10 @@ pub struct Acceptor<I: Source, O: Sink, T: Clock, H: Worker, C> {
     /// All that were begun, in that order. It exists in proofs alone.
     pub all: Past<StartedLink<I, O, T, H>>,
     /// Takes the reports of links, the entries of the root's own turns, and events.
-    pub collector: C,
+    pub taker: C,
     /// True where the reports of links have the entries of their turns at run time, too. A host's have them in proofs alone.
     pub keeps: bool,
-    /// The place of the next event of the history that the collector is to be given. None where it is given none.
+    /// The place of the next event of the history that the taker is to be given. None where it is given none.
     pub handed: Option<u64>,
 }
 
@@ -62,7 +62,7 @@ pub struct Acceptor<I: Source, O: Sink, T: Clock, H: Worker, C> {
 pub struct Keeping {
     /// True where the reports of links have the entries of their turns at run time, too.
     pub entries: bool,
-    /// The place of the first event of the history that the collector is to be given. None where it is given none.
+    /// The place of the first event of the history that the taker is to be given. None where it is given none.
     pub handed: Option<u64>,
 }
 
@@ -182,22 +182,22 @@ fn hand_and_setup<G: Crew, I, O, T>(
 }
 
 /// Hands an entry on, if there is one.
-pub(crate) fn hand_entry<R, C: Collector<R>>(
-    collector: &mut C,
+pub(crate) fn hand_entry<R, C: ReportTaker<R>>(
+    taker: &mut C,
     entry: Option<Asked>,
 ) -> Option<Snapshot<Asked>>
-    requires { length (C.collected collector.old).ticks < (C.collected collector.old).tick_limit }
-    ensures keeps { Keeps C.holds C.stays collector.old collector.new }
-    ensures items { (C.collected collector.new).ticks
-        ≡ (C.collected collector.old).ticks ++ option_to_list entry }
-    ensures reports { SameReports C.collected C.expects collector.old collector.new }
-    ensures events { (C.collected collector.new).events ≡ (C.collected collector.old).events }
+    requires { length (C.taken taker.old).ticks < (C.taken taker.old).tick_limit }
+    ensures keeps { Keeps C.holds C.stays taker.old taker.new }
+    ensures items { (C.taken taker.new).ticks
+        ≡ (C.taken taker.old).ticks ++ option_to_list entry }
+    ensures reports { SameReports C.taken C.expects taker.old taker.new }
+    ensures events { (C.taken taker.new).events ≡ (C.taken taker.old).events }
     ensures known { MatchOption result (entry ≡ None) (λ known. entry ≡ Some known.value) }
 {
     match entry {
         Some(entry) => {
             let known = Snapshot::of(&entry);
-            collector.ticked(entry);
+            taker.ticked(entry);
             Some(known)
         }
         None => None,
@@ -238,7 +238,7 @@ fn refuse<I: Source, O: Sink, T: Clock>(link: Link<I, O, T>) -> LostLink<I, O, T
     shut_link(source, sink, clock)
 }
 
-impl<I: Source, O: Sink, T: Clock, H: Worker, C: Collector<LinkReport<I, O, T, H>>> Acceptor<
+impl<I: Source, O: Sink, T: Clock, H: Worker, C: ReportTaker<LinkReport<I, O, T, H>>> Acceptor<
     I,
     O,
     T,
@@ -246,12 +246,12 @@ impl<I: Source, O: Sink, T: Clock, H: Worker, C: Collector<LinkReport<I, O, T, H
     C,
 > {
     /// It has admitted no link yet.
-    pub fn new(alloc: Global, root: Root, collector: C, keeping: Keeping) -> Acceptor<I, O, T, H, C>
+    pub fn new(alloc: Global, root: Root, taker: C, keeping: Keeping) -> Acceptor<I, O, T, H, C>
         ensures root { result.root ≡ root }
         ensures begun { result.begun ≡ 0 }
         ensures live { result.live.items ≡ [] }
         ensures all { result.all ≡ [] }
-        ensures collector { result.collector ≡ collector }
+        ensures taker { result.taker ≡ taker }
         ensures keeps { result.keeps ≡ keeping.entries }
         ensures handed { result.handed ≡ keeping.handed }
     {
@@ -260,7 +260,7 @@ impl<I: Source, O: Sink, T: Clock, H: Worker, C: Collector<LinkReport<I, O, T, H
             begun: 0,
             live: Vec::new(alloc),
             all: Past::new(),
-            collector,
+            taker,
             keeps: keeping.entries,
             handed: keeping.handed,
         }
@@ -268,15 +268,15 @@ impl<I: Source, O: Sink, T: Clock, H: Worker, C: Collector<LinkReport<I, O, T, H
 
     /// Takes room for one more link, and says whether there was memory.
     fn with_room(&mut self) -> bool
-        ensures keeps { Keeps C.holds C.stays self.old.collector self.new.collector }
-        ensures same { IsSame C.collected C.expects self.old self.new }
-        ensures room { MatchBool result (HasRoom C.collected self.new) (Unit {0}) }
+        ensures keeps { Keeps C.holds C.stays self.old.taker self.new.taker }
+        ensures same { IsSame C.taken C.expects self.old self.new }
+        ensures room { MatchBool result (HasRoom C.taken self.new) (Unit {0}) }
     {
         if !has_room(&mut self.live, 1) {
             return false;
         }
         let count = self.live.len();
-        self.collector.reserve(count + 1)
+        self.taker.reserve(count + 1)
     }
 
     /// Makes a Tick, for whose entry there is room, and keeps the entry. None where there was no memory for the Tick.
@@ -286,17 +286,17 @@ impl<I: Source, O: Sink, T: Clock, H: Worker, C: Collector<LinkReport<I, O, T, H
         clock: &mut T,
         hand: &mut H,
     ) -> Option<Snapshot<Asked>>
-        requires accepting { IsAccepting (TalksOver I.half O.half T.given H.shown H.may H.moves shared.now.book.now) (IsMadeFor I.half O.half T.given H.shown H.moves shared.now.plan.now) H.shown C.collected C.expects shared.now.lock.now shared.now.book.now self.old }
-        requires room { length (C.collected self.old.collector).ticks
-            < (C.collected self.old.collector).tick_limit }
-        ensures keeps { Keeps C.holds C.stays self.old.collector self.new.collector }
-        ensures accepting { IsAccepting (TalksOver I.half O.half T.given H.shown H.may H.moves shared.now.book.now) (IsMadeFor I.half O.half T.given H.shown H.moves shared.now.plan.now) H.shown C.collected C.expects shared.now.lock.now shared.now.book.now self.new }
+        requires accepting { IsAccepting (TalksOver I.half O.half T.given H.shown H.may H.moves shared.now.book.now) (IsMadeFor I.half O.half T.given H.shown H.moves shared.now.plan.now) H.shown C.taken C.expects shared.now.lock.now shared.now.book.now self.old }
+        requires room { length (C.taken self.old.taker).ticks
+            < (C.taken self.old.taker).tick_limit }
+        ensures keeps { Keeps C.holds C.stays self.old.taker self.new.taker }
+        ensures accepting { IsAccepting (TalksOver I.half O.half T.given H.shown H.may H.moves shared.now.book.now) (IsMadeFor I.half O.half T.given H.shown H.moves shared.now.plan.now) H.shown C.taken C.expects shared.now.lock.now shared.now.book.now self.new }
         ensures follows { Follows self.old self.new }
-        ensures links { HasSameLinks C.collected self.old self.new }
+        ensures links { HasSameLinks C.taken self.old self.new }
         ensures ticks { MatchOption result
-            ((C.collected self.new.collector).ticks ≡ (C.collected self.old.collector).ticks)
-            (λ entry. (C.collected self.new.collector).ticks
-            ≡ (C.collected self.old.collector).ticks ++ entry.value ∷ []) }
+            ((C.taken self.new.taker).ticks ≡ (C.taken self.old.taker).ticks)
+            (λ entry. (C.taken self.new.taker).ticks
+            ≡ (C.taken self.old.taker).ticks ++ entry.value ∷ []) }
         ensures asked { IfSome result (λ entry. entry.value.ask ≡ Tick) }
         ensures end { IfSome result (λ entry. IsTickEnd entry.value.end) }
         ensures place { IfSome result (λ entry. IsTakenBelow (length (view_of self.new.root.pass).seen) entry.value.end) }
@@ -308,7 +308,7 @@ impl<I: Source, O: Sink, T: Clock, H: Worker, C: Collector<LinkReport<I, O, T, H
         ensures number { (H.shown hand.new).number ≡ (H.shown hand.old).number }
     {
         let entry = tick(shared, &mut self.root, clock, hand);
-        hand_entry(&mut self.collector, entry)
+        hand_entry(&mut self.taker, entry)
     }
 }
 
@@ -317,7 +317,7 @@ impl<
     O: Sink + Drop,
     T: Clock + Drop,
     H: Worker + Drop,
-    C: Collector<LinkReport<I, O, T, H>>,
+    C: ReportTaker<LinkReport<I, O, T, H>>,
 > Acceptor<I, O, T, H, C> {
     /// Takes room for one more link, and makes what its connection begins with. None where there was no memory.
     fn reserve_link<'s, R, G: Crew<Hand = H>>(
@@ -328,9 +328,9 @@ impl<
     ) -> Option<HandAndSetup<H>>
         requires host { length (utf shared.now.plan.now.host) ≤ MAX_HOST_BYTES }
         requires few { self.old.begun < LAST_NUMBER }
-        ensures keeps { Keeps C.holds C.stays self.old.collector self.new.collector }
-        ensures same { IsSame C.collected C.expects self.old self.new }
-        ensures room { IfSome result (λ r. HasRoom C.collected self.new) }
+        ensures keeps { Keeps C.holds C.stays self.old.taker self.new.taker }
+        ensures same { IsSame C.taken C.expects self.old self.new }
+        ensures room { IfSome result (λ r. HasRoom C.taken self.new) }
         ensures ready { IfSome result (λ r. IsHandFor H.shown shared.now.plan.now (self.old.begun + 1) link.now.host link.now.port r) }
     {
         if !self.with_room() {
@@ -350,22 +350,22 @@ impl<
         link: Link<I, O, T>,
         ready: HandAndSetup<H>,
     ) -> Result<AdmittedLink<I, O, T, H>, LostLink<I, O, T>>
-        requires accepting { IsAccepting (TalksOver I.half O.half T.given H.shown H.may H.moves shared.now.book.now) (IsMadeFor I.half O.half T.given H.shown H.moves shared.now.plan.now) H.shown C.collected C.expects shared.now.lock.now shared.now.book.now self.old }
+        requires accepting { IsAccepting (TalksOver I.half O.half T.given H.shown H.may H.moves shared.now.book.now) (IsMadeFor I.half O.half T.given H.shown H.moves shared.now.plan.now) H.shown C.taken C.expects shared.now.lock.now shared.now.book.now self.old }
         requires few { self.old.begun < LAST_NUMBER }
-        requires room { HasRoom C.collected self.old }
+        requires room { HasRoom C.taken self.old }
         requires halves { AreNewHalves (I.half link.source) (O.half link.sink) }
         requires ready { IsHandFor H.shown shared.now.plan.now (self.old.begun + 1) link.host link.port ready }
-        ensures keeps { Keeps C.holds C.stays self.old.collector self.new.collector }
-        ensures accepting { IsAccepting (TalksOver I.half O.half T.given H.shown H.may H.moves shared.now.book.now) (IsMadeFor I.half O.half T.given H.shown H.moves shared.now.plan.now) H.shown C.collected C.expects shared.now.lock.now shared.now.book.now self.new }
+        ensures keeps { Keeps C.holds C.stays self.old.taker self.new.taker }
+        ensures accepting { IsAccepting (TalksOver I.half O.half T.given H.shown H.may H.moves shared.now.book.now) (IsMadeFor I.half O.half T.given H.shown H.moves shared.now.plan.now) H.shown C.taken C.expects shared.now.lock.now shared.now.book.now self.new }
         ensures follows { Follows self.old self.new }
-        ensures links { HasSameLinks C.collected self.old self.new }
-        ensures ticks { IfOk result (λ admitted. (C.collected self.new.collector).ticks
-            ≡ (C.collected self.old.collector).ticks ++ admitted.tick.value ∷ []) }
+        ensures links { HasSameLinks C.taken self.old self.new }
+        ensures ticks { IfOk result (λ admitted. (C.taken self.new.taker).ticks
+            ≡ (C.taken self.old.taker).ticks ++ admitted.tick.value ∷ []) }
         ensures no_tick { OnErr result
-            ((C.collected self.new.collector).ticks ≡ (C.collected self.old.collector).ticks) }
+            ((C.taken self.new.taker).ticks ≡ (C.taken self.old.taker).ticks) }
         ensures lost { IfErr result (λ lost. IsLostLink I.half O.half T.given (accepted_as I.half O.half T.given link) lost) }
         ensures first { IfOk result (λ admitted. admitted.first.value ≡ link) }
-        ensures next { IfOk result (λ admitted. IsNext (TalksOver I.half O.half T.given H.shown H.may H.moves shared.now.book.now) (IsMadeFor I.half O.half T.given H.shown H.moves shared.now.plan.now) H.shown C.collected C.expects shared.now.lock.now shared.now.book.now self.new admitted) }
+        ensures next { IfOk result (λ admitted. IsNext (TalksOver I.half O.half T.given H.shown H.may H.moves shared.now.book.now) (IsMadeFor I.half O.half T.given H.shown H.moves shared.now.plan.now) H.shown C.taken C.expects shared.now.lock.now shared.now.book.now self.new admitted) }
     {
         let first = Snapshot::of(&link);
         let Link {
@@ -405,11 +405,11 @@ impl<
         O: Send + 's,
         T: Send + 's,
         H: Send + 's,
-        requires { IsNext (TalksOver I.half O.half T.given H.shown H.may H.moves shared.now.book.now) (IsMadeFor I.half O.half T.given H.shown H.moves shared.now.plan.now) H.shown C.collected C.expects shared.now.lock.now shared.now.book.now self.old admitted }
-        ensures keeps { Keeps C.holds C.stays self.old.collector self.new.collector }
-        ensures accepting { IsAccepting (TalksOver I.half O.half T.given H.shown H.may H.moves shared.now.book.now) (IsMadeFor I.half O.half T.given H.shown H.moves shared.now.plan.now) H.shown C.collected C.expects shared.now.lock.now shared.now.book.now self.new }
+        requires { IsNext (TalksOver I.half O.half T.given H.shown H.may H.moves shared.now.book.now) (IsMadeFor I.half O.half T.given H.shown H.moves shared.now.plan.now) H.shown C.taken C.expects shared.now.lock.now shared.now.book.now self.old admitted }
+        ensures keeps { Keeps C.holds C.stays self.old.taker self.new.taker }
+        ensures accepting { IsAccepting (TalksOver I.half O.half T.given H.shown H.may H.moves shared.now.book.now) (IsMadeFor I.half O.half T.given H.shown H.moves shared.now.plan.now) H.shown C.taken C.expects shared.now.lock.now shared.now.book.now self.new }
         ensures follows { Follows self.old self.new }
-        ensures ticks { (C.collected self.new.collector).ticks ≡ (C.collected self.old.collector).ticks }
+        ensures ticks { (C.taken self.new.taker).ticks ≡ (C.taken self.old.taker).ticks }
         ensures links { shown_all I.half O.half T.given self.new.all
             ≡ shown_all I.half O.half T.given self.old.all ++ shown_admitted I.half O.half T.given admitted ∷ [] }
         ensures count { self.new.begun ≡ self.old.begun + 1 }
@@ -424,7 +424,7 @@ impl<
             keeps: self.keeps,
             admitted,
         };
-        self.collector.began(by);
+        self.taker.began(by);
         let begun = start(scope, shared, task);
         self.begun = by;
         self.all.push(&begun);
@@ -445,17 +445,17 @@ impl<
         T: Send + 's,
         H: Send + 's,
         requires host { length (utf shared.now.plan.now.host) ≤ MAX_HOST_BYTES }
-        requires accepting { IsAccepting (TalksOver I.half O.half T.given H.shown H.may H.moves shared.now.book.now) (IsMadeFor I.half O.half T.given H.shown H.moves shared.now.plan.now) H.shown C.collected C.expects shared.now.lock.now shared.now.book.now self.old }
+        requires accepting { IsAccepting (TalksOver I.half O.half T.given H.shown H.may H.moves shared.now.book.now) (IsMadeFor I.half O.half T.given H.shown H.moves shared.now.plan.now) H.shown C.taken C.expects shared.now.lock.now shared.now.book.now self.old }
         requires few { self.old.begun < LAST_NUMBER }
         requires halves { AreNewHalves (I.half link.source) (O.half link.sink) }
-        ensures keeps { Keeps C.holds C.stays self.old.collector self.new.collector }
-        ensures accepting { IsAccepting (TalksOver I.half O.half T.given H.shown H.may H.moves shared.now.book.now) (IsMadeFor I.half O.half T.given H.shown H.moves shared.now.plan.now) H.shown C.collected C.expects shared.now.lock.now shared.now.book.now self.new }
+        ensures keeps { Keeps C.holds C.stays self.old.taker self.new.taker }
+        ensures accepting { IsAccepting (TalksOver I.half O.half T.given H.shown H.may H.moves shared.now.book.now) (IsMadeFor I.half O.half T.given H.shown H.moves shared.now.plan.now) H.shown C.taken C.expects shared.now.lock.now shared.now.book.now self.new }
         ensures follows { Follows self.old self.new }
         ensures tied { MatchOption result
-            (TicksOn (C.collected self.old.collector).ticks (C.collected self.new.collector).ticks
+            (TicksOn (C.taken self.old.taker).ticks (C.taken self.new.taker).ticks
             (ticks_of (shown_all I.half O.half T.given self.old.all))
             (ticks_of (shown_all I.half O.half T.given self.new.all)))
-            (λ lost. ((C.collected self.new.collector).ticks ≡ (C.collected self.old.collector).ticks)
+            (λ lost. ((C.taken self.new.taker).ticks ≡ (C.taken self.old.taker).ticks)
             × (ticks_of (shown_all I.half O.half T.given self.new.all)
             ≡ ticks_of (shown_all I.half O.half T.given self.old.all))) }
         ensures links { MatchOption result

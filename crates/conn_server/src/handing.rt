@@ -1,19 +1,19 @@
-//! Handing the events of the one history on to the collector.
+//! Handing the events of the one history on to the taker.
 ghost use Rattle.std.specs.Prelude.{◌≡◌, ◌+◌, ◌^◌, ◌<◌, ◌≤◌, ◌++◌, length, vec_len, IfSome, MatchBool, MatchOption, None, Some, true};
 ghost use Rattle.turn_lock.specs.Handles.{IsRootOf, opening_of, view_of};
 ghost use Rattle.turn_lock.specs.Recent.{IsRest};
 ghost use Rattle.turn_lock.specs.Rule.{Settled, StartsWith};
 ghost use Rattle.conn_server.specs.Accepts.{Follows, IsAccepting, shown_all};
-ghost use Rattle.conn_server.specs.Collects.{Keeps, SameReports};
+ghost use Rattle.conn_server.specs.Taken.{Keeps, SameReports};
 ghost use Rattle.conn_server.specs.Handed.{AreHanded};
 ghost use Rattle.conn_server.specs.Made.{IsMadeFor};
 ghost use Rattle.conn_server.specs.Talks.{TalksOver};
-ghost use Rattle.conn_server.specs.declared.collector.TheConstants.{MAX_PART};
+ghost use Rattle.conn_server.specs.declared.taker.TheConstants.{MAX_PART};
 
 use crate::admission::Acceptor;
-use crate::collector::{Collector, MAX_PART};
 use crate::link_task::LinkReport;
 use crate::shared::Shared;
+use crate::taker::{MAX_PART, ReportTaker};
 use call_dispatch::Worker;
 use history::{Event, EventList};
 use space::Space;
@@ -34,18 +34,18 @@ fn part_len(left: usize) -> usize
     if left > MAX_PART { MAX_PART } else { left }
 }
 
-/// Gives a collector these events, in parts.
-pub fn record_parts<R, C: Collector<R>>(collector: &mut C, events: &[Event])
-    ensures keeps { Keeps C.holds C.stays collector.old collector.new }
-    ensures events { (C.collected collector.new).events
-        ≡ (C.collected collector.old).events ++ events.now }
-    ensures ticks { (C.collected collector.new).ticks ≡ (C.collected collector.old).ticks }
-    ensures reports { SameReports C.collected C.expects collector.old collector.new }
+/// Gives a taker these events, in parts.
+pub fn record_parts<R, C: ReportTaker<R>>(taker: &mut C, events: &[Event])
+    ensures keeps { Keeps C.holds C.stays taker.old taker.new }
+    ensures events { (C.taken taker.new).events
+        ≡ (C.taken taker.old).events ++ events.now }
+    ensures ticks { (C.taken taker.new).ticks ≡ (C.taken taker.old).ticks }
+    ensures reports { SameReports C.taken C.expects taker.old taker.new }
 {
     let mut rest = events;
     while !rest.is_empty() {
         let (part, more) = rest.split_at(part_len(rest.len()));
-        collector.record(part);
+        taker.record(part);
         rest = more;
     }
 }
@@ -86,28 +86,28 @@ fn close_lock(lock: TurnLock, root: Root, handed: Option<u64>) -> (Space, Option
 }
 
 /// Closes the lock, hands the last events on, and says whether all events were handed on.
-pub fn close_recorded<R, C: Collector<R>>(
+pub fn close_recorded<R, C: ReportTaker<R>>(
     lock: TurnLock,
     root: Root,
-    collector: &mut C,
+    taker: &mut C,
     handed: Option<u64>,
 ) -> (Space, bool)
     requires own { IsRootOf lock root }
     requires all { root.out ≡ 0 }
-    requires handed { AreHanded lock (view_of root.pass) (C.collected collector.old).events handed }
-    ensures keeps { Keeps C.holds C.stays collector.old collector.new }
+    requires handed { AreHanded lock (view_of root.pass) (C.taken taker.old).events handed }
+    ensures keeps { Keeps C.holds C.stays taker.old taker.new }
     ensures settled { Settled (opening_of lock) (view_of root.pass) result.0 }
     ensures handed { StartsWith result.0.events
-        ((opening_of lock).events ++ (C.collected collector.new).events) }
+        ((opening_of lock).events ++ (C.taken taker.new).events) }
     ensures whole { result.1 ≡ true → result.0.events
-        ≡ (opening_of lock).events ++ (C.collected collector.new).events }
-    ensures ticks { (C.collected collector.new).ticks ≡ (C.collected collector.old).ticks }
-    ensures reports { SameReports C.collected C.expects collector.old collector.new }
+        ≡ (opening_of lock).events ++ (C.taken taker.new).events }
+    ensures ticks { (C.taken taker.new).ticks ≡ (C.taken taker.old).ticks }
+    ensures reports { SameReports C.taken C.expects taker.old taker.new }
 {
     let (space, rest) = close_lock(lock, root, handed);
     match rest {
         Some(part) => {
-            record_parts(collector, part.as_slice());
+            record_parts(taker, part.as_slice());
             (space, true)
         }
         None => (space, false),
@@ -119,22 +119,22 @@ impl<
     O: Sink + Drop,
     T: Clock + Drop,
     H: Worker + Drop,
-    C: Collector<LinkReport<I, O, T, H>>,
+    C: ReportTaker<LinkReport<I, O, T, H>>,
 > Acceptor<I, O, T, H, C> {
-    /// Hands the events on that the history has since the last time, where the collector is given events. Where there is no memory for that, they
+    /// Hands the events on that the history has since the last time, where the taker is given events. Where there is no memory for that, they
     /// come the next time.
     pub fn hand_on<'s, R: Wait>(&mut self, shared: &Shared<'s, R>)
         requires accepting { IsAccepting
             (TalksOver I.half O.half T.given H.shown H.may H.moves shared.now.book.now)
             (IsMadeFor I.half O.half T.given H.shown H.moves shared.now.plan.now)
-            H.shown C.collected C.expects shared.now.lock.now shared.now.book.now self.old }
-        ensures keeps { Keeps C.holds C.stays self.old.collector self.new.collector }
+            H.shown C.taken C.expects shared.now.lock.now shared.now.book.now self.old }
+        ensures keeps { Keeps C.holds C.stays self.old.taker self.new.taker }
         ensures accepting { IsAccepting
             (TalksOver I.half O.half T.given H.shown H.may H.moves shared.now.book.now)
             (IsMadeFor I.half O.half T.given H.shown H.moves shared.now.plan.now)
-            H.shown C.collected C.expects shared.now.lock.now shared.now.book.now self.new }
+            H.shown C.taken C.expects shared.now.lock.now shared.now.book.now self.new }
         ensures follows { Follows self.old self.new }
-        ensures ticks { (C.collected self.new.collector).ticks ≡ (C.collected self.old.collector).ticks }
+        ensures ticks { (C.taken self.new.taker).ticks ≡ (C.taken self.old.taker).ticks }
         ensures all { self.new.all ≡ self.old.all }
         ensures begun { self.new.begun ≡ self.old.begun }
     {
@@ -143,7 +143,7 @@ impl<
         };
         match self.root.take_recent(shared.rt, shared.lock, from) {
             Some(part) => {
-                record_parts(&mut self.collector, part.as_slice());
+                record_parts(&mut self.taker, part.as_slice());
                 self.handed = place_behind(from, part.len());
             }
             None => (),
@@ -156,15 +156,15 @@ impl<
         requires accepting { IsAccepting
             (TalksOver I.half O.half T.given H.shown H.may H.moves shared.now.book.now)
             (IsMadeFor I.half O.half T.given H.shown H.moves shared.now.plan.now)
-            H.shown C.collected C.expects shared.now.lock.now shared.now.book.now self.old }
-        ensures keeps { Keeps C.holds C.stays self.old.collector self.new.collector }
+            H.shown C.taken C.expects shared.now.lock.now shared.now.book.now self.old }
+        ensures keeps { Keeps C.holds C.stays self.old.taker self.new.taker }
         ensures accepting { IsAccepting
             (TalksOver I.half O.half T.given H.shown H.may H.moves shared.now.book.now)
             (IsMadeFor I.half O.half T.given H.shown H.moves shared.now.plan.now)
-            H.shown C.collected C.expects shared.now.lock.now shared.now.book.now self.new }
+            H.shown C.taken C.expects shared.now.lock.now shared.now.book.now self.new }
         ensures none { vec_len self.new.live ≡ 0 }
         ensures follows { Follows self.old self.new }
-        ensures ticks { (C.collected self.new.collector).ticks ≡ (C.collected self.old.collector).ticks }
+        ensures ticks { (C.taken self.new.taker).ticks ≡ (C.taken self.old.taker).ticks }
         ensures links { shown_all I.half O.half T.given self.new.all
             ≡ shown_all I.half O.half T.given self.old.all }
         ensures begun { self.new.begun ≡ self.old.begun }
@@ -178,14 +178,14 @@ impl<
         requires accepting { IsAccepting
             (TalksOver I.half O.half T.given H.shown H.may H.moves shared.now.book.now)
             (IsMadeFor I.half O.half T.given H.shown H.moves shared.now.plan.now)
-            H.shown C.collected C.expects shared.now.lock.now shared.now.book.now self.old }
-        ensures keeps { Keeps C.holds C.stays self.old.collector self.new.collector }
+            H.shown C.taken C.expects shared.now.lock.now shared.now.book.now self.old }
+        ensures keeps { Keeps C.holds C.stays self.old.taker self.new.taker }
         ensures accepting { IsAccepting
             (TalksOver I.half O.half T.given H.shown H.may H.moves shared.now.book.now)
             (IsMadeFor I.half O.half T.given H.shown H.moves shared.now.plan.now)
-            H.shown C.collected C.expects shared.now.lock.now shared.now.book.now self.new }
+            H.shown C.taken C.expects shared.now.lock.now shared.now.book.now self.new }
         ensures follows { Follows self.old self.new }
-        ensures ticks { (C.collected self.new.collector).ticks ≡ (C.collected self.old.collector).ticks }
+        ensures ticks { (C.taken self.new.taker).ticks ≡ (C.taken self.old.taker).ticks }
         ensures links { shown_all I.half O.half T.given self.new.all
             ≡ shown_all I.half O.half T.given self.old.all }
         ensures begun { self.new.begun ≡ self.old.begun }
@@ -205,14 +205,14 @@ impl<
         requires accepting { IsAccepting
             (TalksOver I.half O.half T.given H.shown H.may H.moves shared.now.book.now)
             (IsMadeFor I.half O.half T.given H.shown H.moves shared.now.plan.now)
-            H.shown C.collected C.expects shared.now.lock.now shared.now.book.now self.old }
-        ensures keeps { Keeps C.holds C.stays self.old.collector self.new.collector }
+            H.shown C.taken C.expects shared.now.lock.now shared.now.book.now self.old }
+        ensures keeps { Keeps C.holds C.stays self.old.taker self.new.taker }
         ensures accepting { IsAccepting
             (TalksOver I.half O.half T.given H.shown H.may H.moves shared.now.book.now)
             (IsMadeFor I.half O.half T.given H.shown H.moves shared.now.plan.now)
-            H.shown C.collected C.expects shared.now.lock.now shared.now.book.now self.new }
+            H.shown C.taken C.expects shared.now.lock.now shared.now.book.now self.new }
         ensures follows { Follows self.old self.new }
-        ensures ticks { (C.collected self.new.collector).ticks ≡ (C.collected self.old.collector).ticks }
+        ensures ticks { (C.taken self.new.taker).ticks ≡ (C.taken self.old.taker).ticks }
         ensures links { shown_all I.half O.half T.given self.new.all
             ≡ shown_all I.half O.half T.given self.old.all }
         ensures begun { self.new.begun ≡ self.old.begun }

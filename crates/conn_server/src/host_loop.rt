@@ -6,7 +6,7 @@ ghost use Rattle.wire_io.specs.Wire.{AreNewHalves};
 ghost use Rattle.wire_io.specs.declared.limits.TheConstants.{MAX_HOST_BYTES};
 ghost use Rattle.wire_io.specs.declared.source.Failed.{Failed};
 ghost use Rattle.conn_server.specs.Accepts.{IsAccepting};
-ghost use Rattle.conn_server.specs.Collects.{Keeps};
+ghost use Rattle.conn_server.specs.Taken.{Keeps};
 ghost use Rattle.conn_server.specs.Hosts.{GoesOn, IsHalted, IsHosting};
 ghost use Rattle.conn_server.specs.Made.{IsMadeFor};
 ghost use Rattle.conn_server.specs.Talks.{TalksOver};
@@ -14,11 +14,11 @@ ghost use Rattle.conn_server.specs.declared.plan.TheConstants.{LAST_NUMBER};
 
 use crate::accept_loop::Stop;
 use crate::admission::{Acceptor, LostLink};
-use crate::collector::Collector;
 use crate::link_task::LinkReport;
 use crate::plan::ServePlan;
 use crate::quiet_second::OwnHand;
 use crate::shared::Shared;
+use crate::taker::ReportTaker;
 use call_dispatch::{Crew, Worker};
 use std::sync::Wait;
 use std::thread::{Scope, Threads};
@@ -39,7 +39,7 @@ pub struct Halt<I, O, T> {
 
 /// Accepts links until the listener is told to stop.
 #[derive(Drop)]
-pub struct Host<I: Source, O: Sink, T: Clock, H: Worker, C> {
+pub struct HostLoop<I: Source, O: Sink, T: Clock, H: Worker, C> {
     pub acceptor: Acceptor<I, O, T, H, C>,
     /// The hand of number 0, which quiet seconds have.
     pub own: OwnHand<H>,
@@ -59,8 +59,8 @@ impl<
     O: Sink + Drop,
     T: Clock + Drop,
     H: Worker + Drop,
-    C: Collector<LinkReport<I, O, T, H>>,
-> Host<I, O, T, H, C> {
+    C: ReportTaker<LinkReport<I, O, T, H>>,
+> HostLoop<I, O, T, H, C> {
     /// Notes that the listener failed, and says whether it is given up.
     fn gives_up(&mut self) -> bool
         ensures acceptor { self.new.acceptor ≡ self.old.acceptor }
@@ -90,17 +90,17 @@ impl<
         requires accepting { IsAccepting
             (TalksOver I.half O.half T.given H.shown H.may H.moves shared.now.book.now)
             (IsMadeFor I.half O.half T.given H.shown H.moves shared.now.plan.now)
-            H.shown C.collected C.expects shared.now.lock.now shared.now.book.now self.old.acceptor }
+            H.shown C.taken C.expects shared.now.lock.now shared.now.book.now self.old.acceptor }
         requires few { self.old.acceptor.begun < shared.now.plan.now.count }
         requires numbered { self.old.acceptor.begun < LAST_NUMBER }
         requires halves { IfCame waited (λ link. AreNewHalves (I.half link.source) (O.half link.sink)) }
-        ensures keeps { Keeps C.holds C.stays self.old.acceptor.collector self.new.acceptor.collector }
+        ensures keeps { Keeps C.holds C.stays self.old.acceptor.taker self.new.acceptor.taker }
         ensures goes_on { (l0 l1 l2 : Listening) (gave_first : Option (List ℕ))
-            → IsHosting I.half O.half T.given H.shown H.may H.moves C.collected C.expects
+            → IsHosting I.half O.half T.given H.shown H.may H.moves C.taken C.expects
             shared.now.lock.now shared.now.book.now shared.now.plan.now
             l0 l1 gave_first (Q.given ticks.old) self.old.acceptor self.old.own
             → Waits {E = Failed} (accepted_as I.half O.half T.given) l1 l2 (Ok waited) → l2.ports ≡ l1.ports
-            → GoesOn I.half O.half T.given H.shown H.may H.moves C.collected C.expects
+            → GoesOn I.half O.half T.given H.shown H.may H.moves C.taken C.expects
             shared.now.lock.now shared.now.book.now shared.now.plan.now
             l0 l2 gave_first (Q.given ticks.new) self.new.acceptor self.new.own result }
     {
@@ -151,13 +151,13 @@ impl<
         requires accepting { IsAccepting
             (TalksOver I.half O.half T.given H.shown H.may H.moves shared.now.book.now)
             (IsMadeFor I.half O.half T.given H.shown H.moves shared.now.plan.now)
-            H.shown C.collected C.expects shared.now.lock.now shared.now.book.now self.old.acceptor }
-        ensures keeps { Keeps C.holds C.stays self.old.acceptor.collector self.new.acceptor.collector }
+            H.shown C.taken C.expects shared.now.lock.now shared.now.book.now self.old.acceptor }
+        ensures keeps { Keeps C.holds C.stays self.old.acceptor.taker self.new.acceptor.taker }
         ensures goes_on { (l0 : Listening) (gave_first : Option (List ℕ))
-            → IsHosting I.half O.half T.given H.shown H.may H.moves C.collected C.expects
+            → IsHosting I.half O.half T.given H.shown H.may H.moves C.taken C.expects
             shared.now.lock.now shared.now.book.now shared.now.plan.now
             l0 (L.listening listener.old) gave_first (Q.given ticks.old) self.old.acceptor self.old.own
-            → GoesOn I.half O.half T.given H.shown H.may H.moves C.collected C.expects
+            → GoesOn I.half O.half T.given H.shown H.may H.moves C.taken C.expects
             shared.now.lock.now shared.now.book.now shared.now.plan.now
             l0 (L.listening listener.new) gave_first (Q.given ticks.new) self.new.acceptor self.new.own result }
     {
@@ -214,13 +214,13 @@ impl<
         requires accepting { IsAccepting
             (TalksOver I.half O.half T.given H.shown H.may H.moves shared.now.book.now)
             (IsMadeFor I.half O.half T.given H.shown H.moves shared.now.plan.now)
-            H.shown C.collected C.expects shared.now.lock.now shared.now.book.now self.old.acceptor }
+            H.shown C.taken C.expects shared.now.lock.now shared.now.book.now self.old.acceptor }
         requires fresh { (self.old.acceptor.all ≡ [])
-            × ((C.collected self.old.acceptor.collector).ticks ≡ []) }
+            × ((C.taken self.old.acceptor.taker).ticks ≡ []) }
         requires handless { self.old.own.hand ≡ None }
         requires hosts { self.old.acceptor.keeps ≡ false }
-        ensures keeps { Keeps C.holds C.stays self.old.acceptor.collector self.new.acceptor.collector }
-        ensures halted { IsHalted I.half O.half T.given H.shown H.may H.moves C.collected C.expects
+        ensures keeps { Keeps C.holds C.stays self.old.acceptor.taker self.new.acceptor.taker }
+        ensures halted { IsHalted I.half O.half T.given H.shown H.may H.moves C.taken C.expects
             shared.now.lock.now shared.now.book.now shared.now.plan.now
             (L.listening listener.old) (L.listening listener.new) (Q.given ticks.old) (Q.given ticks.new)
             self.new.acceptor self.new.own result }

@@ -1,15 +1,15 @@
 //! Joining the threads of links that have ended.
 ghost use Rattle.std.specs.Prelude.{◌≡◌, ◌+◌, ◌<◌, List, [], length, vec_len, IfSome};
 ghost use Rattle.conn_server.specs.Accepts.{Follows, IsAccepting, shown_all};
-ghost use Rattle.conn_server.specs.Collects.{Keeps};
+ghost use Rattle.conn_server.specs.Taken.{Keeps};
 ghost use Rattle.conn_server.specs.Made.{IsMadeFor};
 ghost use Rattle.conn_server.specs.Talks.{TalksOver};
 
 use crate::admission::Acceptor;
-use crate::collector::Collector;
 use crate::link_task::LinkReport;
 use crate::link_thread::{LinkState, StartedLink, finish};
 use crate::shared::Shared;
+use crate::taker::ReportTaker;
 use call_dispatch::Worker;
 use std::snapshot::Snapshot;
 use std::sync::Wait;
@@ -37,22 +37,22 @@ impl<
     O: Sink + Drop,
     T: Clock + Drop,
     H: Worker + Drop,
-    C: Collector<LinkReport<I, O, T, H>>,
+    C: ReportTaker<LinkReport<I, O, T, H>>,
 > Acceptor<I, O, T, H, C> {
     /// Joins the thread of the live link at this place, and hands its report on.
     fn settle<'s, R: Threads>(&mut self, shared: &Shared<'s, R>, place: usize)
         requires accepting { IsAccepting
             (TalksOver I.half O.half T.given H.shown H.may H.moves shared.now.book.now)
             (IsMadeFor I.half O.half T.given H.shown H.moves shared.now.plan.now)
-            H.shown C.collected C.expects shared.now.lock.now shared.now.book.now self.old }
+            H.shown C.taken C.expects shared.now.lock.now shared.now.book.now self.old }
         requires there { place < vec_len self.old.live }
-        ensures keeps { Keeps C.holds C.stays self.old.collector self.new.collector }
+        ensures keeps { Keeps C.holds C.stays self.old.taker self.new.taker }
         ensures accepting { IsAccepting
             (TalksOver I.half O.half T.given H.shown H.may H.moves shared.now.book.now)
             (IsMadeFor I.half O.half T.given H.shown H.moves shared.now.plan.now)
-            H.shown C.collected C.expects shared.now.lock.now shared.now.book.now self.new }
+            H.shown C.taken C.expects shared.now.lock.now shared.now.book.now self.new }
         ensures follows { Follows self.old self.new }
-        ensures ticks { (C.collected self.new.collector).ticks ≡ (C.collected self.old.collector).ticks }
+        ensures ticks { (C.taken self.new.taker).ticks ≡ (C.taken self.old.taker).ticks }
         ensures links { shown_all I.half O.half T.given self.new.all
             ≡ shown_all I.half O.half T.given self.old.all }
         ensures begun { self.new.begun ≡ self.old.begun }
@@ -70,7 +70,7 @@ impl<
             link_state: LinkState::Ended(Snapshot::of(&report)),
         };
         self.all.put(u64::from(by) - 1, &ended);
-        self.collector.ended(report);
+        self.taker.ended(report);
     }
 
     /// Joins the thread of link `by`, if it hasn't been, and hands its report on.
@@ -78,14 +78,14 @@ impl<
         requires accepting { IsAccepting
             (TalksOver I.half O.half T.given H.shown H.may H.moves shared.now.book.now)
             (IsMadeFor I.half O.half T.given H.shown H.moves shared.now.plan.now)
-            H.shown C.collected C.expects shared.now.lock.now shared.now.book.now self.old }
-        ensures keeps { Keeps C.holds C.stays self.old.collector self.new.collector }
+            H.shown C.taken C.expects shared.now.lock.now shared.now.book.now self.old }
+        ensures keeps { Keeps C.holds C.stays self.old.taker self.new.taker }
         ensures accepting { IsAccepting
             (TalksOver I.half O.half T.given H.shown H.may H.moves shared.now.book.now)
             (IsMadeFor I.half O.half T.given H.shown H.moves shared.now.plan.now)
-            H.shown C.collected C.expects shared.now.lock.now shared.now.book.now self.new }
+            H.shown C.taken C.expects shared.now.lock.now shared.now.book.now self.new }
         ensures follows { Follows self.old self.new }
-        ensures ticks { (C.collected self.new.collector).ticks ≡ (C.collected self.old.collector).ticks }
+        ensures ticks { (C.taken self.new.taker).ticks ≡ (C.taken self.old.taker).ticks }
         ensures links { shown_all I.half O.half T.given self.new.all
             ≡ shown_all I.half O.half T.given self.old.all }
         ensures begun { self.new.begun ≡ self.old.begun }
@@ -101,14 +101,14 @@ impl<
         requires accepting { IsAccepting
             (TalksOver I.half O.half T.given H.shown H.may H.moves shared.now.book.now)
             (IsMadeFor I.half O.half T.given H.shown H.moves shared.now.plan.now)
-            H.shown C.collected C.expects shared.now.lock.now shared.now.book.now self.old }
-        ensures keeps { Keeps C.holds C.stays self.old.collector self.new.collector }
+            H.shown C.taken C.expects shared.now.lock.now shared.now.book.now self.old }
+        ensures keeps { Keeps C.holds C.stays self.old.taker self.new.taker }
         ensures accepting { IsAccepting
             (TalksOver I.half O.half T.given H.shown H.may H.moves shared.now.book.now)
             (IsMadeFor I.half O.half T.given H.shown H.moves shared.now.plan.now)
-            H.shown C.collected C.expects shared.now.lock.now shared.now.book.now self.new }
+            H.shown C.taken C.expects shared.now.lock.now shared.now.book.now self.new }
         ensures follows { Follows self.old self.new }
-        ensures ticks { (C.collected self.new.collector).ticks ≡ (C.collected self.old.collector).ticks }
+        ensures ticks { (C.taken self.new.taker).ticks ≡ (C.taken self.old.taker).ticks }
         ensures links { shown_all I.half O.half T.given self.new.all
             ≡ shown_all I.half O.half T.given self.old.all }
         ensures begun { self.new.begun ≡ self.old.begun }
@@ -126,15 +126,15 @@ impl<
         requires accepting { IsAccepting
             (TalksOver I.half O.half T.given H.shown H.may H.moves shared.now.book.now)
             (IsMadeFor I.half O.half T.given H.shown H.moves shared.now.plan.now)
-            H.shown C.collected C.expects shared.now.lock.now shared.now.book.now self.old }
-        ensures keeps { Keeps C.holds C.stays self.old.collector self.new.collector }
+            H.shown C.taken C.expects shared.now.lock.now shared.now.book.now self.old }
+        ensures keeps { Keeps C.holds C.stays self.old.taker self.new.taker }
         ensures accepting { IsAccepting
             (TalksOver I.half O.half T.given H.shown H.may H.moves shared.now.book.now)
             (IsMadeFor I.half O.half T.given H.shown H.moves shared.now.plan.now)
-            H.shown C.collected C.expects shared.now.lock.now shared.now.book.now self.new }
+            H.shown C.taken C.expects shared.now.lock.now shared.now.book.now self.new }
         ensures none { vec_len self.new.live ≡ 0 }
         ensures follows { Follows self.old self.new }
-        ensures ticks { (C.collected self.new.collector).ticks ≡ (C.collected self.old.collector).ticks }
+        ensures ticks { (C.taken self.new.taker).ticks ≡ (C.taken self.old.taker).ticks }
         ensures links { shown_all I.half O.half T.given self.new.all
             ≡ shown_all I.half O.half T.given self.old.all }
         ensures begun { self.new.begun ≡ self.old.begun }

@@ -3,7 +3,7 @@
 //! what came of each.
 //!
 //! `Server::serve` serves a plan's count of links and gives a `Report`. `serve_with` hands each
-//! link's report to a `Collector` as the link ends. `host` serves until its listener is told to
+//! link's report to a `ReportTaker` as the link ends. `host` serves until its listener is told to
 //! stop. You give it a `TurnLock` with its `Root`, a `Crew`, a `Book` and a `ServePlan`.
 //!
 //! # What is proved
@@ -15,11 +15,11 @@
 //! - A read or write fault has its cause (`halves`). Whole messages are answered to their end
 //!   (`complete`). A link for which there is no memory is shut and given back (`lost`).
 //! - The stop is `All` exactly if the count was served, and `AcceptFault` only if the listener failed.
-//! - `given` of `serve_with`: the same, and the collector is given each report once.
+//! - `given` of `serve_with`: the same, and the taker is given each report once.
 //! - `hosts` of `host` (`specs/Hosts`, `specs/Quiet`): the same. The server also makes Ticks in seconds
 //!   without a link. At each moment of its clock there is a Tick, or nothing had ended, or the result
 //!   says `tick_missed`. The hand of number 0 is told each withdrawn object once (`told`). The stop is
-//!   `Told` only if the listener was told. A host that records gives its collector the events after
+//!   `Told` only if the listener was told. A host that records gives its taker the events after
 //!   the opening's in order (`handed`), and all of them if it says `whole`.
 //!
 //! # What is not
@@ -38,7 +38,6 @@
 
 mod accept_loop;
 mod admission;
-pub mod collector;
 mod ended_links;
 mod handing;
 mod host_loop;
@@ -50,13 +49,14 @@ pub mod plan;
 mod quiet_second;
 pub mod server;
 mod shared;
+pub mod taker;
 
 pub use accept_loop::Stop;
 pub use admission::LostLink;
-pub use collector::{Collector, DropsReports, KeepsReports, MAX_PART};
 pub use link_entries::LinkEntries;
 pub use link_task::{AdmittedLink, LinkDone, LinkReport, LinkTask, TaskPromise};
 pub use plan::ServePlan;
 pub use server::{
     AllJoined, Begin, HostBegin, HostJoined, Hosted, LinkReports, Report, Served, Server,
 };
+pub use taker::{DropsReports, KeepsReports, MAX_PART, ReportTaker};

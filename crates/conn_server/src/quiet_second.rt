@@ -8,15 +8,15 @@ ghost use Rattle.turn_lock.specs.Handles.{IsRootOf, opening_of, view_of};
 ghost use Rattle.turn_lock.specs.NoTick.{NeedsNoTick};
 ghost use Rattle.turn_lock.specs.PassPorts.{PassWent};
 ghost use Rattle.conn_server.specs.Accepts.{Follows, HasSameLinks, IsAccepting, IsSame};
-ghost use Rattle.conn_server.specs.Collects.{Keeps};
+ghost use Rattle.conn_server.specs.Taken.{Keeps};
 ghost use Rattle.conn_server.specs.Made.{IsMadeFor, told_of};
 ghost use Rattle.conn_server.specs.Quiet.{HasTold, HaveTold, IsTick, MayPass, TicksOnce, TicksQuietly};
 ghost use Rattle.conn_server.specs.Talks.{TalksOver};
 
 use crate::admission::{Acceptor, hand_entry, tell_answer, tick_entry};
-use crate::collector::Collector;
 use crate::link_task::LinkReport;
 use crate::shared::Shared;
+use crate::taker::ReportTaker;
 use call_dispatch::{Crew, Worker};
 use space::Asked;
 use std::sync::Wait;
@@ -117,18 +117,18 @@ impl<
     O: Sink + Drop,
     T: Clock + Drop,
     H: Worker + Drop,
-    C: Collector<LinkReport<I, O, T, H>>,
+    C: ReportTaker<LinkReport<I, O, T, H>>,
 > Acceptor<I, O, T, H, C> {
     /// Takes room for the entry of one more Tick, and says whether there was memory.
     fn with_tick_room(&mut self) -> bool
-        ensures keeps { Keeps C.holds C.stays self.old.collector self.new.collector }
-        ensures same { IsSame C.collected C.expects self.old self.new }
+        ensures keeps { Keeps C.holds C.stays self.old.taker self.new.taker }
+        ensures same { IsSame C.taken C.expects self.old self.new }
         ensures room { MatchBool result
-            (length (C.collected self.new.collector).ticks
-            < (C.collected self.new.collector).tick_limit) (Unit {0}) }
+            (length (C.taken self.new.taker).ticks
+            < (C.taken self.new.taker).tick_limit) (Unit {0}) }
     {
         let live = self.live.len();
-        self.collector.reserve(live)
+        self.taker.reserve(live)
     }
 
     /// Makes a Tick at a moment of a clock, for whose entry there is room, where something has ended, and tells the hand what it withdraws. Returns whether
@@ -142,25 +142,25 @@ impl<
         requires accepting { IsAccepting
             (TalksOver I.half O.half T.given H.shown H.may H.moves shared.now.book.now)
             (IsMadeFor I.half O.half T.given H.shown H.moves shared.now.plan.now)
-            H.shown C.collected C.expects shared.now.lock.now shared.now.book.now self.old }
-        requires room { length (C.collected self.old.collector).ticks
-            < (C.collected self.old.collector).tick_limit }
-        ensures keeps { Keeps C.holds C.stays self.old.collector self.new.collector }
+            H.shown C.taken C.expects shared.now.lock.now shared.now.book.now self.old }
+        requires room { length (C.taken self.old.taker).ticks
+            < (C.taken self.old.taker).tick_limit }
+        ensures keeps { Keeps C.holds C.stays self.old.taker self.new.taker }
         ensures accepting { IsAccepting
             (TalksOver I.half O.half T.given H.shown H.may H.moves shared.now.book.now)
             (IsMadeFor I.half O.half T.given H.shown H.moves shared.now.plan.now)
-            H.shown C.collected C.expects shared.now.lock.now shared.now.book.now self.new }
+            H.shown C.taken C.expects shared.now.lock.now shared.now.book.now self.new }
         ensures follows { Follows self.old self.new }
-        ensures links { HasSameLinks C.collected self.old self.new }
+        ensures links { HasSameLinks C.taken self.old self.new }
         ensures once { TicksOnce H.shown H.moves
             (MayPass (opening_of shared.now.lock.now) (view_of self.new.root.pass).seen result)
             (Q.given clock.old) (Q.given clock.new)
-            (C.collected self.old.collector).ticks (C.collected self.new.collector).ticks
+            (C.taken self.old.taker).ticks (C.taken self.new.taker).ticks
             hand.old hand.new }
     {
         let (entry, due) = tick_if_ended(shared, &mut self.root, clock, hand);
         let missed = is_missed(due, &entry);
-        let _known = hand_entry(&mut self.collector, entry);
+        let _known = hand_entry(&mut self.taker, entry);
         missed
     }
 
@@ -176,12 +176,12 @@ impl<
         requires accepting { IsAccepting
             (TalksOver I.half O.half T.given H.shown H.may H.moves shared.now.book.now)
             (IsMadeFor I.half O.half T.given H.shown H.moves shared.now.plan.now)
-            H.shown C.collected C.expects shared.now.lock.now shared.now.book.now self.old }
-        ensures keeps { Keeps C.holds C.stays self.old.collector self.new.collector }
+            H.shown C.taken C.expects shared.now.lock.now shared.now.book.now self.old }
+        ensures keeps { Keeps C.holds C.stays self.old.taker self.new.taker }
         ensures accepting { IsAccepting
             (TalksOver I.half O.half T.given H.shown H.may H.moves shared.now.book.now)
             (IsMadeFor I.half O.half T.given H.shown H.moves shared.now.plan.now)
-            H.shown C.collected C.expects shared.now.lock.now shared.now.book.now self.new }
+            H.shown C.taken C.expects shared.now.lock.now shared.now.book.now self.new }
         ensures follows { Follows self.old self.new }
         ensures begun { self.new.begun ≡ self.old.begun }
         ensures all { self.new.all ≡ self.old.all }
@@ -190,12 +190,12 @@ impl<
             (MayPass (opening_of shared.now.lock.now) (view_of self.old.root.pass).seen
             own.old.missed)
             gave_first (Q.given clock.old)
-            before_links (C.collected self.old.collector).ticks own.old.hand
+            before_links (C.taken self.old.taker).ticks own.old.hand
             → TicksQuietly H.shown H.moves
             (MayPass (opening_of shared.now.lock.now) (view_of self.new.root.pass).seen
             own.new.missed)
             gave_first (Q.given clock.new)
-            before_links (C.collected self.new.collector).ticks own.new.hand }
+            before_links (C.taken self.new.taker).ticks own.new.hand }
     {
         if !self.with_tick_room() {
             own.missed = true;

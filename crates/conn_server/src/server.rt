@@ -5,7 +5,7 @@ ghost use Rattle.wire_io.specs.Wire.{Rose};
 ghost use Rattle.wire_io.specs.declared.limits.TheConstants.{MAX_HOST_BYTES};
 ghost use Rattle.turn_lock.specs.Handles.{IsFresh, IsRootOf, opening_of, view_of};
 ghost use Rattle.turn_lock.specs.Rule.{Settled, StartsWith};
-ghost use Rattle.conn_server.specs.Collects.{IsEmpty, ExpectsLinks, Keeps, SameReports};
+ghost use Rattle.conn_server.specs.Taken.{IsEmpty, ExpectsLinks, Keeps, SameReports};
 ghost use Rattle.conn_server.specs.Handed.{AreHanded};
 ghost use Rattle.conn_server.specs.Hosts.{HostsLinks, IsHosted};
 ghost use Rattle.conn_server.specs.Reports.{GivesReports, IsLinkOf, IsServed, ServesLinks};
@@ -14,14 +14,14 @@ ghost use Rattle.conn_server.specs.declared.plan.TheConstants.{MAX_LINKS};
 
 use crate::accept_loop::{Stop, accept_links};
 use crate::admission::{Acceptor, Keeping, LostLink};
-use crate::collector::{Collector, KeepsReports};
 use crate::ended_links::EndedLinks;
 use crate::handing::{close_recorded, first_place};
-use crate::host_loop::{Halt, Host};
+use crate::host_loop::{Halt, HostLoop};
 use crate::link_task::LinkReport;
 use crate::plan::ServePlan;
 use crate::quiet_second::OwnHand;
 use crate::shared::Shared;
+use crate::taker::{KeepsReports, ReportTaker};
 use call_dispatch::{Book, Crew};
 use sequence::Sequence;
 use space::{AskedList, Space};
@@ -39,17 +39,17 @@ pub type LinkReports<I, O, T, H> = Sequence<LinkReport<I, O, T, H>>;
 #[derive(Drop)]
 pub struct AllJoined<I, O, T, C> {
     pub root: Root,
-    pub collector: C,
+    pub taker: C,
     pub stop: Stop,
     pub lost: Option<LostLink<I, O, T>>,
 }
 
-/// The outcome of serving links whose reports a collector was given.
+/// The outcome of serving links whose reports a taker was given.
 #[derive(Drop)]
 pub struct Served<I, O, T, C> {
-    /// The collector, which was given the report of each link that was served, and the entries of the server's own turns, which are Ticks: one
+    /// The taker, which was given the report of each link that was served, and the entries of the server's own turns, which are Ticks: one
     /// before each of these links.
-    pub collector: C,
+    pub taker: C,
     /// Why no more links were accepted.
     pub stop: Stop,
     /// The link that was accepted and for which there was no memory, shut, where that is why no more were accepted.
@@ -62,27 +62,27 @@ pub struct Served<I, O, T, C> {
 #[derive(Drop)]
 pub struct HostJoined<I, O, T, C, H> {
     pub root: Root,
-    pub collector: C,
+    pub taker: C,
     pub stop: Stop,
     pub lost: Option<LostLink<I, O, T>>,
     pub own: OwnHand<H>,
-    /// The place of the next event that the collector is to be given.
+    /// The place of the next event that the taker is to be given.
     pub handed: Option<u64>,
 }
 
 /// The outcome of serving links until the listener was told to stop, or for another cause.
 #[derive(Drop)]
 pub struct Hosted<I, O, T, C, H> {
-    /// The collector, which was given the report of each link that was served, and the entries of the server's own turns, which are Ticks: one
+    /// The taker, which was given the report of each link that was served, and the entries of the server's own turns, which are Ticks: one
     /// before each of these links, and those of the seconds without a link.
-    pub collector: C,
+    pub taker: C,
     /// Why no more links were accepted.
     pub stop: Stop,
     /// The link that was accepted and for which there was no memory, shut, where that is why no more were accepted.
     pub lost: Option<LostLink<I, O, T>>,
     /// The space that the lock was round.
     pub space: Space,
-    /// True where the collector was given all events of the space after the opening's. False means that there was no memory to hand them on, or that the host
+    /// True where the taker was given all events of the space after the opening's. False means that there was no memory to hand them on, or that the host
     /// or its lock doesn't record.
     pub whole: bool,
     /// The hand of number 0, which was told what the Ticks of seconds without a link withdrew, where there was one.
@@ -106,31 +106,31 @@ pub struct Report<I, O, T, H> {
     pub space: Space,
 }
 
-/// The root and the collector with which a server begins.
+/// The root and the taker with which a server begins.
 #[derive(Drop)]
 pub struct Begin<C> {
     /// The root of the server's lock.
     pub root: Root,
-    /// The collector of the reports, which was given no report and no entry yet.
-    pub collector: C,
+    /// The taker of the reports, which was given no report and no entry yet.
+    pub taker: C,
 }
 
-/// The root and the collector with which a host begins, and whether it hands events on.
+/// The root and the taker with which a host begins, and whether it hands events on.
 #[derive(Drop)]
 pub struct HostBegin<C> {
     /// The root of the server's lock.
     pub root: Root,
-    /// The collector of the reports and the events, which was given nothing yet.
-    pub collector: C,
-    /// True where the collector is given the events of the space, as they are made. The lock has to be one that records (`TurnLock::recording`).
+    /// The taker of the reports and the events, which was given nothing yet.
+    pub taker: C,
+    /// True where the taker is given the events of the space, as they are made. The lock has to be one that records (`TurnLock::recording`).
     pub record: bool,
 }
 
-/// The root, the collector and the crew with which a host begins, and the number of events of the opening, where it hands further events on.
+/// The root, the taker and the crew with which a host begins, and the number of events of the opening, where it hands further events on.
 #[derive(Drop)]
 struct HostStart<'c, C, G> {
     root: Root,
-    collector: C,
+    taker: C,
     crew: &'c G,
     handed: Option<u64>,
 }
@@ -155,7 +155,7 @@ fn serve_within<
     R: Threads + Wait + Sync,
     L: Listener,
     G: Crew,
-    C: Collector<LinkReport<L::In, L::Out, L::Ticks, G::Hand>>,
+    C: ReportTaker<LinkReport<L::In, L::Out, L::Ticks, G::Hand>>,
 >(
     scope: &Scope<'s, E>,
     shared: &Shared<'s, R>,
@@ -171,27 +171,27 @@ where
     requires fresh { IsFresh shared.now.lock.now begin.root }
     requires few { shared.now.plan.now.count ≤ MAX_LINKS }
     requires host { length (utf shared.now.plan.now.host) ≤ MAX_HOST_BYTES }
-    requires empty { IsEmpty (C.collected begin.collector) }
+    requires empty { IsEmpty (C.taken begin.taker) }
     requires expects { ExpectsLinks
         (IsLinkOf L.In.half L.Out.half L.Ticks.given G.Hand.shown G.Hand.may G.Hand.moves
         shared.now.book.now shared.now.plan.now)
-        C.expects begin.collector }
+        C.expects begin.taker }
     ensures served { IsServed
         (IsLinkOf L.In.half L.Out.half L.Ticks.given G.Hand.shown G.Hand.may G.Hand.moves
         shared.now.book.now shared.now.plan.now)
         (IsLostLink L.In.half L.Out.half L.Ticks.given)
-        C.collected shared.now.lock.now shared.now.plan.now.count
+        C.taken shared.now.lock.now shared.now.plan.now.count
         (L.listening listener.old).accepted (L.listening listener.new).accepted result }
     ensures fault { result.stop ≡ Stop.AcceptFault → Rose (L.listening listener.old).faults (L.listening listener.new).faults }
     ensures faults { (L.listening listener.old).faults ≤ (L.listening listener.new).faults }
     ensures ports { (L.listening listener.new).ports ≡ (L.listening listener.old).ports }
 {
-    let Begin { root, collector } = begin;
+    let Begin { root, taker } = begin;
     let keeping = Keeping {
         entries: true,
         handed: None,
     };
-    let mut acceptor = Acceptor::new(shared.alloc, root, collector, keeping);
+    let mut acceptor = Acceptor::new(shared.alloc, root, taker, keeping);
     let (stop, lost) = accept_links(scope, shared, listener, crew, &mut acceptor);
     acceptor.join_all(shared);
     let Acceptor {
@@ -199,13 +199,13 @@ where
         begun: _begun,
         live: _live,
         all: _all,
-        collector,
+        taker,
         keeps: _keeps,
         handed: _handed,
     } = acceptor;
     AllJoined {
         root,
-        collector,
+        taker,
         stop,
         lost,
     }
@@ -220,7 +220,7 @@ fn host_within<
     L: Listener,
     Q: Clock,
     G: Crew,
-    C: Collector<LinkReport<L::In, L::Out, L::Ticks, G::Hand>>,
+    C: ReportTaker<LinkReport<L::In, L::Out, L::Ticks, G::Hand>>,
 >(
     scope: &Scope<'s, E>,
     shared: &Shared<'s, R>,
@@ -235,19 +235,19 @@ where
     G::Hand: 's,
     requires fresh { IsFresh shared.now.lock.now begin.root }
     requires host { length (utf shared.now.plan.now.host) ≤ MAX_HOST_BYTES }
-    requires empty { IsEmpty (C.collected begin.collector) }
+    requires empty { IsEmpty (C.taken begin.taker) }
     requires expects { ExpectsLinks
         (IsLinkOf L.In.half L.Out.half L.Ticks.given G.Hand.shown G.Hand.may G.Hand.moves
         shared.now.book.now shared.now.plan.now)
-        C.expects begin.collector }
-    requires no_event { (C.collected begin.collector).events ≡ [] }
+        C.expects begin.taker }
+    requires no_event { (C.taken begin.taker).events ≡ [] }
     requires handed { IfSome begin.handed (λ n. n ≡ length (opening_of shared.now.lock.now).events) }
-    ensures keeps { Keeps C.holds C.stays begin.entry.collector result.collector }
+    ensures keeps { Keeps C.holds C.stays begin.entry.taker result.taker }
     ensures hosted { IsHosted
         (IsLinkOf L.In.half L.Out.half L.Ticks.given G.Hand.shown G.Hand.may G.Hand.moves
         shared.now.book.now shared.now.plan.now)
         (IsLostLink L.In.half L.Out.half L.Ticks.given) G.Hand.shown G.Hand.moves
-        C.collected shared.now.lock.now shared.now.plan.now.count
+        C.taken shared.now.lock.now shared.now.plan.now.count
         (L.listening listener.old) (L.listening listener.new)
         (Q.given ticks.old) (Q.given ticks.new) result }
     ensures fault { result.stop ≡ Stop.AcceptFault → Rose (L.listening listener.old).faults (L.listening listener.new).faults }
@@ -256,7 +256,7 @@ where
 {
     let HostStart {
         root,
-        collector,
+        taker,
         crew,
         handed,
     } = begin;
@@ -264,15 +264,15 @@ where
         entries: false,
         handed,
     };
-    let first = Acceptor::new(shared.alloc, root, collector, keeping);
-    let mut host = Host {
+    let first = Acceptor::new(shared.alloc, root, taker, keeping);
+    let mut host = HostLoop {
         acceptor: first,
         own: OwnHand::new(),
         idle_tries: 0,
     };
     let Halt { stop, lost } = host.run(scope, shared, crew, listener, ticks);
     host.acceptor.end_all(shared);
-    let Host {
+    let HostLoop {
         acceptor,
         own,
         idle_tries: _idle_tries,
@@ -282,13 +282,13 @@ where
         begun: _begun,
         live: _live,
         all: _all,
-        collector,
+        taker,
         keeps: _keeps,
         handed,
     } = acceptor;
     HostJoined {
         root,
-        collector,
+        taker,
         stop,
         lost,
         own,
@@ -297,7 +297,7 @@ where
 }
 
 /// Closes the lock of a host whose threads were joined, hands the last events on, and gives the host's outcome.
-fn close_host<I, O, T, H, C: Collector<LinkReport<I, O, T, H>>>(
+fn close_host<I, O, T, H, C: ReportTaker<LinkReport<I, O, T, H>>>(
     lock: TurnLock,
     joined: HostJoined<I, O, T, C, H>,
     records: bool,
@@ -305,16 +305,16 @@ fn close_host<I, O, T, H, C: Collector<LinkReport<I, O, T, H>>>(
     requires own { IsRootOf lock joined.root }
     requires all { joined.root.out ≡ 0 }
     requires handed { AreHanded lock (view_of joined.root.pass)
-        (C.collected joined.collector).events joined.handed }
-    ensures keeps { Keeps C.holds C.stays joined.collector result.collector }
+        (C.taken joined.taker).events joined.handed }
+    ensures keeps { Keeps C.holds C.stays joined.taker result.taker }
     ensures settled { Settled (opening_of lock) (view_of joined.root.pass) result.space }
     ensures handed { StartsWith result.space.events
-        ((opening_of lock).events ++ (C.collected result.collector).events) }
+        ((opening_of lock).events ++ (C.taken result.taker).events) }
     ensures whole { result.whole ≡ true → result.space.events
-        ≡ (opening_of lock).events ++ (C.collected result.collector).events }
+        ≡ (opening_of lock).events ++ (C.taken result.taker).events }
     ensures unrecorded { records ≡ false → result.whole ≡ false }
-    ensures ticks { (C.collected result.collector).ticks ≡ (C.collected joined.collector).ticks }
-    ensures reports { SameReports C.collected C.expects joined.collector result.collector }
+    ensures ticks { (C.taken result.taker).ticks ≡ (C.taken joined.taker).ticks }
+    ensures reports { SameReports C.taken C.expects joined.taker result.taker }
     ensures stop { result.stop ≡ joined.stop }
     ensures lost { result.lost ≡ joined.lost }
     ensures hand { result.hand ≡ joined.own.hand }
@@ -322,16 +322,16 @@ fn close_host<I, O, T, H, C: Collector<LinkReport<I, O, T, H>>>(
 {
     let HostJoined {
         root,
-        mut collector,
+        mut taker,
         stop,
         lost,
         own,
         handed,
     } = joined;
-    let (space, whole) = close_recorded(lock, root, &mut collector, handed);
+    let (space, whole) = close_recorded(lock, root, &mut taker, handed);
     let OwnHand { hand, missed } = own;
     Hosted {
-        collector,
+        taker,
         stop,
         lost,
         space,
@@ -382,20 +382,12 @@ impl<'s, R: Threads + Wait + Sync, G: Crew> Server<'s, R, G> {
     {
         let kept: KeepsReports<L::In, L::Out, L::Ticks, G::Hand> = KeepsReports::new(self.alloc);
         let Served {
-            collector,
+            taker,
             stop,
             lost,
             space,
-        } = self.serve_with(
-            listener,
-            lock,
-            Begin {
-                root,
-                collector: kept,
-            },
-            plan,
-        );
-        let (links, ticks) = collector.in_order();
+        } = self.serve_with(listener, lock, Begin { root, taker: kept }, plan);
+        let (links, ticks) = taker.in_order();
         Report {
             links: Sequence::from_vec(links),
             ticks: Sequence::from_vec(ticks),
@@ -405,11 +397,11 @@ impl<'s, R: Threads + Wait + Sync, G: Crew> Server<'s, R, G> {
         }
     }
 
-    /// Serves links as [`Server::serve`] does, and hands the report of each to a collector as the link has ended, so that memory grows with the links
+    /// Serves links as [`Server::serve`] does, and hands the report of each to a taker as the link has ended, so that memory grows with the links
     /// that are being served alone.
     ///
-    /// Its conditions: those of `serve`, and a collector that was given nothing yet and may be given the report of each link.
-    pub fn serve_with<L: Listener, C: Collector<LinkReport<L::In, L::Out, L::Ticks, G::Hand>>>(
+    /// Its conditions: those of `serve`, and a taker that was given nothing yet and may be given the report of each link.
+    pub fn serve_with<L: Listener, C: ReportTaker<LinkReport<L::In, L::Out, L::Ticks, G::Hand>>>(
         &self,
         listener: &mut L,
         lock: TurnLock,
@@ -419,18 +411,18 @@ impl<'s, R: Threads + Wait + Sync, G: Crew> Server<'s, R, G> {
         requires fresh { IsFresh lock begin.root }
         requires few { plan.now.count ≤ MAX_LINKS }
         requires host { length (utf plan.now.host) ≤ MAX_HOST_BYTES }
-        requires empty { IsEmpty (C.collected begin.collector) }
+        requires empty { IsEmpty (C.taken begin.taker) }
         requires expects { ExpectsLinks
             (IsLinkOf L.In.half L.Out.half L.Ticks.given G.Hand.shown G.Hand.may G.Hand.moves
             self.now.book.now plan.now)
-            C.expects begin.collector }
+            C.expects begin.taker }
 
-        // As `serve`: the collector was given the report of each link once, and the entries of the server's own turns in their order.
+        // As `serve`: the taker was given the report of each link once, and the entries of the server's own turns in their order.
         ensures given { GivesReports
             (IsLinkOf L.In.half L.Out.half L.Ticks.given G.Hand.shown G.Hand.may G.Hand.moves
             self.now.book.now plan.now)
             (IsLostLink L.In.half L.Out.half L.Ticks.given)
-            C.collected (opening_of lock) plan.now.count
+            C.taken (opening_of lock) plan.now.count
             (L.listening listener.old).accepted (L.listening listener.new).accepted result }
 
         // The listener.
@@ -450,17 +442,17 @@ impl<'s, R: Threads + Wait + Sync, G: Crew> Server<'s, R, G> {
             move |scope| -> (&mut L, AllJoined<L::In, L::Out, L::Ticks, C>)
                 requires { IsFresh shared_lock.now begin.root × (plan.now.count ≤ MAX_LINKS)
                     × (length (utf plan.now.host) ≤ MAX_HOST_BYTES)
-                    × IsEmpty (C.collected begin.collector)
+                    × IsEmpty (C.taken begin.taker)
                     × ExpectsLinks
                     (IsLinkOf L.In.half L.Out.half L.Ticks.given G.Hand.shown G.Hand.may G.Hand.moves
                     book.now plan.now)
-                    C.expects begin.collector }
+                    C.expects begin.taker }
                 ensures left { (result.0.ghost_name ≡ listener.entry.ghost_name) }
                 ensures served { IsServed
                     (IsLinkOf L.In.half L.Out.half L.Ticks.given G.Hand.shown G.Hand.may G.Hand.moves
                     book.entry.now plan.entry.now)
                     (IsLostLink L.In.half L.Out.half L.Ticks.given)
-                    C.collected shared_lock.entry.now plan.entry.now.count
+                    C.taken shared_lock.entry.now plan.entry.now.count
                     (L.listening listener.entry.now).accepted (L.listening result.0.now).accepted result.1 }
                 ensures fault { result.1.stop ≡ Stop.AcceptFault → Rose (L.listening listener.entry.now).faults (L.listening result.0.now).faults }
                 ensures faults { (L.listening listener.entry.now).faults ≤ (L.listening result.0.now).faults }
@@ -481,19 +473,19 @@ impl<'s, R: Threads + Wait + Sync, G: Crew> Server<'s, R, G> {
         let _ = left;
         let AllJoined {
             root,
-            collector,
+            taker,
             stop,
             lost,
         } = outcome;
         Served {
-            collector,
+            taker,
             stop,
             lost,
             space: lock.close(root),
         }
     }
 
-    /// Serves links until the listener is told to stop, each as [`Server::serve`] does, and hands the report of each to a collector as the link has
+    /// Serves links until the listener is told to stop, each as [`Server::serve`] does, and hands the report of each to a taker as the link has
     /// ended. Links in all are at most the plan's count, and 8,192 are live at once: before another is accepted, one of them ends.
     ///
     /// In each second without a link, threads of links that have ended are joined. Where a lease or a wait for an acknowledgement has ended at a
@@ -501,7 +493,7 @@ impl<'s, R: Threads + Wait + Sync, G: Crew> Server<'s, R, G> {
     /// second in which there is memory for it. A second in which there is no memory for that hand or for the Tick passes without one, and the result
     /// says so.
     ///
-    /// Where the beginning says so, the collector is given the events of the space after the opening's, in their order and in parts of at most 4,096.
+    /// Where the beginning says so, the taker is given the events of the space after the opening's, in their order and in parts of at most 4,096.
     /// It is given those that there are each time that the listener answers, which is at least once a second, and the rest after the last link. Where
     /// there is no memory to hand them out, they come with the next ones.
     ///
@@ -512,8 +504,12 @@ impl<'s, R: Threads + Wait + Sync, G: Crew> Server<'s, R, G> {
     /// The stop is Told where the listener was told to: the links that are live are served to their ends, and all threads are joined. It is All
     /// where the plan's count of links was served, AcceptFault only where the listener's count of faults rose, and OutOfMemory as in `serve`.
     ///
-    /// Its conditions: those of `serve_with`, but for the count, which may be any, and a collector that was given no event yet.
-    pub fn host<L: Listener, Q: Clock, C: Collector<LinkReport<L::In, L::Out, L::Ticks, G::Hand>>>(
+    /// Its conditions: those of `serve_with`, but for the count, which may be any, and a taker that was given no event yet.
+    pub fn host<
+        L: Listener,
+        Q: Clock,
+        C: ReportTaker<LinkReport<L::In, L::Out, L::Ticks, G::Hand>>,
+    >(
         &self,
         listener: &mut L,
         ticks: &mut Q,
@@ -523,25 +519,25 @@ impl<'s, R: Threads + Wait + Sync, G: Crew> Server<'s, R, G> {
     ) -> Hosted<L::In, L::Out, L::Ticks, C, G::Hand>
         requires fresh { IsFresh lock begin.root }
         requires host { length (utf plan.now.host) ≤ MAX_HOST_BYTES }
-        requires empty { IsEmpty (C.collected begin.collector) }
-        requires no_event { (C.collected begin.collector).events ≡ [] }
+        requires empty { IsEmpty (C.taken begin.taker) }
+        requires no_event { (C.taken begin.taker).events ≡ [] }
         requires expects { ExpectsLinks
             (IsLinkOf L.In.half L.Out.half L.Ticks.given G.Hand.shown G.Hand.may G.Hand.moves
             self.now.book.now plan.now)
-            C.expects begin.collector }
+            C.expects begin.taker }
 
         // As `serve_with`, where the server's own turns are the Ticks before links and those of quiet seconds, at moments of `ticks`, whose hand was told
         // what they withdrew. A quiet second passes without a Tick only where nothing had ended, or where the result says that a Tick was missed. The events
-        // that the collector was given are the first after the opening's, and all where the result says so.
+        // that the taker was given are the first after the opening's, and all where the result says so.
         ensures hosts { HostsLinks
             (IsLinkOf L.In.half L.Out.half L.Ticks.given G.Hand.shown G.Hand.may G.Hand.moves
             self.now.book.now plan.now)
             (IsLostLink L.In.half L.Out.half L.Ticks.given) G.Hand.shown G.Hand.moves
-            C.collected (opening_of lock) plan.now.count
+            C.taken (opening_of lock) plan.now.count
             (L.listening listener.old) (L.listening listener.new)
             (Q.given ticks.old) (Q.given ticks.new) result }
 
-        ensures keeps { Keeps C.holds C.stays begin.collector result.collector }
+        ensures keeps { Keeps C.holds C.stays begin.taker result.taker }
         ensures unrecorded { begin.record ≡ false → result.whole ≡ false }
 
         // The listener.
@@ -554,12 +550,12 @@ impl<'s, R: Threads + Wait + Sync, G: Crew> Server<'s, R, G> {
         let (rt, alloc, crew, book) = (self.rt, self.alloc, self.crew, self.book);
         let HostBegin {
             root,
-            collector,
+            taker,
             record,
         } = begin;
         let begun = HostStart {
             root,
-            collector,
+            taker,
             crew,
             handed: first_place(&lock, record),
         };
@@ -575,21 +571,21 @@ impl<'s, R: Threads + Wait + Sync, G: Crew> Server<'s, R, G> {
                 HostJoined<L::In, L::Out, L::Ticks, C, G::Hand>,
             )
                 requires { IsFresh shared_lock.now begun.root × (length (utf plan.now.host) ≤ MAX_HOST_BYTES)
-                    × IsEmpty (C.collected begun.collector)
-                    × ((C.collected begun.collector).events ≡ [])
+                    × IsEmpty (C.taken begun.taker)
+                    × ((C.taken begun.taker).events ≡ [])
                     × ExpectsLinks
                     (IsLinkOf L.In.half L.Out.half L.Ticks.given G.Hand.shown G.Hand.may G.Hand.moves
                     book.now plan.now)
-                    C.expects begun.collector
+                    C.expects begun.taker
                     × IfSome begun.handed (λ n. n ≡ length (opening_of shared_lock.now).events) }
                 ensures left { (result.0.ghost_name ≡ listener.entry.ghost_name)
                     × (result.1.ghost_name ≡ ticks.entry.ghost_name) }
-                ensures keeps { Keeps C.holds C.stays begun.entry.collector result.2.collector }
+                ensures keeps { Keeps C.holds C.stays begun.entry.taker result.2.taker }
                 ensures hosted { IsHosted
                     (IsLinkOf L.In.half L.Out.half L.Ticks.given G.Hand.shown G.Hand.may G.Hand.moves
                     book.entry.now plan.entry.now)
                     (IsLostLink L.In.half L.Out.half L.Ticks.given) G.Hand.shown G.Hand.moves
-                    C.collected shared_lock.entry.now plan.entry.now.count
+                    C.taken shared_lock.entry.now plan.entry.now.count
                     (L.listening listener.entry.now) (L.listening result.0.now)
                     (Q.given ticks.entry.now) (Q.given result.1.now) result.2 }
                 ensures fault { result.2.stop ≡ Stop.AcceptFault → Rose (L.listening listener.entry.now).faults (L.listening result.0.now).faults }

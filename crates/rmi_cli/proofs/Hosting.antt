@@ -21,7 +21,7 @@ use Rattle.sample_app.specs.Does.{May, Moves}
 use Rattle.sample_app.specs.Kinds.{sample_kinds}
 use Rattle.sample_app.specs.declared.crew.SampleHand.{SampleHand}
 use Rattle.conn_server.specs.Accepts.{ticks_of}
-use Rattle.conn_server.specs.Collects.{Collected}
+use Rattle.conn_server.specs.Taken.{Taken}
 use Rattle.conn_server.specs.Hosts.{HostsLinks}
 use Rattle.conn_server.specs.Quiet.{MayPass, TicksQuietly}
 use Rattle.conn_server.specs.Reports.{AreTurnsOf, IsLinkOf, IsReportOf, events_after}
@@ -39,7 +39,7 @@ use Rattle.rmi_words.specs.declared.command.Command.TheVariants.{Host}
 use Rattle.rmi_words.specs.declared.host_words.HostWords.{HostWords}
 use Rattle.rmi_words.specs.declared.host_words.Record.{Record}
 use Rattle.rmi_words.specs.declared.host_words.Record.TheVariants.{Silent, Journal}
-use Rattle.rmi_cli.specs.Desk.{collected_of, recorded_lines, told_lines}
+use Rattle.rmi_cli.specs.Desk.{taken_of, recorded_lines, told_lines}
 use Rattle.rmi_cli.specs.Line.{status_of_run}
 use Rattle.rmi_cli.specs.LinkLine.{listening_line}
 use Rattle.rmi_cli.specs.Opening.{hosted_opening}
@@ -81,7 +81,7 @@ host_printed : {I O T R : Type 0} (recording : Record) (opening : SpaceHistory) 
     → HostPrinted recording opening old new served printed → IsPrinted old.faults new.faults printed
 host_printed Silent opening old new served printed p = printed_so old.held new.held old.faults new.faults _ printed p
 host_printed Journal opening old new served printed p =
-    recorded_so old.held new.held old.faults new.faults (journal_lines opening.configuration (opening.events ++ served.collector.events)) p.0 served.whole printed p.1 p.2
+    recorded_so old.held new.held old.faults new.faults (journal_lines opening.configuration (opening.events ++ served.taker.events)) p.0 served.whole printed p.1 p.2
 
 -- What the status of a run says, by its stop and by how printing ended.
 settled : (faults faults2 : ℕ) (stop : Stop) (printed end : RunEnd) → IsPrinted faults faults2 printed → end ≡ end_after stop printed → IsServed (status_of_run end)
@@ -187,7 +187,7 @@ closed_printed Journal first pieces old mid mid2 new state state2 served end beg
 -- What was printed first, then of the events, and then at the end.
 pub prints_all : {I O T R : Type 0} (recording recording2 : Record) (opening : SpaceHistory) (space : Uid) (first : List ℕ) (old mid mid2 new : WriteHalf) (state state2 : SinkState) (served : HostServed I O T R) (end : RunEnd)
     → recording ≡ recording2 → space ≡ opening.configuration.uid → first ≡ first_text recording2 opening
-    → TextGoes old mid first state → Goes mid mid2 (recorded_lines recording space served.collector.events) state state2 → IsClosed recording mid2 new state2 served end
+    → TextGoes old mid first state → Goes mid mid2 (recorded_lines recording space served.taker.events) state state2 → IsClosed recording mid2 new state2 served end
     → (printed : RunEnd) × HostPrinted recording2 opening old new served printed × (end ≡ end_after served.stop printed)
 prints_all Silent Silent opening space first old mid mid2 new state state2 served end is is_uid is_first begins goes closed =
     let one = goes_still old mid Whole state (begins [] is_first) in
@@ -196,11 +196,11 @@ prints_all Silent Silent opening space first old mid mid2 new state state2 serve
 prints_all Journal Journal opening space first old mid mid2 new state state2 served end is is_uid is_first begins goes closed =
     let lines = journal_lines opening.configuration opening.events in
     let begun = begins lines (is_first ∙ sym (lines_of_journal opening.configuration opening.events)) in
-    let all = goes_on old mid mid2 lines (recorded_lines Journal space served.collector.events) Whole state state2 begun goes in
-    let same : lines ++ recorded_lines Journal space served.collector.events ≡ journal_lines opening.configuration (opening.events ++ served.collector.events) =
-    ap (λ (u : Uid). lines ++ map (event_line u) served.collector.events) is_uid ∙ journal_more opening.configuration opening.events served.collector.events in
-    let whole : Goes old new (journal_lines opening.configuration (opening.events ++ served.collector.events)) Whole state2 =
-    subst (λ (h : WriteHalf). Goes old h (journal_lines opening.configuration (opening.events ++ served.collector.events)) Whole state2) (sym closed.0)
+    let all = goes_on old mid mid2 lines (recorded_lines Journal space served.taker.events) Whole state state2 begun goes in
+    let same : lines ++ recorded_lines Journal space served.taker.events ≡ journal_lines opening.configuration (opening.events ++ served.taker.events) =
+    ap (λ (u : Uid). lines ++ map (event_line u) served.taker.events) is_uid ∙ journal_more opening.configuration opening.events served.taker.events in
+    let whole : Goes old new (journal_lines opening.configuration (opening.events ++ served.taker.events)) Whole state2 =
+    subst (λ (h : WriteHalf). Goes old h (journal_lines opening.configuration (opening.events ++ served.taker.events)) Whole state2) (sym closed.0)
     (subst (λ (t : List (List ℕ)). Goes old mid2 t Whole state2) same all) in
     (end_of_record state2 served.whole, (state2, whole.0, refl), closed.1)
 prints_all Silent Journal opening space first old mid mid2 new state state2 served end is is_uid is_first begins goes closed = absurd (cc)
@@ -310,12 +310,12 @@ module _ {I O T : Type 0} (R : Type 0) (read_half : I → ReadHalf) (write_half 
       host_told told _ hosting.end hosting.tells (ended host _ old.output new.output hosting.hosts.served hosting.end hosting.hosts.ends) unread unwritten
 
   -- What a server that was given a desk hosted is what its desk was given.
-  pub hosts_given : {C : Type 0} (collected : C → Collected (LinkReport I O T (SampleHand R))) (IsLink : ℕ → Accepted × Asked → LinkReport I O T (SampleHand R) → Type 0) (opening : SpaceHistory) (count : ℕ)
+  pub hosts_given : {C : Type 0} (taken : C → Taken (LinkReport I O T (SampleHand R))) (IsLink : ℕ → Accepted × Asked → LinkReport I O T (SampleHand R) → Type 0) (opening : SpaceHistory) (count : ℕ)
       (before after : Listening) (gave_first gave_last : Option (List ℕ)) (h : Hosted I O T C (SampleHand R)) (served : HostServed I O T R)
-      → collected h.collector ≡ collected_of served.collector → (served.stop ≡ h.stop) × (served.lost ≡ h.lost) × (served.space ≡ h.space) × (served.whole ≡ h.whole) × (served.hand ≡ h.hand) × (served.tick_missed ≡ h.tick_missed)
-      → HostsLinks IsLink (IsLostLink read_half write_half given) hand_shown Moves collected opening count before after gave_first gave_last h
-      → HostsLinks IsLink (IsLostLink read_half write_half given) hand_shown Moves collected_of opening count before after gave_first gave_last served
-  hosts_given collected IsLink opening count before after gave_first gave_last h served same rest x =
+      → taken h.taker ≡ taken_of served.taker → (served.stop ≡ h.stop) × (served.lost ≡ h.lost) × (served.space ≡ h.space) × (served.whole ≡ h.whole) × (served.hand ≡ h.hand) × (served.tick_missed ≡ h.tick_missed)
+      → HostsLinks IsLink (IsLostLink read_half write_half given) hand_shown Moves taken opening count before after gave_first gave_last h
+      → HostsLinks IsLink (IsLostLink read_half write_half given) hand_shown Moves taken_of opening count before after gave_first gave_last served
+  hosts_given taken IsLink opening count before after gave_first gave_last h served same rest x =
       let IsLost = IsLostLink read_half write_half given in
       let Quiet : Bool → SpaceHistory → List Asked → Option (SampleHand R) → Type 0 = λ missed s ticks hand.
       TicksQuietly hand_shown Moves (MayPass opening s.events missed) gave_first gave_last (ticks_of x.served) ticks hand in
@@ -329,35 +329,35 @@ module _ {I O T : Type 0} (R : Type 0) (read_half : I → ReadHalf) (write_half 
         missed = x.missed;
         told_links = x.told_links;
         reported = subst (λ (s : SpaceHistory). Paired (IsReportOf IsLink opening s) 1 x.served x.links) space x.reported;
-        reports = subst (λ (c : Collected (LinkReport I O T (SampleHand R))). IsPermutation x.links c.reports) same x.reports;
-        ticks = subst (λ (s : SpaceHistory). AreTurnsOf opening 0 (collected_of served.collector).ticks s) space
-            (subst (λ (c : Collected (LinkReport I O T (SampleHand R))). AreTurnsOf opening 0 c.ticks h.space) same x.ticks);
-        quiet = subst (λ (missed : Bool). Quiet missed served.space (collected_of served.collector).ticks served.hand) (sym rest.5)
-            (subst (λ (s : SpaceHistory). Quiet h.tick_missed s (collected_of served.collector).ticks served.hand) space
-            (subst (λ (a : Option (SampleHand R)). Quiet h.tick_missed h.space (collected_of served.collector).ticks a) (sym rest.4)
-            (subst (λ (c : Collected (LinkReport I O T (SampleHand R))). Quiet h.tick_missed h.space c.ticks h.hand) same x.quiet)));
+        reports = subst (λ (c : Taken (LinkReport I O T (SampleHand R))). IsPermutation x.links c.reports) same x.reports;
+        ticks = subst (λ (s : SpaceHistory). AreTurnsOf opening 0 (taken_of served.taker).ticks s) space
+            (subst (λ (c : Taken (LinkReport I O T (SampleHand R))). AreTurnsOf opening 0 c.ticks h.space) same x.ticks);
+        quiet = subst (λ (missed : Bool). Quiet missed served.space (taken_of served.taker).ticks served.hand) (sym rest.5)
+            (subst (λ (s : SpaceHistory). Quiet h.tick_missed s (taken_of served.taker).ticks served.hand) space
+            (subst (λ (a : Option (SampleHand R)). Quiet h.tick_missed h.space (taken_of served.taker).ticks a) (sym rest.4)
+            (subst (λ (c : Taken (LinkReport I O T (SampleHand R))). Quiet h.tick_missed h.space c.ticks h.hand) same x.quiet)));
         others = subst (λ (s : SpaceHistory). (n : ℕ) → length x.links < n → events_after opening n s ≡ []) space x.others;
         stopped = subst (λ (s : Stop). HostStopped s after.told count (length x.links) x.missed) (sym rest.0) x.stopped;
         back = subst (λ (l : Option (LostLink I O T)). AreGivenBack IsLost x.missed l) (sym rest.1) x.back;
         untold = subst (λ (s : Stop). s ≢ stops.Told → after.told ≡ before.told) (sym rest.0) x.untold;
-        handed = subst (λ (s : SpaceHistory). StartsWith s.events (opening.events ++ (collected_of served.collector).events)) space
-            (subst (λ (c : Collected (LinkReport I O T (SampleHand R))). StartsWith h.space.events (opening.events ++ c.events)) same x.handed);
-        all_handed = λ all. subst (λ (s : SpaceHistory). s.events ≡ opening.events ++ (collected_of served.collector).events) space
-            (subst (λ (c : Collected (LinkReport I O T (SampleHand R))). h.space.events ≡ opening.events ++ c.events) same (x.all_handed (sym rest.3 ∙ all)));
+        handed = subst (λ (s : SpaceHistory). StartsWith s.events (opening.events ++ (taken_of served.taker).events)) space
+            (subst (λ (c : Taken (LinkReport I O T (SampleHand R))). StartsWith h.space.events (opening.events ++ c.events)) same x.handed);
+        all_handed = λ all. subst (λ (s : SpaceHistory). s.events ≡ opening.events ++ (taken_of served.taker).events) space
+            (subst (λ (c : Taken (LinkReport I O T (SampleHand R))). h.space.events ≡ opening.events ++ c.events) same (x.all_handed (sym rest.3 ∙ all)));
       }
 
   -- What a server hosted by these parts is what the seed and the words say.
   pub hosts_from : (host : HostWords) (parts : HostParts R) (before after : Listening) (gave_first gave_last : Option (List ℕ)) (served : HostServed I O T R)
       → ArePartsOf seed host parts → AreReady parts
-      → HostsLinks (IsLinkOf read_half write_half given hand_shown May Moves parts.book parts.plan) (IsLostLink read_half write_half given) hand_shown Moves collected_of
+      → HostsLinks (IsLinkOf read_half write_half given hand_shown May Moves parts.book parts.plan) (IsLostLink read_half write_half given) hand_shown Moves taken_of
       (opening_of parts.lock) parts.plan.count before after gave_first gave_last served
       → HostsFrom read_half write_half given seed host before after gave_first gave_last served
   hosts_from host parts before after gave_first gave_last served are ready hosts =
-      let ByBook : List Kind → Type 0 = λ k. HostsLinks (IsLinkOf read_half write_half given hand_shown May Moves k parts.plan) (IsLostLink read_half write_half given) hand_shown Moves collected_of
+      let ByBook : List Kind → Type 0 = λ k. HostsLinks (IsLinkOf read_half write_half given hand_shown May Moves k parts.plan) (IsLostLink read_half write_half given) hand_shown Moves taken_of
       (opening_of parts.lock) parts.plan.count before after gave_first gave_last served in
-      let ByPlan : ServePlan → Type 0 = λ p. HostsLinks (IsLinkOf read_half write_half given hand_shown May Moves sample_kinds p) (IsLostLink read_half write_half given) hand_shown Moves collected_of
+      let ByPlan : ServePlan → Type 0 = λ p. HostsLinks (IsLinkOf read_half write_half given hand_shown May Moves sample_kinds p) (IsLostLink read_half write_half given) hand_shown Moves taken_of
       (opening_of parts.lock) p.count before after gave_first gave_last served in
-      let ByOpening : SpaceHistory → Type 0 = λ s. HostsLinks (IsLinkOf read_half write_half given hand_shown May Moves sample_kinds (host_plan seed host)) (IsLostLink read_half write_half given) hand_shown Moves collected_of
+      let ByOpening : SpaceHistory → Type 0 = λ s. HostsLinks (IsLinkOf read_half write_half given hand_shown May Moves sample_kinds (host_plan seed host)) (IsLostLink read_half write_half given) hand_shown Moves taken_of
       s LAST_NUMBER before after gave_first gave_last served in
       subst ByOpening are.opening (subst ByPlan are.plan (subst ByBook ready.book hosts))
 
@@ -367,7 +367,7 @@ module _ {I O T : Type 0} (R : Type 0) (read_half : I → ReadHalf) (write_half 
       → address ≡ host.address → port ≡ host.port → heard.accepted ≡ old.accepted → new.ports ≡ with_next old.ports (address, port)
       → HostsFrom read_half write_half given seed host heard new given_old given_new served
       → HostEnds host.output (hosted_opening seed host.options) output output2 (Some served) end
-      → Goes errors errors_mid (listening_line address port ∷ []) Whole told → Goes errors_mid errors2 (told_lines served.collector.reports) told told2
+      → Goes errors errors_mid (listening_line address port ∷ []) Whole told → Goes errors_mid errors2 (told_lines served.taker.reports) told told2
       → HostsTelling R read_half write_half given seed host (host_side old given_old output) (host_side new given_new output2) errors errors2 told2 end
   hosts_heard host address port old heard new given_old given_new output output2 served end errors errors_mid errors2 told told2 is_address is_port same ports links ends line lines =
       let at = ap₂ (λ (a : List ℕ) (n : ℕ). listening_line a n) is_address is_port in (
@@ -377,7 +377,7 @@ module _ {I O T : Type 0} (R : Type 0) (read_half : I → ReadHalf) (write_half 
           links = (heard, same, links);
           ends = ends;
         },
-        goes_on errors errors_mid errors2 (listening_line host.address host.port ∷ []) (told_lines served.collector.reports) Whole told told2
+        goes_on errors errors_mid errors2 (listening_line host.address host.port ∷ []) (told_lines served.taker.reports) Whole told told2
             (subst (λ (t : List ℕ). Goes errors errors_mid (t ∷ []) Whole told) at line) lines,
       )
 

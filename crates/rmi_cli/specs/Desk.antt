@@ -4,7 +4,7 @@ use Rattle.wire_io.specs.Wire.{ReadHalf, WriteHalf}
 use Rattle.object_ids.specs.declared.ids.Uid.{Uid}
 use Rattle.history.specs.declared.asks.Event.{Event}
 use Rattle.journal.specs.Written.{event_line}
-use Rattle.conn_server.specs.Collects.{Collected}
+use Rattle.conn_server.specs.Taken.{Taken}
 use Rattle.conn_server.specs.declared.link_task.LinkReport.{LinkReport}
 use Rattle.rmi_cli.specs.LinkLine.{link_line}
 use Rattle.rmi_cli.specs.declared.host_desk.Given.{Given}
@@ -17,8 +17,8 @@ use Rattle.rmi_words.specs.declared.host_words.Record.TheVariants.{Silent, Journ
 -- ---- what it was given
 
 -- The reports, the entries and the events that it was given, of which it keeps none. There is room for any number.
-abbrev pub collected_of : {R : Type 0} → Given R → Collected R
-collected_of given = record {
+abbrev pub taken_of : {R : Type 0} → Given R → Taken R
+taken_of given = record {
   reports = map (λ t. t.report.value) given.reports;
   ticks = given.ticks;
   events = given.events;

@@ -20,7 +20,7 @@ use Rattle.conn_server.specs.declared.link_task.LinkReport.{LinkReport}
 use Rattle.conn_server.specs.declared.plan.TheConstants.{LAST_NUMBER}
 use Rattle.conn_server.specs.declared.plan.ServePlan.{ServePlan}
 use Rattle.conn_server.specs.declared.server.Hosted.{Hosted}
-use Rattle.rmi_cli.specs.Desk.{collected_of, told_lines}
+use Rattle.rmi_cli.specs.Desk.{taken_of, told_lines}
 use Rattle.rmi_cli.specs.Line.{status_of_run}
 use Rattle.rmi_cli.specs.LinkLine.{listening_line}
 use Rattle.rmi_cli.specs.Opening.{hosted_opening, hosted_space}
@@ -87,7 +87,7 @@ hand_shown hand = record { calls = hand.calls; seen = None; state = None; number
 -- by what the links' sources, sinks and clocks show.
 abbrev pub HostsFrom : {I O T R : Type 0} → (I → ReadHalf) → (O → WriteHalf) → (T → Option (List ℕ)) → List ℕ → HostWords → Listening → Listening → Option (List ℕ) → Option (List ℕ) → HostServed I O T R → Type 0
 HostsFrom read_half write_half given seed host before after gave_first gave_last served =
-    HostsLinks (IsSampleLink read_half write_half given (host_plan seed host)) (IsLostLink read_half write_half given) hand_shown Moves collected_of
+    HostsLinks (IsSampleLink read_half write_half given (host_plan seed host)) (IsLostLink read_half write_half given) hand_shown Moves taken_of
     (hosted_opening seed host.options) LAST_NUMBER before after gave_first gave_last served
 
 -- The same from one side to the other, after the listener listened: it had given the same links then.
@@ -114,7 +114,7 @@ HostPrinted Silent opening old new served printed =
     Printed old.held new.held old.faults new.faults (standing served.space.configuration served.space.events) printed
 HostPrinted Journal opening old new served printed =
     (state : SinkState)
-    × Wrote old.held new.held old.faults new.faults (journal_lines opening.configuration (opening.events ++ served.collector.events)) state
+    × Wrote old.held new.held old.faults new.faults (journal_lines opening.configuration (opening.events ++ served.taker.events)) state
     × (printed ≡ end_of_record state served.whole)
 
 -- How the run ends by what was served: where nothing was, the port could not be listened on, or there was no memory; nothing was written then.
@@ -145,7 +145,7 @@ pub record Hosts {I O T : Type 0} (R : Type 0) (read_half : I → ReadHalf) (wri
 -- given their reports. A line says what the link's report says, and a number of milliseconds, of which no clause says more.
 abbrev pub host_lines : {I O T R : Type 0} → HostWords → Option (HostServed I O T R) → List (List ℕ)
 host_lines host None = []
-host_lines host (Some served) = listening_line host.address host.port ∷ told_lines served.collector.reports
+host_lines host (Some served) = listening_line host.address host.port ∷ told_lines served.taker.reports
 
 -- The same run, whose lines the errors' sink was given; it is in this state.
 abbrev pub HostsTelling : {I O T : Type 0} → Type 0 → (I → ReadHalf) → (O → WriteHalf) → (T → Option (List ℕ)) → List ℕ → HostWords → HostSide → HostSide → WriteHalf → WriteHalf → SinkState → RunEnd → Type 0

@@ -5,7 +5,7 @@ ghost use Rattle.rmi_cli.specs.Desk.{ended_link};
 use crate::event_lines::write_events;
 use crate::link_line::EndedLink;
 use crate::sink_state::{SinkState, write_made};
-use conn_server::{Collector, LinkReport};
+use conn_server::{LinkReport, ReportTaker};
 use history::Event;
 use object_ids::Uid;
 use past::Past;
@@ -181,13 +181,13 @@ impl<'s, K, E, R, S: Drop> HostDesk<'s, K, E, R, S> {
     }
 }
 
-impl<'s, K: Sink, E: Sink, I: Drop, O: Drop, T: Clock + Drop, H: Drop> Collector<
+impl<'s, K: Sink, E: Sink, I: Drop, O: Drop, T: Clock + Drop, H: Drop> ReportTaker<
     LinkReport<I, O, T, H>,
 > for HostDesk<'s, K, E, LinkReport<I, O, T, H>, Vec<LinkStart>> {
-    ghost use Rattle.rmi_cli.specs.Desk.{DeskStays, collected_of, recorded_lines, told_lines};
+    ghost use Rattle.rmi_cli.specs.Desk.{DeskStays, taken_of, recorded_lines, told_lines};
     ghost use Rattle.rmi_cli.specs.Sinks.{Goes};
 
-    ghost collected = { λ d. collected_of d.given };
+    ghost taken = { λ d. taken_of d.given };
 
     ghost expects = { λ d report. Unit {0} };
 

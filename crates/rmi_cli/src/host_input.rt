@@ -201,10 +201,10 @@ fn host_links<
         (L.listening host.old.listener) (L.listening host.new.listener)
         (T.given host.old.ticks) (T.given host.new.ticks) result.hosted }
     ensures printed { Goes (O.half host.old.output) (O.half host.new.output)
-        (recorded_lines parts.entry.recording parts.entry.space result.hosted.collector.events)
+        (recorded_lines parts.entry.recording parts.entry.space result.hosted.taker.events)
         first.printed result.states.printed }
     ensures told { Goes (E.half host.old.errors) (E.half host.new.errors)
-        (told_lines result.hosted.collector.reports) first.told result.states.told }
+        (told_lines result.hosted.taker.reports) first.told result.states.told }
     ensures ports { (L.listening host.new.listener).ports ≡ (L.listening host.old.listener).ports }
     ensures fault { result.hosted.stop ≡ Stop.AcceptFault
         → Rose (L.listening host.old.listener).faults (L.listening host.new.listener).faults }
@@ -243,10 +243,10 @@ fn serve_at_desk<'s, 't, R: Threads + Wait + Sync, K: Sink, E: Sink, T: Clock, L
     ensures same_output { result.0.ghost_name ≡ output.entry.ghost_name }
     ensures same_errors { result.1.ghost_name ≡ errors.entry.ghost_name }
     ensures printed { Goes (K.half output.old) (K.half result.0.now)
-        (recorded_lines begun.entry.parts.recording begun.entry.parts.space result.2.hosted.collector.events)
+        (recorded_lines begun.entry.parts.recording begun.entry.parts.space result.2.hosted.taker.events)
         begun.entry.first.printed result.2.states.printed }
     ensures told { Goes (E.half errors.old) (E.half result.1.now)
-        (told_lines result.2.hosted.collector.reports) begun.entry.first.told result.2.states.told }
+        (told_lines result.2.hosted.taker.reports) begun.entry.first.told result.2.states.told }
     ensures links { (seed : List ℕ) (asked : HostWords) → ArePartsOf seed asked begun.entry.parts
         → HostsFrom L.In.half L.Out.half L.Ticks.given seed asked
         (L.listening listener.old) (L.listening listener.new)
@@ -289,7 +289,7 @@ fn serve_at_desk<'s, 't, R: Threads + Wait + Sync, K: Sink, E: Sink, T: Clock, L
     };
     let begin = HostBegin {
         root,
-        collector: sinks.into_desk(alloc, recording, space),
+        taker: sinks.into_desk(alloc, recording, space),
         record: recording == Record::Journal,
     };
     let served = server.host(listener, ticks, lock, begin, &plan);
@@ -300,19 +300,19 @@ fn serve_at_desk<'s, 't, R: Threads + Wait + Sync, K: Sink, E: Sink, T: Clock, L
 fn take_apart<'s, 't, R: Wait + Sync, K, E, I, O, T>(
     served: DeskHosted<'s, 't, R, K, E, I, O, T>,
 ) -> (&'s mut K, &'s mut E, HostLeft<'t, R, I, O, T>)
-    ensures same_output { result.0.ghost_name ≡ served.entry.collector.output.ghost_name }
-    ensures same_errors { result.1.ghost_name ≡ served.entry.collector.errors.ghost_name }
-    ensures output { result.0.now ≡ served.entry.collector.output.now }
-    ensures errors { result.1.now ≡ served.entry.collector.errors.now }
-    ensures printed { result.2.states.printed ≡ served.entry.collector.printed }
-    ensures told { result.2.states.told ≡ served.entry.collector.told }
-    ensures given { result.2.hosted.collector ≡ served.entry.collector.given }
+    ensures same_output { result.0.ghost_name ≡ served.entry.taker.output.ghost_name }
+    ensures same_errors { result.1.ghost_name ≡ served.entry.taker.errors.ghost_name }
+    ensures output { result.0.now ≡ served.entry.taker.output.now }
+    ensures errors { result.1.now ≡ served.entry.taker.errors.now }
+    ensures printed { result.2.states.printed ≡ served.entry.taker.printed }
+    ensures told { result.2.states.told ≡ served.entry.taker.told }
+    ensures given { result.2.hosted.taker ≡ served.entry.taker.given }
     ensures rest { (result.2.hosted.stop ≡ served.entry.stop) × (result.2.hosted.lost ≡ served.entry.lost)
         × (result.2.hosted.space ≡ served.entry.space) × (result.2.hosted.whole ≡ served.entry.whole)
         × (result.2.hosted.hand ≡ served.entry.hand) × (result.2.hosted.tick_missed ≡ served.entry.tick_missed) }
 {
     let Hosted {
-        collector,
+        taker,
         stop,
         lost,
         space,
@@ -320,9 +320,9 @@ fn take_apart<'s, 't, R: Wait + Sync, K, E, I, O, T>(
         hand,
         tick_missed,
     } = served;
-    let (output, errors, DeskLeft { given, states }) = collector.into_parts();
+    let (output, errors, DeskLeft { given, states }) = taker.into_parts();
     let hosted = Hosted {
-        collector: given,
+        taker: given,
         stop,
         lost,
         space,

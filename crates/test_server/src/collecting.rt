@@ -1,12 +1,12 @@
-//! The reports of links go to a collector, each when its link has ended.
+//! The reports of links go to a taker, each when its link has ended.
 ghost use Rattle.std.specs.Prelude.{◌≡◌, ◌≤◌, ◌++◌, []};
-ghost use Rattle.conn_server.specs.Collects.{IsEmpty};
+ghost use Rattle.conn_server.specs.Taken.{IsEmpty};
 
 use crate::gates::{Gated, GatedSink, GatedSource};
 use crate::histories::begins_so;
 use crate::servers::{CONFIG, is_short, listener_of, plan_of};
 use crate::texts::must;
-use conn_server::{Begin, Collector, DropsReports, LinkReport, Served, Server, Stop};
+use conn_server::{Begin, DropsReports, LinkReport, ReportTaker, Served, Server, Stop};
 use history::Event;
 use past::Past;
 use sample_app::{SampleCrew, SampleHand, sample_book, sample_space};
@@ -37,11 +37,11 @@ struct NotesNumbers<R> {
     events: Past<Event>,
 }
 
-impl<I: Drop, O: Drop, T: Drop, H: Drop> Collector<LinkReport<I, O, T, H>>
+impl<I: Drop, O: Drop, T: Drop, H: Drop> ReportTaker<LinkReport<I, O, T, H>>
     for NotesNumbers<LinkReport<I, O, T, H>> {
     ghost use Rattle.std.specs.Prelude.{◌+◌, ◌^◌, length};
 
-    ghost collected = { λ n. record {
+    ghost taken = { λ n. record {
       reports = n.reports;
       ticks = n.ticks;
       events = n.events;
@@ -84,20 +84,20 @@ const AT_ONCE: &str =
     "1 | 1234 | 500 | | opening add_one ping | ack number +5 first 0000000000000002 pong | Ended
 0 | 1234 | 400 | | opening add_one | ack number +5 first 0000000000000001 | Ended";
 
-/// The result of the sample with a collector, over links in memory.
+/// The result of the sample with a taker, over links in memory.
 type ServedBy<C> = Served<GatedSource, GatedSink, MemClock, C>;
 
 /// A report of a link of the sample.
 type SampleReport<'t, R> = LinkReport<GatedSource, GatedSink, MemClock, SampleHand<'t, R>>;
 
-/// Serves the two clients, and hands their reports to a collector that was given nothing yet and takes any; None where there is no memory.
-fn serve_both<'t, R: Threads + Wait + Abort + Sync, C: Collector<SampleReport<'t, R>>>(
+/// Serves the two clients, and hands their reports to a taker that was given nothing yet and takes any; None where there is no memory.
+fn serve_both<'t, R: Threads + Wait + Abort + Sync, C: ReportTaker<SampleReport<'t, R>>>(
     rt: &'t R,
     alloc: Global,
-    collector: C,
+    taker: C,
 ) -> Option<ServedBy<C>>
-    requires empty { IsEmpty (C.collected collector) }
-    requires expects { (report : _) → C.expects collector report }
+    requires empty { IsEmpty (C.taken taker) }
+    requires expects { (report : _) → C.expects taker report }
 {
     let crew = SampleCrew::new(rt, alloc).ok()?;
     let book = sample_book(alloc).ok()?;
@@ -115,7 +115,7 @@ fn serve_both<'t, R: Threads + Wait + Abort + Sync, C: Collector<SampleReport<'t
                 crew: &crew,
                 book: &book,
             };
-            Some(server.serve_with(&mut listener, lock, Begin { root, collector }, &plan))
+            Some(server.serve_with(&mut listener, lock, Begin { root, taker }, &plan))
         }
         Err(_space) => None,
     }
@@ -134,7 +134,7 @@ fn reports_come_as_links_end(rt: HostRuntime) {
     };
     match serve_both(&rt, rt.alloc(), notes) {
         Some(served) => {
-            let numbers = served.collector.numbers.as_slice();
+            let numbers = served.taker.numbers.as_slice();
             must(&rt, numbers == [2, 1].as_slice(), "the last first");
             must(&rt, served.stop == Stop::All, "stop");
             must(&rt, begins_so(rt.alloc(), &served.space, FIRST), FIRST);

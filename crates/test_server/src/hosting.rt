@@ -53,7 +53,7 @@ fn host_over<R: Threads + Wait + Abort + Sync, G: Crew>(
             };
             let begin = HostBegin {
                 root,
-                collector: Noting::new(alloc, KeepsReports::new(alloc), ended),
+                taker: Noting::new(alloc, KeepsReports::new(alloc), ended),
                 record: true,
             };
             Some(server.host(listener, &mut ticks, lock, begin, &plan))
@@ -82,14 +82,14 @@ fn check_live<R: Threads + Wait + Abort + Sync>(rt: &R, alloc: Global) -> Option
     let hosted = host_over(rt, alloc, &mut listener, &crew, space)?;
     must(rt, hosted.stop == Stop::Told, "stop");
     check_noted(rt, alloc, &hosted, &sample_space(alloc, &CONFIG).ok()?);
-    let links = hosted.collector.links.as_slice();
+    let links = hosted.taker.links.as_slice();
     must(
         rt,
         links.starts_with(&[1, 2, 3]) && links.len() == 6,
         "each begins and ends",
     );
-    let collector = hosted.collector;
-    let inner = collector.inner;
+    let taker = hosted.taker;
+    let inner = taker.inner;
     let (links, ticks) = inner.in_order();
     check_all(rt, alloc, links.as_slice(), LIVE);
     must(rt, ticks.len() == 3, "a tick each");
@@ -115,7 +115,7 @@ fn check_calls(
 
 /// Looks whether the events that were handed on are those of the space after the opening's.
 fn check_noted<H>(rt: &impl Abort, alloc: Global, hosted: &HostedBy<H>, opening: &Space) {
-    must(rt, hosted.whole && hosted.collector.whole, "all events");
+    must(rt, hosted.whole && hosted.taker.whole, "all events");
     if !opening.is_stored() || !hosted.space.is_stored() {
         must(rt, false, "stored events");
         return;
@@ -123,7 +123,7 @@ fn check_noted<H>(rt: &impl Abort, alloc: Global, hosted: &HostedBy<H>, opening:
     match (journal(alloc, opening), journal(alloc, &hosted.space)) {
         (Ok(first), Ok(all)) => {
             let rest = all.as_slice().strip_prefix(first.as_slice());
-            must(rt, rest == Some(hosted.collector.text.as_slice()), "events");
+            must(rt, rest == Some(hosted.taker.text.as_slice()), "events");
         }
         _ => must(rt, false, "memory"),
     }
@@ -148,15 +148,15 @@ fn check_quiet<R: Threads + Wait + Abort + Sync>(rt: &R, alloc: Global) -> Optio
     check_noted(rt, alloc, &hosted, &space_with_made(alloc)?);
     must(
         rt,
-        hosted.collector.early && !hosted.tick_missed,
+        hosted.taker.early && !hosted.tick_missed,
         "an event before the stop",
     );
     match &hosted.hand {
         Some(hand) => must(rt, is_told_once(hand.records()), "told once"),
         None => must(rt, false, "a hand"),
     }
-    let collector = hosted.collector;
-    let inner = collector.inner;
+    let taker = hosted.taker;
+    let inner = taker.inner;
     let (links, ticks) = inner.in_order();
     must(rt, links.is_empty() && ticks.len() == 1, "one tick");
     Some(())
@@ -181,7 +181,7 @@ fn check_idle<R: Threads + Wait + Abort + Sync>(rt: &R, alloc: Global) -> Option
     let space = sample_space(alloc, &CONFIG).ok()?;
     let hosted = host_over(rt, alloc, &mut listener, &Recorders { alloc }, space)?;
     must(rt, hosted.stop == Stop::Told, "stop");
-    must(rt, hosted.collector.text.is_empty(), "no event");
+    must(rt, hosted.taker.text.is_empty(), "no event");
     check_noted(rt, alloc, &hosted, &sample_space(alloc, &CONFIG).ok()?);
     Some(())
 }
@@ -212,7 +212,7 @@ fn check_none<R: Threads + Wait + Abort + Sync>(rt: &R, alloc: Global) -> Option
             };
             let begin = HostBegin {
                 root,
-                collector: DropsReports::new(),
+                taker: DropsReports::new(),
                 record: false,
             };
             let hosted = server.host(&mut listener, &mut ticks, lock, begin, &plan);

@@ -1,16 +1,16 @@
-//! A collector that notes what it is given, beside another one.
+//! A taker that notes what it is given, beside another one.
 ghost use Rattle.std.specs.Prelude.{◌≡◌, []};
 
 use crate::gates::{Ended, is_told_to_stop};
 use crate::servers::SPACE;
-use conn_server::{Collector, MAX_PART};
+use conn_server::{MAX_PART, ReportTaker};
 use history::Event;
 use journal::put_event_line;
 use sequence::{ByteList, Kinds};
 use space::Asked;
 use std::alloc::Global;
 
-/// Notes the lines of the events that another collector is given, and the numbers of the links that begin and end.
+/// Notes the lines of the events that another taker is given, and the numbers of the links that begin and end.
 #[derive(Drop)]
 pub(crate) struct Noting<C> {
     pub(crate) inner: C,
@@ -27,7 +27,7 @@ pub(crate) struct Noting<C> {
 }
 
 impl<C> Noting<C> {
-    /// It was given nothing yet but what the other collector was.
+    /// It was given nothing yet but what the other taker was.
     pub(crate) fn new(alloc: Global, inner: C, ended: Ended) -> Noting<C>
         ensures { result.inner ≡ inner }
     {
@@ -86,8 +86,8 @@ impl<I, O, T, H> Numbered for conn_server::LinkReport<I, O, T, H> {
     }
 }
 
-impl<R: Numbered, C: Collector<R>> Collector<R> for Noting<C> {
-    ghost collected = { λ n. C.collected n.inner };
+impl<R: Numbered, C: ReportTaker<R>> ReportTaker<R> for Noting<C> {
+    ghost taken = { λ n. C.taken n.inner };
 
     ghost expects = { λ n report. C.expects n.inner report };
 

@@ -9,9 +9,9 @@ invariant-loop g l = record {
   is : IsAccepting
       (TalksOver g.L.In.Source.half g.L.Out.Sink.half g.L.Ticks.Clock.given g.G.Hand.Worker.shown g.G.Hand.Worker.may g.G.Hand.Worker.moves l.shared.book.now)
       (IsMadeFor g.L.In.Source.half g.L.Out.Sink.half g.L.Ticks.Clock.given g.G.Hand.Worker.shown g.G.Hand.Worker.moves l.shared.plan.now)
-      g.G.Hand.Worker.shown g.C.Collector.collected g.C.Collector.expects l.shared.lock.now l.shared.book.now l.acceptor;
+      g.G.Hand.Worker.shown g.C.ReportTaker.taken g.C.ReportTaker.expects l.shared.lock.now l.shared.book.now l.acceptor;
   count : l.acceptor.begun ≡ l.counter;
-  tied : (g.C.Collector.collected l.acceptor.collector).ticks ≡ ticks_of (shown_all g.L.In.Source.half g.L.Out.Sink.half g.L.Ticks.Clock.given l.acceptor.all);
+  tied : (g.C.ReportTaker.taken l.acceptor.taker).ticks ≡ ticks_of (shown_all g.L.In.Source.half g.L.Out.Sink.half g.L.Ticks.Clock.given l.acceptor.all);
   links : (g.L.Listener.listening l.listener).accepted ≡ with_all (g.L.Listener.listening l.fn.listener).accepted (links_of (shown_all g.L.In.Source.half g.L.Out.Sink.half g.L.Ticks.Clock.given l.acceptor.all));
   faults : (g.L.Listener.listening l.fn.listener).faults ≤ (g.L.Listener.listening l.listener).faults;
   ports : (g.L.Listener.listening l.listener).ports ≡ (g.L.Listener.listening l.fn.listener).ports;

@@ -9,8 +9,8 @@ invariant-loop g l = record {
   is : IsAccepting
       (TalksOver g.L.In.Source.half g.L.Out.Sink.half g.L.Ticks.Clock.given g.H.Worker.shown g.H.Worker.may g.H.Worker.moves l.shared.book.now)
       (IsMadeFor g.L.In.Source.half g.L.Out.Sink.half g.L.Ticks.Clock.given g.H.Worker.shown g.H.Worker.moves l.shared.plan.now)
-      g.H.Worker.shown g.C.Collector.collected g.C.Collector.expects l.shared.lock.now l.shared.book.now l.acceptor;
-  ticks : (g.C.Collector.collected l.acceptor.collector).ticks ≡ (g.C.Collector.collected l.fn.acceptor.collector).ticks;
+      g.H.Worker.shown g.C.ReportTaker.taken g.C.ReportTaker.expects l.shared.lock.now l.shared.book.now l.acceptor;
+  ticks : (g.C.ReportTaker.taken l.acceptor.taker).ticks ≡ (g.C.ReportTaker.taken l.fn.acceptor.taker).ticks;
   links : shown_all g.L.In.Source.half g.L.Out.Sink.half g.L.Ticks.Clock.given l.acceptor.all ≡ shown_all g.L.In.Source.half g.L.Out.Sink.half g.L.Ticks.Clock.given l.fn.acceptor.all;
   begun : l.acceptor.begun ≡ l.fn.acceptor.begun;
   told : (g.L.Listener.listening l.listener).accepted ≡ (g.L.Listener.listening l.fn.listener).accepted;

@@ -8,7 +8,7 @@ loop-rest-init g c = record {
   events = refl;
   ticks = refl;
   reports = record { reports = refl; room = omega arith; still = λ report e. e };
-  keeps = keeps_self g.C.Collector.holds g.C.Collector.stays _;
+  keeps = keeps_self g.C.ReportTaker.holds g.C.ReportTaker.stays _;
 }
 
 pub loop-rest-preserved : goal.loop-rest-preserved
@@ -22,7 +22,7 @@ loop-rest-preserved g c =
       events = parts_on _ _ _ _ c.loop-rest.rest.now _ done.events split.front split.back ∙ was.events;
       ticks = done.ticks ∙ was.ticks;
       reports = record { reports = done.reports.reports ∙ was.reports.reports; room = omega (arith, room, room2); still = λ report e. done.reports.still report (was.reports.still report e) };
-      keeps = keeps_on g.C.Collector.holds g.C.Collector.stays _ _ _ was.keeps done.keeps;
+      keeps = keeps_on g.C.ReportTaker.holds g.C.ReportTaker.stays _ _ _ was.keeps done.keeps;
     }
 
 pub returns-clause-events : goal.returns-clause-events

@@ -23,8 +23,8 @@ run-stop-requires-clause-accepting g c κs within =
     let link = link_of read_half write_half given shown may moves shared.book.now shared.plan.now in
     first_accepting _ _ _ _ _ shared.lock.now shared.book.now _
     (subst (λ (r : Root). IsFresh shared.lock.now r) (sym made.root) c.requires.fresh) made.begun made.live made.all
-    (rw made.collector c.requires.empty) (λ host. rw made.collector c.requires.no_event)
-    (λ k admitted report for_it talked by. rw made.collector (c.requires.expects k (shown_admitted read_half write_half given admitted) report (link k admitted report for_it talked by)))
+    (rw made.taker c.requires.empty) (λ host. rw made.taker c.requires.no_event)
+    (λ k admitted report for_it talked by. rw made.taker (c.requires.expects k (shown_admitted read_half write_half given admitted) report (link k admitted report for_it talked by)))
     (subst (λ (next : Option ℕ). IfSome next (λ n. n ≡ length (opening_of shared.lock.now).events)) (sym made.handed) c.requires.handed)
 
 pub returns-clause-hosted : goal.returns-clause-hosted
@@ -74,6 +74,6 @@ returns-clause-ports g c = c.run-stop.ensures.halted.same_ports
 pub returns-clause-keeps : goal.returns-clause-keeps
 returns-clause-keeps g c =
     let made = c.new-first.ensures in
-    let first = rw made.collector at c.run-stop.ensures.keeps in
+    let first = rw made.taker at c.run-stop.ensures.keeps in
     let then = c.end_all.ensures.keeps in
     (λ held. then.0 (first.0 held), then.1 ∙ first.1)

@@ -21,8 +21,8 @@ accept_links-stop-requires-clause-accepting g c κs within =
     let link = link_of read_half write_half given shown may moves shared.book.now shared.plan.now in
     first_accepting _ _ _ _ _ shared.lock.now shared.book.now _
     (subst (λ (r : Root). IsFresh shared.lock.now r) (sym made.root) c.requires.fresh) made.begun made.live made.all
-    (rw made.collector c.requires.empty) (λ host. absurd (true≢false (sym made.keeps ∙ host)))
-    (λ k admitted report for_it talked by. rw made.collector (c.requires.expects k (shown_admitted read_half write_half given admitted) report (link k admitted report for_it talked by)))
+    (rw made.taker c.requires.empty) (λ host. absurd (true≢false (sym made.keeps ∙ host)))
+    (λ k admitted report for_it talked by. rw made.taker (c.requires.expects k (shown_admitted read_half write_half given admitted) report (link k admitted report for_it talked by)))
     (subst (λ (next : Option ℕ). IfSome next (λ n. n ≡ length (opening_of shared.lock.now).events)) (sym made.handed) tt)
 
 pub returns-clause-served : goal.returns-clause-served

@@ -22,7 +22,7 @@ returns-clause-hosts g c seed asked are =
     (prints_all c.args.parts.recording asked.output _ c.args.parts.space c.args.parts.first _ _ _ _ _ _ c.host_links-hosted.result.hosted _ are.recording are.space are.first
     c.open_sinks-first.ensures.printed c.host_links-hosted.ensures.printed c.close_output.ensures.ends)
     c.open_sinks-first.ensures.told
-    (subst (λ (s : SinkState). Goes (g.E.Sink.half c.open_sinks-first.new.errors) (g.E.Sink.half c.host_links-hosted.new.host.errors) (told_lines c.host_links-hosted.result.hosted.collector.reports) c.open_sinks-first.result.told s)
+    (subst (λ (s : SinkState). Goes (g.E.Sink.half c.open_sinks-first.new.errors) (g.E.Sink.half c.host_links-hosted.new.host.errors) (told_lines c.host_links-hosted.result.hosted.taker.reports) c.open_sinks-first.result.told s)
     (sym c.close_output.ensures.told) c.host_links-hosted.ensures.told)
 
 pub returns-then-is_err-clause-hosts : goal.returns-then-is_err-clause-hosts
@@ -34,14 +34,14 @@ returns-then-is_err-clause-hosts g c seed asked are =
 pub returns-clause-known : goal.returns-clause-known
 returns-clause-known g c =
     let left = c.host_links-hosted.result in
-    let ends = closed_printed c.args.parts.recording c.args.parts.first (recorded_lines c.args.parts.recording c.args.parts.space left.hosted.collector.events) _ _ _ _ _ _ _ _
+    let ends = closed_printed c.args.parts.recording c.args.parts.first (recorded_lines c.args.parts.recording c.args.parts.space left.hosted.taker.events) _ _ _ _ _ _ _ _
     c.open_sinks-first.ensures.printed c.host_links-hosted.ensures.printed c.close_output.ensures.ends in
     known_end _ _ _ ends.0 _ ends.1 ends.2
 
 pub returns-clause-write_fault : goal.returns-clause-write_fault
 returns-clause-write_fault g c =
     let left = c.host_links-hosted.result in
-    let ends = closed_printed c.args.parts.recording c.args.parts.first (recorded_lines c.args.parts.recording c.args.parts.space left.hosted.collector.events) _ _ _ _ _ _ _ _
+    let ends = closed_printed c.args.parts.recording c.args.parts.first (recorded_lines c.args.parts.recording c.args.parts.space left.hosted.taker.events) _ _ _ _ _ _ _ _
     c.open_sinks-first.ensures.printed c.host_links-hosted.ensures.printed c.close_output.ensures.ends in
     failed_end _ _ _ ends.0 _ ends.1 ends.2
 
@@ -50,7 +50,7 @@ returns-clause-fault g c is =
     let before = g.L.Listener.listening c.args.host.now.listener in
     let heard = g.L.Listener.listening c.listen.new.self in
     let left = c.host_links-hosted.result in
-    let ends = closed_printed c.args.parts.recording c.args.parts.first (recorded_lines c.args.parts.recording c.args.parts.space left.hosted.collector.events) _ _ _ _ _ _ _ _
+    let ends = closed_printed c.args.parts.recording c.args.parts.first (recorded_lines c.args.parts.recording c.args.parts.space left.hosted.taker.events) _ _ _ _ _ _ _ _
     c.open_sinks-first.ensures.printed c.host_links-hosted.ensures.printed c.close_output.ensures.ends in
     let more = listened before heard _ _ _ c.listen.ensures.listens in
     let rose = c.host_links-hosted.ensures.fault (deaf_end _ _ _ ends.0 _ ends.1 ends.2 is) in
@@ -64,7 +64,7 @@ returns-clause-open g c =
     let left = c.host_links-hosted.result in
     let first = c.args.parts.first in
     c.close_output.ensures.open
-    ∙ goes_shut mid new (recorded_lines c.args.parts.recording c.args.parts.space left.hosted.collector.events) c.open_sinks-first.result.printed left.states.printed c.host_links-hosted.ensures.printed
+    ∙ goes_shut mid new (recorded_lines c.args.parts.recording c.args.parts.space left.hosted.taker.events) c.open_sinks-first.result.printed left.states.printed c.host_links-hosted.ensures.printed
     ∙ goes_shut old mid (first ∷ []) Whole c.open_sinks-first.result.printed (one_text old mid first c.open_sinks-first.result.printed c.open_sinks-first.ensures.printed)
 
 pub returns-clause-errors_open : goal.returns-clause-errors_open
@@ -73,5 +73,5 @@ returns-clause-errors_open g c =
     let mid = g.E.Sink.half c.open_sinks-first.new.errors in
     let new = g.E.Sink.half c.host_links-hosted.new.host.errors in
     let left = c.host_links-hosted.result in
-    goes_shut mid new (told_lines left.hosted.collector.reports) c.open_sinks-first.result.told left.states.told c.host_links-hosted.ensures.told
+    goes_shut mid new (told_lines left.hosted.taker.reports) c.open_sinks-first.result.told left.states.told c.host_links-hosted.ensures.told
     ∙ goes_shut old mid (listening_line c.args.parts.address c.args.parts.port ∷ []) Whole c.open_sinks-first.result.told c.open_sinks-first.ensures.told

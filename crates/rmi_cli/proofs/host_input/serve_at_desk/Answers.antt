@@ -1,5 +1,5 @@
 use Rattle.std.proofs.Common.{◌∙◌, ap, sym}
-use Rattle.rmi_cli.specs.Desk.{DeskStays, collected_of}
+use Rattle.rmi_cli.specs.Desk.{DeskStays, taken_of}
 use Rattle.rmi_cli.proofs.Hosting.{hosts_from, hosts_given}
 use Rattle.rmi_cli.proofs.Recording.{desk_starts, desk_told, desk_untold, desk_wrote}
 use Rattle.rmi_cli.proofs.host_input.serve_at_desk.Goals as goal
@@ -7,7 +7,7 @@ use Rattle.rmi_cli.proofs.host_input.serve_at_desk.Goals as goal
 pub returns-clause-links : goal.returns-clause-links
 returns-clause-links g c seed asked are =
     hosts_from _ _ _ _ seed asked c.args.begun.parts _ _ _ _ _ are c.requires
-    (hosts_given _ _ _ _ seed (λ d. collected_of d.given) _ _ _ _ _ _ _ c.host-served.result _ (ap collected_of (sym c.take_apart.ensures.given)) c.take_apart.ensures.rest c.host-served.ensures.hosts)
+    (hosts_given _ _ _ _ seed (λ d. taken_of d.given) _ _ _ _ _ _ _ c.host-served.result _ (ap taken_of (sym c.take_apart.ensures.given)) c.take_apart.ensures.rest c.host-served.ensures.hosts)
 
 pub returns-clause-printed : goal.returns-clause-printed
 returns-clause-printed g c =

@@ -16,8 +16,8 @@ returns-in-Some-take_recent-clause-accepting g c =
     let seen = (learns_gained (view_of a.root.pass) (view_of c.take_recent.new.self.pass) [] t.went.views).seen in
     tick_accepting _ _ _ _ _ shared.lock.now shared.book.now a _ [] c.requires.accepting t.root t.counts.0 t.counts.1 t.went.views (given.ticks ∙ sym (append-nil _)) given.reports refl refl refl
     (λ host. handed_more shared.lock.now (view_of a.root.pass) (view_of c.take_recent.new.self.pass) _ _ _ _ _
-    (subst (λ (o : Option ℕ). AreHanded shared.lock.now (view_of a.root.pass) (g.C.Collector.collected a.collector).events o) c.in-Some.is (c.requires.accepting.handed_on host)) seen c.in-Some-take_recent.ensures.recent
-    (given.events ∙ ap (λ l. (g.C.Collector.collected a.collector).events ++ l) c.as_slice.ensures) (place_same _ _ _ (ap (λ n. c.in-Some.from + n) c.len.ensures) c.place_behind-self.ensures.place))
+    (subst (λ (o : Option ℕ). AreHanded shared.lock.now (view_of a.root.pass) (g.C.ReportTaker.taken a.taker).events o) c.in-Some.is (c.requires.accepting.handed_on host)) seen c.in-Some-take_recent.ensures.recent
+    (given.events ∙ ap (λ l. (g.C.ReportTaker.taken a.taker).events ++ l) c.as_slice.ensures) (place_same _ _ _ (ap (λ n. c.in-Some.from + n) c.len.ensures) c.place_behind-self.ensures.place))
 
 pub returns-in-None-clause-accepting : goal.returns-in-None-clause-accepting
 returns-in-None-clause-accepting g c =

@@ -32,7 +32,7 @@ put-requires g c =
     let f = found_live _ _ _ _ _ shared.lock.now shared.book.now c.args.self.now c.args.place c.remove-by.result c.requires.accepting c.requires.there c.remove-by.ensures.value in
     let number = f.begun.number in
     let from = c.from.ensures in
-    number_left _ _ _ g.C.Collector.collected g.C.Collector.expects shared.lock.now shared.book.now c.args.self.now c.args.place (c.from.result - 1) c.remove-by.result f (omega (arith, number, from))
+    number_left _ _ _ g.C.ReportTaker.taken g.C.ReportTaker.expects shared.lock.now shared.book.now c.args.self.now c.args.place (c.from.result - 1) c.remove-by.result f (omega (arith, number, from))
 
 pub ended-requires-clause-expected : goal.ended-requires-clause-expected
 ended-requires-clause-expected g c =
@@ -63,7 +63,7 @@ returns-clause-links g c =
     let f = found_live _ _ _ _ _ shared.lock.now shared.book.now c.args.self.now c.args.place x c.requires.accepting c.requires.there c.remove-by.ensures.value in
     let number = f.begun.number in
     let from = c.from.ensures in
-    settled_tasks _ _ _ g.C.Collector.collected g.C.Collector.expects shared.lock.now shared.book.now (λ s. shown_admitted g.I.Source.half g.O.Sink.half g.T.Clock.given (task_of s).admitted) c.args.self.now c.args.place (c.from.result - 1) x (Ended c.of.result) c.put.new.self f
+    settled_tasks _ _ _ g.C.ReportTaker.taken g.C.ReportTaker.expects shared.lock.now shared.book.now (λ s. shown_admitted g.I.Source.half g.O.Sink.half g.T.Clock.given (task_of s).admitted) c.args.self.now c.args.place (c.from.result - 1) x (Ended c.of.result) c.put.new.self f
     (omega (arith, number, from)) c.put.ensures refl
 
 pub returns-clause-follows : goal.returns-clause-follows

@@ -19,7 +19,7 @@ returns-clause-accepting g c =
     (handed_at_turn _ _ _ _ _ shared.lock.now shared.book.now c.args.self.now _ entries _ _ c.requires.accepting t.went.views c.hand_entry.ensures.events refl)
 
 pub returns-clause-ticks : goal.returns-clause-ticks
-returns-clause-ticks g c = kept_there (λ k. k.value) (g.C.Collector.collected c.args.self.now.collector).ticks _ c.tick-entry.result c.hand_entry.result c.hand_entry.ensures.known c.hand_entry.ensures.items
+returns-clause-ticks g c = kept_there (λ k. k.value) (g.C.ReportTaker.taken c.args.self.now.taker).ticks _ c.tick-entry.result c.hand_entry.result c.hand_entry.ensures.known c.hand_entry.ensures.items
 
 pub returns-clause-asked : goal.returns-clause-asked
 returns-clause-asked g c = known_there (λ k. k.value) (λ entry. entry.ask ≡ Tick) c.tick-entry.result c.hand_entry.result c.hand_entry.ensures.known c.tick-entry.ensures.asked

@@ -16,7 +16,7 @@ returns-clause-hosts g c =
     let s = c.scoped-left.ensures.1.1.1.0 in
     let o = c.scoped-left.result.2 in
     let closed = c.close_host in
-    let ticks = (g.C.Collector.collected o.collector).ticks in
+    let ticks = (g.C.ReportTaker.taken o.taker).ticks in
     let h = closed.result.space in
     let settled = closed.ensures.settled in
     record {

@@ -10,7 +10,7 @@ pub returns-clause-given : goal.returns-clause-given
 returns-clause-given g c =
     let s = c.scoped-left.ensures.1.1.0 in
     let o = c.scoped-left.result.1 in
-    let ticks = (g.C.Collector.collected o.collector).ticks in
+    let ticks = (g.C.ReportTaker.taken o.taker).ticks in
     let h = c.close.result in
     let settled = c.close.ensures.settled in
     record {

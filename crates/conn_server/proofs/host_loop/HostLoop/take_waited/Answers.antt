@@ -12,7 +12,7 @@ admit-requires-clause-few g c κs within =
 
 pub returns-in-Some : goal.returns-in-Some
 returns-in-Some g c = record {
-  keeps = keeps_on g.C.Collector.holds g.C.Collector.stays _ _ _ c.catch_up.ensures.keeps c.admit.ensures.keeps;
+  keeps = keeps_on g.C.ReportTaker.holds g.C.ReportTaker.stays _ _ _ c.catch_up.ensures.keeps c.admit.ensures.keeps;
   goes_on = λ l0 l1 l2 gave_first h w ports.
       let joined = c.catch_up.ensures in
       let few = c.requires.few in
@@ -27,7 +27,7 @@ returns-in-Some g c = record {
 
 pub returns-in-None : goal.returns-in-None
 returns-in-None g c = record {
-  keeps = keeps_on g.C.Collector.holds g.C.Collector.stays _ _ _ c.catch_up.ensures.keeps c.admit.ensures.keeps;
+  keeps = keeps_on g.C.ReportTaker.holds g.C.ReportTaker.stays _ _ _ c.catch_up.ensures.keeps c.admit.ensures.keeps;
   goes_on = λ l0 l1 l2 gave_first h w ports.
       let joined = c.catch_up.ensures in
       let few = c.requires.few in
@@ -42,7 +42,7 @@ returns-in-None g c = record {
 
 pub returns-in-Quiet : goal.returns-in-Quiet
 returns-in-Quiet g c = record {
-  keeps = keeps_on g.C.Collector.holds g.C.Collector.stays _ _ _ c.catch_up.ensures.keeps c.tick_quietly.ensures.keeps;
+  keeps = keeps_on g.C.ReportTaker.holds g.C.ReportTaker.stays _ _ _ c.catch_up.ensures.keeps c.tick_quietly.ensures.keeps;
   goes_on = λ l0 l1 l2 gave_first h w ports.
       let joined = c.catch_up.ensures in
       let quiet = c.tick_quietly.ensures in

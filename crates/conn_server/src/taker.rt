@@ -2,8 +2,8 @@
 ghost use Rattle.std.specs.Prelude.{◌≡◌, ◌+◌, ◌<◌, ◌≤◌, List, [], ◌∷◌, ◌++◌, length, MatchBool};
 ghost use Rattle.std.specs.List.Sorted.{IsNonDecreasingBy, IsPermutation};
 ghost use Rattle.space.specs.declared.asked.Asked.{Asked};
-ghost use Rattle.conn_server.specs.Collects.{Collected, Keeps, SameAll, SameReports};
-ghost use Rattle.conn_server.specs.declared.collector.TheConstants.{MAX_PART};
+ghost use Rattle.conn_server.specs.Taken.{Taken, Keeps, SameAll, SameReports};
+ghost use Rattle.conn_server.specs.declared.taker.TheConstants.{MAX_PART};
 
 use crate::link_task::LinkReport;
 use history::Event;
@@ -11,14 +11,14 @@ use past::Past;
 use space::Asked;
 use std::alloc::Global;
 
-/// The most events that a collector is given at once.
+/// The most events that a taker is given at once.
 pub const MAX_PART: usize = 4_096;
 
 /// Takes the reports of links, each when its link has ended, the entries of the server's own turns, and the events of the one history, where
 /// the server hands them on.
-pub trait Collector<R>: Drop {
+pub trait ReportTaker<R>: Drop {
     // The reports, the entries and the events that it was given, each in the order of giving, and how many reports and entries it has room for in all.
-    ghost collected: { Self → Collected R };
+    ghost taken: { Self → Taken R };
 
     // Which reports it may be given.
     ghost expects: { Self → R → Type 0 };
@@ -33,48 +33,48 @@ pub trait Collector<R>: Drop {
 
     /// Makes room for so many further reports and one further entry. False where there is no memory for that.
     fn reserve(&mut self, reports: usize) -> bool
-        ensures reports { SameReports collected expects self.old self.new }
-        ensures ticks { (collected self.new).ticks ≡ (collected self.old).ticks }
-        ensures events { (collected self.new).events ≡ (collected self.old).events }
+        ensures reports { SameReports taken expects self.old self.new }
+        ensures ticks { (taken self.new).ticks ≡ (taken self.old).ticks }
+        ensures events { (taken self.new).events ≡ (taken self.old).events }
         ensures room { MatchBool result
-            (length (collected self.new).reports + reports ≤ (collected self.new).report_limit)
+            (length (taken self.new).reports + reports ≤ (taken self.new).report_limit)
             (Unit {0}) }
         ensures tick_room { MatchBool result
-            (length (collected self.new).ticks < (collected self.new).tick_limit)
+            (length (taken self.new).ticks < (taken self.new).tick_limit)
             (Unit {0}) }
         ensures keeps { Keeps holds stays self.old self.new };
 
     /// Is told that the link of this number begins. Its report comes once it has ended.
     fn began(&mut self, by: u32)
-        ensures same { SameAll collected expects self.old self.new }
+        ensures same { SameAll taken expects self.old self.new }
         ensures keeps { Keeps holds stays self.old self.new };
 
     /// Takes the report of a link that has ended.
     fn ended(&mut self, report: R)
         requires expected { expects self.old report }
-        requires room { length (collected self.old).reports < (collected self.old).report_limit }
-        ensures reports { (collected self.new).reports ≡ (collected self.old).reports ++ report ∷ [] }
-        ensures ticks { (collected self.new).ticks ≡ (collected self.old).ticks }
-        ensures events { (collected self.new).events ≡ (collected self.old).events }
-        ensures room { (collected self.old).report_limit ≤ (collected self.new).report_limit }
+        requires room { length (taken self.old).reports < (taken self.old).report_limit }
+        ensures reports { (taken self.new).reports ≡ (taken self.old).reports ++ report ∷ [] }
+        ensures ticks { (taken self.new).ticks ≡ (taken self.old).ticks }
+        ensures events { (taken self.new).events ≡ (taken self.old).events }
+        ensures room { (taken self.old).report_limit ≤ (taken self.new).report_limit }
         ensures expects { (other : R) → expects self.old other → expects self.new other }
         ensures keeps { Keeps holds stays self.old self.new };
 
     /// Takes the entry of a turn of the server's own.
     fn ticked(&mut self, entry: Asked)
-        requires room { length (collected self.old).ticks < (collected self.old).tick_limit }
-        ensures ticks { (collected self.new).ticks ≡ (collected self.old).ticks ++ entry ∷ [] }
-        ensures events { (collected self.new).events ≡ (collected self.old).events }
-        ensures reports { SameReports collected expects self.old self.new }
+        requires room { length (taken self.old).ticks < (taken self.old).tick_limit }
+        ensures ticks { (taken self.new).ticks ≡ (taken self.old).ticks ++ entry ∷ [] }
+        ensures events { (taken self.new).events ≡ (taken self.old).events }
+        ensures reports { SameReports taken expects self.old self.new }
         ensures keeps { Keeps holds stays self.old self.new };
 
     /// Takes the next events of the one history, in their order.
     fn record(&mut self, part: &[Event])
         requires few { length part.now ≤ MAX_PART }
-        ensures events { (collected self.new).events ≡ (collected self.old).events ++ part.now }
-        ensures ticks { (collected self.new).ticks ≡ (collected self.old).ticks }
-        ensures tick_room { (collected self.old).tick_limit ≤ (collected self.new).tick_limit }
-        ensures reports { SameReports collected expects self.old self.new }
+        ensures events { (taken self.new).events ≡ (taken self.old).events ++ part.now }
+        ensures ticks { (taken self.new).ticks ≡ (taken self.old).ticks }
+        ensures tick_room { (taken self.old).tick_limit ≤ (taken self.new).tick_limit }
+        ensures reports { SameReports taken expects self.old self.new }
         ensures keeps { Keeps holds stays self.old self.new };
 }
 
@@ -135,11 +135,11 @@ impl<I: Drop, O: Drop, T: Drop, H: Drop> KeepsReports<I, O, T, H> {
     }
 }
 
-impl<I: Drop, O: Drop, T: Drop, H: Drop> Collector<LinkReport<I, O, T, H>>
+impl<I: Drop, O: Drop, T: Drop, H: Drop> ReportTaker<LinkReport<I, O, T, H>>
     for KeepsReports<I, O, T, H> {
     ghost use Rattle.std.specs.Prelude.{vec_capacity};
 
-    ghost collected = { λ k. record {
+    ghost taken = { λ k. record {
       reports = k.reports.items;
       ticks = k.ticks.items;
       events = k.events;
@@ -189,10 +189,10 @@ impl<R: Drop> DropsReports<R> {
     }
 }
 
-impl<R: Drop> Collector<R> for DropsReports<R> {
+impl<R: Drop> ReportTaker<R> for DropsReports<R> {
     ghost use Rattle.std.specs.Prelude.{◌+◌, ◌^◌, length};
 
-    ghost collected = { λ d. record {
+    ghost taken = { λ d. record {
       reports = d.reports;
       ticks = d.ticks;
       events = d.events;

@@ -14,7 +14,7 @@ loop-init g c =
 pub loop-preserved : goal.loop-preserved
 loop-preserved g c = record {
   is = rw c.in-None-step.is at (c.step.ensures.goes_on (g.L.Listener.listening c.args.listener.now) (g.Q.Clock.given c.args.ticks.now) c.loop.invariant.is);
-  keeps = keeps_on g.C.Collector.holds g.C.Collector.stays _ _ _ c.loop.invariant.keeps c.step.ensures.keeps;
+  keeps = keeps_on g.C.ReportTaker.holds g.C.ReportTaker.stays _ _ _ c.loop.invariant.keeps c.step.ensures.keeps;
 }
 
 pub returns-in-Some-step-clause-halted : goal.returns-in-Some-step-clause-halted
