@@ -1,7 +1,7 @@
 use Rattle.std.proofs.Common.{refl}
 use Rattle.conn_server.proofs.Hosting.{hosting_first}
 use Rattle.conn_server.proofs.Keeping.{keeps_on}
-use Rattle.conn_server.proofs.host_loop.Host.run.Goals as goal
+use Rattle.conn_server.proofs.host_loop.HostLoop.run.Goals as goal
 
 pub loop-init : goal.loop-init
 loop-init g c =

@@ -1,7 +1,7 @@
 use Rattle.std.proofs.Common.{arith, refl}
 use Rattle.conn_server.specs.declared.accept_loop.Stop.TheVariants.{AcceptFault}
 use Rattle.conn_server.proofs.Hosting.{halted_none, hosting_joined}
-use Rattle.conn_server.proofs.host_loop.Host.step.Goals as goal
+use Rattle.conn_server.proofs.host_loop.HostLoop.step.Goals as goal
 
 pub returns-in-Ok : goal.returns-in-Ok
 returns-in-Ok g c = record {
