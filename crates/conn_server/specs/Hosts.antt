@@ -47,6 +47,13 @@ pub record IsHosting {I O T H C : Type 0} (read_half : I → ReadHalf) (write_ha
   pub same_told : l1.told ≡ l0.told
   pub same_ports : l1.ports ≡ l0.ports
 
+-- A listener gave no link between two moments, and wasn't told to stop. It may have failed.
+pub record IsLike (l1 l2 : Listening) : Type 0 where
+  pub accepted : l2.accepted ≡ l1.accepted
+  pub faults : l1.faults ≤ l2.faults
+  pub same_told : l2.told ≡ l1.told
+  pub same_ports : l2.ports ≡ l1.ports
+
 -- No more links are accepted.
 pub record IsHalted {I O T H C : Type 0} (read_half : I → ReadHalf) (write_half : O → WriteHalf) (given : T → Option (List ℕ)) (shown : H → WorkerState) (may : Invocation → Outcome → Type 0) (moves : States → Call → States → Type 0)
     (taken : C → Taken (LinkReport I O T H)) (expects : C → LinkReport I O T H → Type 0) (lock : TurnLock) (kinds : List Kind) (plan : ServePlan) (l0 l1 : Listening) (gave_first gave_last : Option (List ℕ))
