@@ -301,7 +301,7 @@ impl<
             H.shown C.taken C.expects shared.now.lock.now shared.now.book.now self.old.acceptor }
         requires fresh { (self.old.acceptor.all ≡ [])
             × ((C.taken self.old.acceptor.taker).ticks ≡ []) }
-        requires handless { self.old.own.hand ≡ None }
+        requires unused { (self.old.own.hand ≡ None) × (self.old.own.missed ≡ false) }
         requires hosts { self.old.acceptor.keeps ≡ false }
         ensures keeps { Keeps C.holds C.stays self.old.acceptor.taker self.new.acceptor.taker }
         ensures halted { IsHalted I.half O.half T.given H.shown H.may H.moves C.taken C.expects
