@@ -1,6 +1,6 @@
 use Rattle.std.proofs.Common.{refl}
 use Rattle.rmi_cli.proofs.Recording.{records_more, records_none}
-use Rattle.rmi_cli.proofs.host_desk.HostDeskLinkReportVecLinkStartCollectorLinkReport.record.Goals as goal
+use Rattle.rmi_cli.proofs.host_desk.HostDeskLinkReportVecLinkStartReportTakerLinkReport.record.Goals as goal
 
 pub returns-in-Silent-clause-keeps : goal.returns-in-Silent-clause-keeps
 returns-in-Silent-clause-keeps g c = (λ held. (records_none _ _ _ _ c.args.self.now.given.events _ _ _ c.in-Silent.is held.0, held.1), refl)

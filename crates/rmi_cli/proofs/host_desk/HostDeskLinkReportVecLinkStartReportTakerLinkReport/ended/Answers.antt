@@ -1,6 +1,6 @@
 use Rattle.std.proofs.Common.{refl}
 use Rattle.rmi_cli.proofs.Recording.{tells_more}
-use Rattle.rmi_cli.proofs.host_desk.HostDeskLinkReportVecLinkStartCollectorLinkReport.ended.Goals as goal
+use Rattle.rmi_cli.proofs.host_desk.HostDeskLinkReportVecLinkStartReportTakerLinkReport.ended.Goals as goal
 
 pub returns-clause-keeps : goal.returns-clause-keeps
 returns-clause-keeps g c = (
