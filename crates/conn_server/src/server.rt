@@ -74,7 +74,7 @@ pub struct HostJoined<I, O, T, C, H> {
 #[derive(Drop)]
 pub struct Hosted<I, O, T, C, H> {
     /// The taker, which was given the report of each link that was served, and the entries of the server's own turns, which are Ticks: one
-    /// before each of these links, and those of the seconds without a link.
+    /// before each of these links, and those at looks at the host's clock.
     pub taker: C,
     /// Why no more links were accepted.
     pub stop: Stop,
@@ -85,9 +85,9 @@ pub struct Hosted<I, O, T, C, H> {
     /// True where the taker was given all events of the space after the opening's. False means that there was no memory to hand them on, or that the host
     /// or its lock doesn't record.
     pub whole: bool,
-    /// The hand of number 0, which was told what the Ticks of seconds without a link withdrew, where there was one.
+    /// The hand of number 0, which was told what the Ticks at looks at the host's clock withdrew, where there was one.
     pub hand: Option<H>,
-    /// True where there was no memory, in a second without a link, for that hand, for the entry of a Tick or for a Tick that was due.
+    /// True where there was no memory, when the host looked at its clock, for that hand, for the entry of a Tick or for a Tick that was due.
     pub tick_missed: bool,
 }
 
@@ -495,23 +495,29 @@ impl<'s, R: Threads + Wait + Sync, G: Crew> Server<'s, R, G> {
     }
 
     /// Serves links until the listener is told to stop, each as [`Server::serve`] does, and hands the report of each to a taker as the link has
-    /// ended. Links in all are at most the plan's count, and 8,192 are live at once: before another is accepted, one of them ends.
+    /// ended. Links in all are at most the plan's count, and at most `most_live` of the beginning are live at once.
     ///
     /// In each second without a link, threads of links that have ended are joined. Where a lease or a wait for an acknowledgement has ended at a
-    /// moment of `ticks`, a Tick is made as connection 0. The hand of number 0 is told of each object that it withdraws; it is made in the first such
-    /// second in which there is memory for it. A second in which there is no memory for that hand or for the Tick passes without one, and the result
+    /// moment of `ticks`, a Tick is made as connection 0. The hand of number 0 is told of each object that it withdraws; it is made at the first such
+    /// moment at which there is memory for it. Where there is no memory for that hand or for the Tick, the moment passes without one, and the result
     /// says so.
+    ///
+    /// While as many links are live as may be, none is accepted. Every 50 milliseconds, or as a link ends, the host then looks whether the listener was
+    /// told to stop, and does what it does in a second without a link. It does the same while the listener fails: it asks it again as long as a
+    /// link is live, and 60 times more, which takes three seconds.
     ///
     /// Where the beginning says so, the taker is given the events of the space after the opening's, in their order and in parts of at most 4,096.
     /// It is given those that there are each time that the listener answers, which is at least once a second, and the rest after the last link. Where
-    /// there is no memory to hand them out, they come with the next ones.
+    /// there is no memory to hand them out, they come with the next ones. Once the lock is crowded with events, they are handed on every 10
+    /// milliseconds, for a second at most; then the listener is asked again.
     ///
     /// Where no thread can be started for a link, the accepting thread serves it: until that link ends no events are handed on, and no stop is seen.
     ///
     /// The reports of links have the entries of their turns in proofs alone. So a link takes no more memory with each call.
     ///
-    /// The stop is Told where the listener was told to: the links that are live are served to their ends, and all threads are joined. It is All
-    /// where the plan's count of links was served, AcceptFault only where the listener's count of faults rose, and OutOfMemory as in `serve`.
+    /// The stop is Told where the listener was told to. It is All where the plan's count of links was served, AcceptFault only where the listener's count
+    /// of faults rose, and OutOfMemory as in `serve`. In each case the listener is closed (`Listener::close`), so that the system refuses new clients, and
+    /// live links end soon where the listener can tell them to. Links are served to their ends, and all threads are joined.
     ///
     /// Its conditions: those of `serve_with`, but for the count, which may be any, and a taker that was given no event yet.
     pub fn host<
@@ -535,9 +541,9 @@ impl<'s, R: Threads + Wait + Sync, G: Crew> Server<'s, R, G> {
             self.now.book.now plan.now)
             C.expects begin.taker }
 
-        // As `serve_with`, where the server's own turns are the Ticks before links and those of quiet seconds, at moments of `ticks`, whose hand was told
-        // what they withdrew. A quiet second passes without a Tick only where nothing had ended, or where the result says that a Tick was missed. The events
-        // that the taker was given are the first after the opening's, and all where the result says so.
+        // As `serve_with`, where the server's own turns are the Ticks before links and those at looks at `ticks`, whose hand was told what they withdrew. A
+        // look has a Tick only where something had ended. It has none only where nothing had ended, or where the result says that a Tick was missed.
+        // The events that the taker was given are the first after the opening's, and all where the result says so.
         ensures hosts { HostsLinks
             (IsLinkOf L.In.half L.Out.half L.Ticks.given G.Hand.shown G.Hand.may G.Hand.moves
             self.now.book.now plan.now)
