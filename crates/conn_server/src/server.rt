@@ -441,15 +441,54 @@ impl<'s, R: Threads + Wait + Sync, G: Crew> Server<'s, R, G> {
         ensures all { (¬ Rose (L.listening listener.old).faults (L.listening listener.new).faults)
             → (result.stop ≡ Stop.All) ⊎ (result.stop ≡ Stop.OutOfMemory) }
     {
+        let AllJoined {
+            root,
+            taker,
+            stop,
+            lost,
+        } = self.serve_links(listener, &lock, begin, plan);
+        Served {
+            taker,
+            stop,
+            lost,
+            space: lock.close(root),
+        }
+    }
+
+    /// Serves links at a lock by threads of a scope, and gives what remains once all of these were joined.
+    fn serve_links<L: Listener, C: ReportTaker<LinkReport<L::In, L::Out, L::Ticks, G::Hand>>>(
+        &self,
+        listener: &mut L,
+        lock: &TurnLock,
+        begin: Begin<C>,
+        plan: &ServePlan,
+    ) -> AllJoined<L::In, L::Out, L::Ticks, C>
+        requires fresh { IsFresh lock.now begin.root }
+        requires few { plan.now.count ≤ MAX_LINKS }
+        requires host { length (utf plan.now.host) ≤ MAX_HOST_BYTES }
+        requires empty { IsEmpty (C.taken begin.taker) }
+        requires expects { ExpectsLinks
+            (IsLinkOf L.In.half L.Out.half L.Ticks.given G.Hand.shown G.Hand.may G.Hand.moves
+            self.now.book.now plan.now)
+            C.expects begin.taker }
+        ensures served { IsServed
+            (IsLinkOf L.In.half L.Out.half L.Ticks.given G.Hand.shown G.Hand.may G.Hand.moves
+            self.now.book.now plan.now)
+            (IsLostLink L.In.half L.Out.half L.Ticks.given)
+            C.taken lock.now plan.now.count
+            (L.listening listener.old).accepted (L.listening listener.new).accepted result }
+        ensures fault { result.stop ≡ Stop.AcceptFault → Rose (L.listening listener.old).faults (L.listening listener.new).faults }
+        ensures faults { (L.listening listener.old).faults ≤ (L.listening listener.new).faults }
+        ensures ports { (L.listening listener.new).ports ≡ (L.listening listener.old).ports }
+    {
         let (rt, alloc, crew, book) = (self.rt, self.alloc, self.crew, self.book);
-        let shared_lock = &lock;
         let noted = EndedLinks::new(alloc);
         let ended = &noted;
         let (left, outcome) = thread::scope(
             thread::scope_env(),
             rt,
             move |scope| -> (&mut L, AllJoined<L::In, L::Out, L::Ticks, C>)
-                requires { IsFresh shared_lock.now begin.root × (plan.now.count ≤ MAX_LINKS)
+                requires { IsFresh lock.now begin.root × (plan.now.count ≤ MAX_LINKS)
                     × (length (utf plan.now.host) ≤ MAX_HOST_BYTES)
                     × IsEmpty (C.taken begin.taker)
                     × ExpectsLinks
@@ -461,7 +500,7 @@ impl<'s, R: Threads + Wait + Sync, G: Crew> Server<'s, R, G> {
                     (IsLinkOf L.In.half L.Out.half L.Ticks.given G.Hand.shown G.Hand.may G.Hand.moves
                     book.entry.now plan.entry.now)
                     (IsLostLink L.In.half L.Out.half L.Ticks.given)
-                    C.taken shared_lock.entry.now plan.entry.now.count
+                    C.taken lock.entry.now plan.entry.now.count
                     (L.listening listener.entry.now).accepted (L.listening result.0.now).accepted result.1 }
                 ensures fault { result.1.stop ≡ Stop.AcceptFault → Rose (L.listening listener.entry.now).faults (L.listening result.0.now).faults }
                 ensures faults { (L.listening listener.entry.now).faults ≤ (L.listening result.0.now).faults }
@@ -470,7 +509,7 @@ impl<'s, R: Threads + Wait + Sync, G: Crew> Server<'s, R, G> {
                 let shared = Shared {
                     rt,
                     alloc,
-                    lock: shared_lock,
+                    lock,
                     book,
                     plan,
                     ended,
@@ -480,18 +519,7 @@ impl<'s, R: Threads + Wait + Sync, G: Crew> Server<'s, R, G> {
             },
         );
         let _ = left;
-        let AllJoined {
-            root,
-            taker,
-            stop,
-            lost,
-        } = outcome;
-        Served {
-            taker,
-            stop,
-            lost,
-            space: lock.close(root),
-        }
+        outcome
     }
 
     /// Serves links until the listener is told to stop, each as [`Server::serve`] does, and hands the report of each to a taker as the link has
@@ -562,7 +590,6 @@ impl<'s, R: Threads + Wait + Sync, G: Crew> Server<'s, R, G> {
         ensures all { (¬ Rose (L.listening listener.old).faults (L.listening listener.new).faults)
             → (result.stop ≡ Stop.Told) ⊎ ((result.stop ≡ Stop.All) ⊎ (result.stop ≡ Stop.OutOfMemory)) }
     {
-        let (rt, alloc, crew, book) = (self.rt, self.alloc, self.crew, self.book);
         let HostBegin {
             root,
             taker,
@@ -572,11 +599,50 @@ impl<'s, R: Threads + Wait + Sync, G: Crew> Server<'s, R, G> {
         let begun = HostStart {
             root,
             taker,
-            crew,
+            crew: self.crew,
             handed: first_place(&lock, record),
             most_live,
         };
-        let shared_lock = &lock;
+        let joined = self.host_links(listener, ticks, &lock, begun, plan);
+        close_host(lock, joined, record)
+    }
+
+    /// Hosts links at a lock by threads of a scope, and gives what remains once all of these were joined.
+    fn host_links<
+        'c,
+        L: Listener,
+        Q: Clock,
+        C: ReportTaker<LinkReport<L::In, L::Out, L::Ticks, G::Hand>>,
+    >(
+        &self,
+        listener: &mut L,
+        ticks: &mut Q,
+        lock: &TurnLock,
+        begun: HostStart<'c, C, G>,
+        plan: &ServePlan,
+    ) -> HostJoined<L::In, L::Out, L::Ticks, C, G::Hand>
+        requires fresh { IsFresh lock.now begun.root }
+        requires host { length (utf plan.now.host) ≤ MAX_HOST_BYTES }
+        requires empty { IsEmpty (C.taken begun.taker) }
+        requires no_event { (C.taken begun.taker).events ≡ [] }
+        requires expects { ExpectsLinks
+            (IsLinkOf L.In.half L.Out.half L.Ticks.given G.Hand.shown G.Hand.may G.Hand.moves
+            self.now.book.now plan.now)
+            C.expects begun.taker }
+        requires handed { IfSome begun.handed (λ n. n ≡ length (opening_of lock.now).events) }
+        ensures keeps { Keeps C.holds C.stays begun.entry.taker result.taker }
+        ensures hosted { IsHosted
+            (IsLinkOf L.In.half L.Out.half L.Ticks.given G.Hand.shown G.Hand.may G.Hand.moves
+            self.now.book.now plan.now)
+            (IsLostLink L.In.half L.Out.half L.Ticks.given) G.Hand.shown G.Hand.moves
+            C.taken lock.now plan.now.count
+            (L.listening listener.old) (L.listening listener.new)
+            (Q.given ticks.old) (Q.given ticks.new) result }
+        ensures fault { result.stop ≡ Stop.AcceptFault → Rose (L.listening listener.old).faults (L.listening listener.new).faults }
+        ensures faults { (L.listening listener.old).faults ≤ (L.listening listener.new).faults }
+        ensures ports { (L.listening listener.new).ports ≡ (L.listening listener.old).ports }
+    {
+        let (rt, alloc, book) = (self.rt, self.alloc, self.book);
         let noted = EndedLinks::new(alloc);
         let ended = &noted;
         let (left, left_ticks, outcome) = thread::scope(
@@ -587,14 +653,14 @@ impl<'s, R: Threads + Wait + Sync, G: Crew> Server<'s, R, G> {
                 &mut Q,
                 HostJoined<L::In, L::Out, L::Ticks, C, G::Hand>,
             )
-                requires { IsFresh shared_lock.now begun.root × (length (utf plan.now.host) ≤ MAX_HOST_BYTES)
+                requires { IsFresh lock.now begun.root × (length (utf plan.now.host) ≤ MAX_HOST_BYTES)
                     × IsEmpty (C.taken begun.taker)
                     × ((C.taken begun.taker).events ≡ [])
                     × ExpectsLinks
                     (IsLinkOf L.In.half L.Out.half L.Ticks.given G.Hand.shown G.Hand.may G.Hand.moves
                     book.now plan.now)
                     C.expects begun.taker
-                    × IfSome begun.handed (λ n. n ≡ length (opening_of shared_lock.now).events) }
+                    × IfSome begun.handed (λ n. n ≡ length (opening_of lock.now).events) }
                 ensures left { (result.0.ghost_name ≡ listener.entry.ghost_name)
                     × (result.1.ghost_name ≡ ticks.entry.ghost_name) }
                 ensures keeps { Keeps C.holds C.stays begun.entry.taker result.2.taker }
@@ -602,7 +668,7 @@ impl<'s, R: Threads + Wait + Sync, G: Crew> Server<'s, R, G> {
                     (IsLinkOf L.In.half L.Out.half L.Ticks.given G.Hand.shown G.Hand.may G.Hand.moves
                     book.entry.now plan.entry.now)
                     (IsLostLink L.In.half L.Out.half L.Ticks.given) G.Hand.shown G.Hand.moves
-                    C.taken shared_lock.entry.now plan.entry.now.count
+                    C.taken lock.entry.now plan.entry.now.count
                     (L.listening listener.entry.now) (L.listening result.0.now)
                     (Q.given ticks.entry.now) (Q.given result.1.now) result.2 }
                 ensures fault { result.2.stop ≡ Stop.AcceptFault → Rose (L.listening listener.entry.now).faults (L.listening result.0.now).faults }
@@ -612,7 +678,7 @@ impl<'s, R: Threads + Wait + Sync, G: Crew> Server<'s, R, G> {
                 let shared = Shared {
                     rt,
                     alloc,
-                    lock: shared_lock,
+                    lock,
                     book,
                     plan,
                     ended,
@@ -623,6 +689,6 @@ impl<'s, R: Threads + Wait + Sync, G: Crew> Server<'s, R, G> {
         );
         let _ = left;
         let _ = left_ticks;
-        close_host(lock, outcome, record)
+        outcome
     }
 }

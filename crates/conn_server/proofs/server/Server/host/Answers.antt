@@ -13,8 +13,8 @@ use Rattle.conn_server.proofs.server.Server.host.Goals as goal
 
 pub returns-clause-hosts : goal.returns-clause-hosts
 returns-clause-hosts g c =
-    let s = c.scoped-left.ensures.1.1.1.0 in
-    let o = c.scoped-left.result.2 in
+    let s = c.host_links-joined.ensures.hosted in
+    let o = c.host_links-joined.result in
     let closed = c.close_host in
     let ticks = (g.C.ReportTaker.taken o.taker).ticks in
     let h = closed.result.space in
@@ -49,6 +49,6 @@ returns-clause-all g c none = host_without_fault _ (λ is. none (returns-clause-
 
 pub returns-clause-keeps : goal.returns-clause-keeps
 returns-clause-keeps g c =
-    let first = c.scoped-left.ensures.1.1.0 in
+    let first = c.host_links-joined.ensures.keeps in
     let then = c.close_host.ensures.keeps in
     (λ held. then.0 (first.0 held), then.1 ∙ first.1)

@@ -8,8 +8,8 @@ use Rattle.conn_server.proofs.server.Server.serve_with.Goals as goal
 
 pub returns-clause-given : goal.returns-clause-given
 returns-clause-given g c =
-    let s = c.scoped-left.ensures.1.1.0 in
-    let o = c.scoped-left.result.1 in
+    let s = c.serve_links-root.ensures.served in
+    let o = c.serve_links-root.result in
     let ticks = (g.C.ReportTaker.taken o.taker).ticks in
     let h = c.close.result in
     let settled = c.close.ensures.settled in
