@@ -1,4 +1,4 @@
-use Rattle.std.proofs.Common.{◌∙◌, List, refl, rules, subst, sym}
+use Rattle.std.proofs.Common.{◌∙◌, List, subst, sym}
 use Rattle.std.specs.List.Sorted.{IsPermutation}
 use Rattle.history.specs.Steps.{IsLegal}
 use Rattle.history.specs.declared.asks.SpaceConfig.{SpaceConfig}
@@ -27,22 +27,22 @@ returns-clause-hosts g c =
       served = s.served;
       links = s.links;
       missed = s.missed;
-      told_links = search rules;
+      told_links = s.told_links;
       reported = links_reported _ c.args.lock s.served o.root s.links ticks s.joined h settled;
       reports = subst (λ l. IsPermutation s.links l) (sym closed.ensures.reports.reports) s.reports;
       ticks = subst (λ (l : List Asked). AreTurnsOf (opening_of c.args.lock) 0 l h) (sym closed.ensures.ticks) (ticks_reported _ c.args.lock s.served o.root s.links ticks s.joined h settled);
       quiet = quiet_closed g.G.Hand.Worker.shown g.G.Hand.Worker.moves (opening_of c.args.lock) (view_of o.root.pass).seen h.events o.own.missed closed.result.tick_missed _ _ _ ticks _ o.own.hand _
-          settled.seen closed.ensures.missed closed.ensures.ticks closed.ensures.hand (search rules);
+          settled.seen closed.ensures.missed closed.ensures.ticks closed.ensures.hand s.quiet;
       others = no_others _ c.args.lock s.served o.root s.links ticks s.joined h settled;
-      stopped = rw closed.ensures.stop (search rules);
+      stopped = rw closed.ensures.stop s.stopped;
       back = rw closed.ensures.lost s.back;
-      untold = rw closed.ensures.stop (search rules);
+      untold = rw closed.ensures.stop s.untold;
       handed = closed.ensures.handed;
       all_handed = closed.ensures.whole;
     }
 
 pub returns-clause-fault : goal.returns-clause-fault
-returns-clause-fault g c = rw c.close_host.ensures.stop (search rules)
+returns-clause-fault g c = rw c.close_host.ensures.stop c.host_links-joined.ensures.fault
 
 pub returns-clause-all : goal.returns-clause-all
 returns-clause-all g c none = host_without_fault _ (λ is. none (returns-clause-fault g c is))
