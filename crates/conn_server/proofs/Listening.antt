@@ -1,8 +1,8 @@
 -- What a listener tells as links are accepted one after another.
 use Rattle.std.proofs.Common.{◌≡◌, Bool, true, false, List, [], ◌∷◌, ◌++◌, refl, ap, sym, ◌∙◌, append_assoc, append-nil, arith, true≢false}
 use Rattle.std.proofs.lemmas.List.{map_push}
-use Rattle.std.specs.Prelude.{Option, Some, None, Result, Err}
-use Rattle.wire_io.specs.Links.{Accepted, Listening, Looks, Waits, with_next}
+use Rattle.std.specs.Prelude.{Option, Some, None}
+use Rattle.wire_io.specs.Links.{Accepted, Listening, Looks, with_next}
 use Rattle.space.specs.declared.asked.Asked.{Asked}
 use Rattle.conn_server.specs.Accepts.{TicksOn, links_of, ticks_of, with_all}
 use Rattle.conn_server.specs.Hosts.{IsLike}

@@ -301,4 +301,4 @@ module _ {H : Type 0} (shown : H → WorkerState) (moves : States → Call → S
         where
           by : (missed ≡ true) ⊎ (missed_now ≡ true) → 0 < length (flat_map passed_moment t.course)
           by (inl was) = t.cause was
-          by (inr now) = absurd (none_some e (sym is ∙ once.cause now))
+          by (inr late) = absurd (none_some e (sym is ∙ once.cause late))

@@ -82,7 +82,10 @@ fn close_lock(lock: TurnLock, root: Root, handed: Option<u64>) -> (Space, Option
     match handed {
         Some(from) => {
             let (space, rest) = lock.close_recording(root, from);
-            (space, rest.ok())
+            match rest {
+                Ok(part) => (space, Some(part)),
+                Err(_fault) => (space, None),
+            }
         }
         None => (lock.close(root), None),
     }
