@@ -53,6 +53,7 @@ pub mod taker;
 
 pub use accept_loop::Stop;
 pub use admission::LostLink;
+pub use host_loop::MAX_LIVE;
 pub use link_entries::LinkEntries;
 pub use link_task::{AdmittedLink, LinkDone, LinkReport, LinkTask, TaskPromise};
 pub use plan::ServePlan;

@@ -124,15 +124,19 @@ pub struct HostBegin<C> {
     pub taker: C,
     /// True where the taker is given the events of the space, as they are made. The lock has to be one that records (`TurnLock::recording`).
     pub record: bool,
+    /// The most links that are live at once. [`MAX_LIVE`] is what a system with many descriptors bears.
+    pub most_live: usize,
 }
 
-/// The root, the taker and the crew with which a host begins, and the number of events of the opening, where it hands further events on.
+/// The root, the taker and the crew with which a host begins, the number of events of the opening, where it hands further events on, and the most links
+/// that are live at once.
 #[derive(Drop)]
 struct HostStart<'c, C, G> {
     root: Root,
     taker: C,
     crew: &'c G,
     handed: Option<u64>,
+    most_live: usize,
 }
 
 /// A server: what it runs on, who does the calls of its clients, and which objects they may call.
@@ -259,6 +263,7 @@ where
         taker,
         crew,
         handed,
+        most_live,
     } = begin;
     let keeping = Keeping {
         entries: false,
@@ -269,6 +274,8 @@ where
         acceptor: first,
         own: OwnHand::new(),
         idle_tries: 0,
+        most_live,
+        short_rounds: 0,
     };
     let Halt { stop, lost } = host.run(scope, shared, crew, listener, ticks);
     host.acceptor.end_all(shared);
@@ -276,6 +283,8 @@ where
         acceptor,
         own,
         idle_tries: _idle_tries,
+        most_live: _most_live,
+        short_rounds: _short_rounds,
     } = host;
     let Acceptor {
         root,
@@ -552,12 +561,14 @@ impl<'s, R: Threads + Wait + Sync, G: Crew> Server<'s, R, G> {
             root,
             taker,
             record,
+            most_live,
         } = begin;
         let begun = HostStart {
             root,
             taker,
             crew,
             handed: first_place(&lock, record),
+            most_live,
         };
         let shared_lock = &lock;
         let noted = EndedLinks::new(alloc);
