@@ -23,7 +23,7 @@ use Rattle.sample_app.specs.declared.crew.SampleHand.{SampleHand}
 use Rattle.conn_server.specs.Accepts.{ticks_of}
 use Rattle.conn_server.specs.Taken.{Taken}
 use Rattle.conn_server.specs.Hosts.{HostsLinks}
-use Rattle.conn_server.specs.Quiet.{MayPass, TicksQuietly}
+use Rattle.conn_server.specs.Quiet.{TicksQuietly}
 use Rattle.conn_server.specs.Reports.{AreTurnsOf, IsLinkOf, IsReportOf, events_after}
 use Rattle.conn_server.specs.Rows.{Paired}
 use Rattle.conn_server.specs.Stops.{AreGivenBack, HostStopped, IsLostLink}
@@ -353,7 +353,7 @@ module _ {I O T : Type 0} (R : Type 0) (read_half : I → ReadHalf) (write_half 
   hosts_given taken IsLink opening count before after gave_first gave_last h served same rest x =
       let IsLost = IsLostLink read_half write_half given in
       let Quiet : Bool → SpaceHistory → List Asked → Option (SampleHand R) → Type 0 = λ missed s ticks hand.
-      TicksQuietly hand_shown Moves (MayPass opening s.events missed) gave_first gave_last (ticks_of x.served) ticks hand in
+      TicksQuietly hand_shown Moves opening s.events missed gave_first gave_last (ticks_of x.served) ticks hand in
       let space = sym rest.2 in record {
         config = subst (λ (s : SpaceHistory). s.configuration ≡ opening.configuration) space x.config;
         legal = subst (λ (s : SpaceHistory). IsLegal s.configuration s.events) space x.legal;

@@ -113,6 +113,13 @@ starts_later ticks more (start ∷ starts) all = (own_later ticks more start.mom
 shuffled : {X : Type 0} (P : X → Type 0) (xs ys : List X) → IsPermutation xs ys → AllByRecursion P xs → AllByRecursion P ys
 shuffled P xs ys moved all = recursion_from_All P ys (All-permutation P xs ys moved (All-from_recursion P xs all))
 
+taken_own : (starts starts2 : List LinkStart) (taken : Option ℕ) (ticks : List Asked) → TakesStart starts taken starts2 → AllByRecursion (λ s. IsOwnMoment ticks s.moment) starts
+    → IfSome taken (IsOwnMoment ticks) × AllByRecursion (λ s. IsOwnMoment ticks s.moment) starts2
+taken_own starts starts2 None ticks same all = (tt, subst (AllByRecursion (λ s. IsOwnMoment ticks s.moment)) (sym same) all)
+taken_own starts starts2 (Some moment) ticks takes all =
+    let moved = shuffled (λ s. IsOwnMoment ticks s.moment) starts (takes.0 ∷ starts2) takes.2 all in
+    (subst (IsOwnMoment ticks) takes.1 moved.0, moved.1)
+
 module _ {I O T H : Type 0} (given : T → Option (List ℕ)) where
   timed_later : (ticks more : List Asked) (reports : List (TimedReport (LinkReport I O T H))) → AllByRecursion (IsTimed given ticks) reports → AllByRecursion (IsTimed given (ticks ++ more)) reports
   timed_later ticks more [] all = tt
@@ -158,13 +165,6 @@ module _ {I O T H : Type 0} (given : T → Option (List ℕ)) where
         reports_are = timed.reports_are;
       }
       )
-
-  taken_own : (starts starts2 : List LinkStart) (taken : Option ℕ) (ticks : List Asked) → TakesStart starts taken starts2 → AllByRecursion (λ s. IsOwnMoment ticks s.moment) starts
-      → IfSome taken (IsOwnMoment ticks) × AllByRecursion (λ s. IsOwnMoment ticks s.moment) starts2
-  taken_own starts starts2 None ticks same all = (tt, subst (AllByRecursion (λ s. IsOwnMoment ticks s.moment)) (sym same) all)
-  taken_own starts starts2 (Some moment) ticks takes all =
-      let moved = shuffled (λ s. IsOwnMoment ticks s.moment) starts (takes.0 ∷ starts2) takes.2 all in
-      (subst (IsOwnMoment ticks) takes.1 moved.0, moved.1)
 
   -- One link more that has ended, whose start was taken.
   pub times_end : (last : Option ℕ) (starts starts2 : List LinkStart) (taken : Option ℕ) (ticks : List Asked) (reports reports2 : List (TimedReport (LinkReport I O T H)))

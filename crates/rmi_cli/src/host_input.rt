@@ -17,7 +17,7 @@ use crate::host_parts::HostParts;
 use crate::link_line::listening_line;
 use crate::serve_input::end_after;
 use crate::sink_state::{SinkState, write_made, write_text};
-use conn_server::{HostBegin, Hosted, LinkReport, Server, Stop};
+use conn_server::{HostBegin, Hosted, LinkReport, MAX_LIVE, Server, Stop};
 use rmi_words::{HostWords, Record};
 use sample_app::SampleHand;
 use space::{Space, standing};
@@ -293,6 +293,7 @@ fn serve_at_desk<'s, 't, R: Threads + Wait + Sync, K: Sink, E: Sink, T: Clock, L
         root,
         taker: sinks.into_desk(alloc, recording, space),
         record: recording == Record::Journal,
+        most_live: MAX_LIVE,
     };
     let served = server.host(listener, ticks, lock, begin, &plan);
     take_apart(served)
