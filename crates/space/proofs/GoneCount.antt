@@ -1,5 +1,5 @@
 -- How many objects a history withdrew: no more than it exported.
-use Rattle.std.proofs.Common.{◌≡◌, ℕ, ◌+◌, ◌≤◌, ◌^◌, List, [], ◌∷◌, ◌++◌, length, refl, ap, ◌∙◌, arith, rules, length-append}
+use Rattle.std.proofs.Common.{◌≡◌, ℕ, ◌+◌, ◌≤◌, ◌^◌, List, [], ◌∷◌, ◌++◌, length, refl, ap, ◌∙◌, arith, length-append}
 use Rattle.std.specs.Prelude.{Bool, not, filter, reverse}
 use Rattle.std.proofs.lemmas.List.{length-map}
 use Rattle.history.specs.declared.asks.SpaceConfig.{SpaceConfig}
@@ -59,4 +59,4 @@ few-withdrawn {config} {events} k =
     let few = k.few_opened in
     let used = k.stands.used_is in
     let within = k.stands.within.countable in
-    omega (arith, rules, all, gone, opened, few, used, within)
+    omega (arith, all, gone, opened, few, used, within)

@@ -1,4 +1,5 @@
-use Rattle.std.proofs.Common.{◌≡◌, true, false, length, subst}
+use Rattle.std.proofs.Common.{◌≡◌, length, subst}
+use Rattle.std.specs.Prelude.{true, false}
 use Rattle.space.specs.Built.{SpaceHistory}
 use Rattle.space.specs.Idle.{untold_of, withdrawals_of}
 use Rattle.space.proofs.IdleLaws.{kept-all, kept-untold}
