@@ -37,7 +37,7 @@ use Rattle.export_table.specs.StandsForHistory.{AreWaits, until_in, waits_once, 
 use Rattle.export_table.proofs.KeptLaws.{named-counted}
 use Rattle.export_table.proofs.WaitLaws.{absent-until, others-absent, awaits-until}
 use Rattle.space.specs.Acts.{event_of}
-use Rattle.space.specs.Idle.{IsDue, SomeLeaseIsDue, SomeWaitIsDue, SomethingEnds, leases_of, waits_of, ChangesNothing, TickChangesNothing, untold_of}
+use Rattle.space.specs.Idle.{IsDue, SomeLeaseIsDue, SomeWaitIsDue, SomethingEnds, leases_of, waits_of, ChangesNothing, TickChangesNothing, untold_of, withdrawals_of}
 use Rattle.space.specs.Kept.{live_calls}
 use Rattle.space.specs.Whole.{IsWhole}
 use Rattle.space.specs.declared.tables.Tables.{Tables}
@@ -403,3 +403,17 @@ untold-some t k whole e h = let count = untold-length t whole in let less = ltb-
 pub untold-none : (t : Tables) (k : ℕ) → IsWhole t → k ≡ length t.withdrawn.items → nat_lt t.reported k ≡ false → untold_of t.config t.events.items ≡ []
 untold-none t k whole e h =
     empty (untold_of t.config t.events.items) (let count = untold-length t whole in let less = ltb-false t.reported k h in omega (arith, count, less, e))
+
+-- ---- what is kept of the withdrawals
+
+pub kept-all : (t : Tables) (k : ℕ) → IsWhole t → t.withdrawn.told + k ≡ length t.withdrawn.items → t.config.stored ≡ true → k ≡ length (withdrawals_of t.config t.events.items)
+kept-all t k whole e stored =
+    let none = whole.3.all_kept stored in
+    let same = ap length whole.0.stands.withdrawn_are in
+    omega (arith, e, none, same)
+
+pub kept-untold : (t : Tables) (k : ℕ) → IsWhole t → t.withdrawn.told + k ≡ length t.withdrawn.items → t.config.stored ≡ false → k ≡ length (untold_of t.config t.events.items)
+kept-untold t k whole e erased =
+    let told = whole.3.untold_kept erased in
+    let count = untold-length t whole in
+    omega (arith, e, told, count)

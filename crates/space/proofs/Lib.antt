@@ -10,6 +10,7 @@ pub mod CollectLaws
 pub mod Doubting
 pub mod EndLaws
 pub mod FewGone
+pub mod GoneCount
 pub mod Found
 pub mod Fresh
 pub mod Holding

@@ -1,5 +1,5 @@
 -- A turn that nothing can refuse any more: what it may rely on, by what its parts answered, and what follows.
-use Rattle.std.proofs.Common.{◌≡◌, ℕ, ◌+◌, ◌<◌, ◌≤◌, ◌^◌, List, [], ◌∷◌, ◌++◌, length, refl, ap, sym, subst, ◌∙◌, map, max, arith, Option, Some, None, Ok, ◌⊎◌, length-append}
+use Rattle.std.proofs.Common.{◌≡◌, ℕ, ◌+◌, ◌<◌, ◌≤◌, ◌^◌, List, [], ◌∷◌, ◌++◌, length, refl, ap, sym, subst, ◌∙◌, map, max, arith, Option, Some, None, Ok}
 use Rattle.std.specs.Prelude.{Bool, true, false, drop, option_and_then, vec_len, vec_capacity}
 use Rattle.object_ids.specs.declared.ids.Uid.{Uid}
 use Rattle.object_ids.specs.declared.ids.ObjId.{ObjId}
@@ -150,13 +150,13 @@ whole-when-ready {t} {e} {a} {p} {noted} {time} {place} {reported} {added} {used
     )
 
 -- WHAT IT LEAVES STORED.
-pub stored-when-ready : {t : Tables} {e : Event} {a : Admitted} {p : Prepared} {noted : Bool} {reported : ℕ} {withdrawn' : WithdrawalTable} (place : ℕ) (gone : List ObjId) (withdrawn : WithdrawalTable) → IsReady t e a p noted →
-    withdrawn.told ≡ t.withdrawn.told → withdrawn.items ≡ t.withdrawn.items ++ map (withdrawal_at place) gone → withdrawn'.items ≡ withdrawn.items → reported ≡ reported_after t.reported (length withdrawn'.items) e.ask →
-    (withdrawn'.told ≡ withdrawn.told) ⊎ ((is_abandon e.ask ≡ false) × withdrawn'.told ≤ length withdrawn'.items) → (t.config.stored ≡ true → withdrawn'.told ≡ withdrawn.told) →
+pub stored-when-ready : {t : Tables} {e : Event} {a : Admitted} {p : Prepared} {noted : Bool} {reported : ℕ} {withdrawn' : WithdrawalTable} (withdrawn : WithdrawalTable) → IsReady t e a p noted →
+    withdrawn.told ≡ t.withdrawn.told → reported ≡ reported_after t.reported (length withdrawn'.items) e.ask → length withdrawn'.items ≤ 2 ^ 62 →
+    (t.config.stored ≡ true → withdrawn'.told ≡ withdrawn.told) → (is_abandon e.ask ≡ true → withdrawn'.told ≡ withdrawn.told) →
+    (t.config.stored ≡ false → is_abandon e.ask ≡ false → length withdrawn'.items ≤ 2 ^ 62 → withdrawn'.told ≡ length withdrawn'.items) →
     IsStoredAs t.config t.events withdrawn' reported
-stored-when-ready {t} {e} {a} {p} {noted} {reported} {withdrawn'} place gone withdrawn r same wi seen is told kept =
-    let within = r.keeps.stands.reported_within in let longer = ap length (seen ∙ wi) in let sum = length-append t.withdrawn.items (map (withdrawal_at place) gone) in
-    stored-told e.ask (stored-kept {withdrawn' = withdrawn} r.stored_so refl same) (omega (arith, within, longer, sum)) is told kept
+stored-when-ready {t} {e} {a} {p} {noted} {reported} {withdrawn'} withdrawn r same is few kept abandoned told =
+    stored-told e.ask (stored-kept {withdrawn' = withdrawn} r.stored_so refl same) is kept abandoned (λ erased unabandoned. told erased unabandoned few)
 
 -- ---- what its parts require of the exported objects
 

@@ -1,5 +1,5 @@
 -- What is stored and what is not, after a turn.
-use Rattle.std.proofs.Common.{◌≡◌, ℕ, ◌≤◌, ◌⊎◌, inl, inr, length, refl, ◌∙◌, arith}
+use Rattle.std.proofs.Common.{◌≡◌, ℕ, ◌≤◌, length, refl, sym, ◌∙◌, arith}
 use Rattle.std.specs.Prelude.{Bool, true, false, if◌then◌else◌}
 use Rattle.history.specs.declared.asks.SpaceConfig.{SpaceConfig}
 use Rattle.history.specs.declared.asks.Ask.{Ask}
@@ -16,21 +16,29 @@ stored-kept s e t = record {
   stored_is = e ∙ s.stored_is;
   told_are = (let told = s.told_are in omega (arith, t, told));
   all_kept = λ c. t ∙ s.all_kept c;
+  untold_kept = λ c. t ∙ s.untold_kept c;
 }
 
--- Where what an ask told may be forgotten.
+-- Where what an ask told is forgotten, unless all is kept.
 pub stored-told : {config : SpaceConfig} {events : EventRecord} {withdrawn withdrawn' : WithdrawalTable} {reported reported' : ℕ} (ask : Ask) → IsStoredAs config events withdrawn reported →
-    reported ≤ length withdrawn'.items → reported' ≡ reported_after reported (length withdrawn'.items) ask →
-    (withdrawn'.told ≡ withdrawn.told) ⊎ ((is_abandon ask ≡ false) × withdrawn'.told ≤ length withdrawn'.items) → (config.stored ≡ true → withdrawn'.told ≡ withdrawn.told) →
-    IsStoredAs config events withdrawn' reported'
-stored-told {config} {events} {withdrawn} {withdrawn'} {reported} {reported'} ask s within is told kept = record {
+    reported' ≡ reported_after reported (length withdrawn'.items) ask →
+    (config.stored ≡ true → withdrawn'.told ≡ withdrawn.told) → (is_abandon ask ≡ true → withdrawn'.told ≡ withdrawn.told) →
+    (config.stored ≡ false → is_abandon ask ≡ false → withdrawn'.told ≡ length withdrawn'.items) → IsStoredAs config events withdrawn' reported'
+stored-told {config} {events} {withdrawn} {withdrawn'} {reported} {reported'} ask s is kept abandoned told = record {
   stored_is = s.stored_is;
-  told_are = (let few = go (is_abandon ask) told in omega (arith, is, few));
+  told_are = within config.stored refl;
   all_kept = λ c. kept c ∙ s.all_kept c;
+  untold_kept = λ c. untold c;
 }
   where
-    go : (b : Bool) → (withdrawn'.told ≡ withdrawn.told) ⊎ ((b ≡ false) × withdrawn'.told ≤ length withdrawn'.items) → withdrawn'.told ≤ (if b then reported else length withdrawn'.items)
-    go true (inl same) = let before = s.told_are in omega (arith, same, before)
-    go false (inl same) = let before = s.told_are in omega (arith, same, before, within)
-    go true (inr forgot) = absurd (let never = forgot.0 in cc)
-    go false (inr forgot) = forgot.1
+    go : (b : Bool) → config.stored ≡ false → (b ≡ true → withdrawn'.told ≡ withdrawn.told) → (b ≡ false → withdrawn'.told ≡ length withdrawn'.items) →
+        withdrawn'.told ≡ (if b then reported else length withdrawn'.items)
+    go true c same all = same refl ∙ s.untold_kept c
+    go false c same all = all refl
+
+    untold : config.stored ≡ false → withdrawn'.told ≡ reported'
+    untold c = go (is_abandon ask) c abandoned (told c) ∙ sym is
+
+    within : (b : Bool) → config.stored ≡ b → withdrawn'.told ≤ reported'
+    within true c = let none = kept c ∙ s.all_kept c in omega (arith, none)
+    within false c = let same = untold c in omega (arith, same)

@@ -7,13 +7,14 @@ use Rattle.history.specs.declared.asks.Event.{Event}
 use Rattle.history.specs.declared.asks.Ask.TheVariants.{Tick}
 use Rattle.history.specs.declared.calls.LeaseRow.{LeaseRow}
 use Rattle.history.specs.declared.places.Returned.{Returned}
+use Rattle.history.specs.declared.places.Withdrawal.{Withdrawal}
 use Rattle.history.specs.Awaiting.{awaiting_references, until_of}
 use Rattle.history.specs.LeaseCalls.{lease_calls}
 use Rattle.history.specs.Leases.{calls_of, lease_end, lease_rows}
 use Rattle.history.specs.Outline.{object_rows}
 use Rattle.history.specs.Places.{History, now}
 use Rattle.history.specs.Replies.{unreported_objects}
-use Rattle.history.specs.Table.{places, table, withdrawn_objects, with_event}
+use Rattle.history.specs.Table.{places, table, withdrawals, withdrawn_objects, with_event}
 use Rattle.space.specs.Acts.{event_of}
 
 -- ---- ends
@@ -59,3 +60,7 @@ TickChangesNothing config h moment = (by : ℕ) → ChangesNothing config h (eve
 -- The objects that these events withdrew and that none of them told as gone.
 abbrev pub untold_of : SpaceConfig → List Event → List ObjId
 untold_of config events = unreported_objects config (places config events)
+
+-- All withdrawals of these events.
+abbrev pub withdrawals_of : SpaceConfig → List Event → List Withdrawal
+withdrawals_of config events = withdrawals config (places config events)

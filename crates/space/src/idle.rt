@@ -1,6 +1,6 @@
 //! Whether a lease or a wait has ended, so that a Tick is worth its event.
 ghost use Rattle.std.specs.Prelude.{◌≡◌, ◌↔◌, ◌<◌, [], true, false, length, IsTrue};
-ghost use Rattle.space.specs.Idle.{SomethingEnds, TickChangesNothing, untold_of};
+ghost use Rattle.space.specs.Idle.{SomethingEnds, TickChangesNothing, untold_of, withdrawals_of};
 
 use crate::turns::Space;
 
@@ -25,5 +25,16 @@ impl Space {
             → untold_of self.now.configuration self.now.events ≡ [] }
     {
         self.tables.reported < self.tables.withdrawn.len()
+    }
+
+    /// Returns the number of withdrawals that the space keeps. Where it keeps its events, these are all of them. Otherwise they are those that no turn has
+    /// told as gone.
+    pub fn kept_withdrawals(&self) -> usize
+        ensures stored { self.now.configuration.stored ≡ true → result
+            ≡ length (withdrawals_of self.now.configuration self.now.events) }
+        ensures erased { self.now.configuration.stored ≡ false → result
+            ≡ length (untold_of self.now.configuration self.now.events) }
+    {
+        self.tables.withdrawn.kept_len()
     }
 }

@@ -26,6 +26,8 @@
 //!   the given moment (`ends`). If none does, a Tick at that moment changes nothing (`idle`).
 //! - `has_untold` says whether an `abandon` withdrew objects that no turn has reported (`some`,
 //!   `none`).
+//! - A space that doesn't keep its events keeps no withdrawal that was reported: `kept_withdrawals`
+//!   counts those that it keeps (`stored`, `erased`).
 //!
 //! # Stored or erased
 //!

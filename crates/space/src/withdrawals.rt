@@ -1,5 +1,5 @@
 //! The withdrawals of a space.
-ghost use Rattle.std.specs.Prelude.{◌≡◌, ◌⊎◌, ◌<◌, ◌≤◌, ◌+◌, ◌++◌, [], List, true, false, max, drop, filter, length, map, replicate, slice_get, IfOk, OnOk, vec_len, vec_capacity};
+ghost use Rattle.std.specs.Prelude.{◌≡◌, ◌<◌, ◌≤◌, ◌+◌, ◌^◌, ◌++◌, [], List, true, false, max, drop, filter, length, map, replicate, slice_get, IfOk, OnOk, vec_len, vec_capacity};
 ghost use Rattle.object_ids.specs.declared.ids.ObjId.{ObjId};
 ghost use Rattle.dgc_server.specs.Counts.{without_all};
 ghost use Rattle.dgc_server.specs.StandsForCalls.{StandsFor, ForEachLog};
@@ -74,6 +74,13 @@ impl Withdrawals {
         ensures { result ≡ length self.now.items }
     {
         self.told.len() + self.objects.len()
+    }
+
+    /// Returns the number of those that are kept: those that are still to be told as gone, and, where all are kept, those that were told.
+    pub(crate) fn kept_len(&self) -> usize
+        ensures { self.now.told + result ≡ length self.now.items }
+    {
+        self.objects.len()
     }
 
     /// The one at this place of the list, of which all are kept.
@@ -216,11 +223,12 @@ impl Withdrawals {
         fill(&mut self.places, self.objects.len() - before, place);
     }
 
-    /// Keeps them no longer, where all were told as gone: they exist in proofs alone from then on. It takes no memory.
+    /// Keeps them no longer, where all were told as gone: they exist in proofs alone from then on. It takes no memory. No history has so many that
+    /// they are not counted.
     pub(crate) fn forget(&mut self)
         ensures items { self.new.items ≡ self.old.items }
         ensures room { self.old.room ≤ self.new.room }
-        ensures told { self.new.told ≤ length self.new.items }
+        ensures told { length self.new.items ≤ 2 ^ 62 → self.new.told ≡ length self.new.items }
     {
         if self.objects.len() > MOST_TOLD - self.told.len() {
             return;
@@ -235,9 +243,10 @@ impl Withdrawals {
 pub(crate) fn forget_told(withdrawn: &mut Withdrawals, stored: bool, ask: &Ask)
     ensures items { withdrawn.new.items ≡ withdrawn.old.items }
     ensures room { withdrawn.old.room ≤ withdrawn.new.room }
-    ensures told { (withdrawn.new.told ≡ withdrawn.old.told)
-        ⊎ ((is_abandon ask.now ≡ false) × withdrawn.new.told ≤ length withdrawn.new.items) }
     ensures stored { stored ≡ true → withdrawn.new.told ≡ withdrawn.old.told }
+    ensures abandoned { is_abandon ask.now ≡ true → withdrawn.new.told ≡ withdrawn.old.told }
+    ensures told { stored ≡ false → is_abandon ask.now ≡ false → length withdrawn.new.items ≤ 2 ^ 62
+        → withdrawn.new.told ≡ length withdrawn.new.items }
 {
     if !stored && !is_abandon(ask) {
         withdrawn.forget();

@@ -26,13 +26,14 @@ fn rounds(alloc: Global, space: &mut Space) -> Result<(), Refused> {
     Ok(())
 }
 
-/// Makes many turns, and prints what stands then.
+/// Makes many turns, and prints what stands then, and how many withdrawals the space keeps.
 pub(crate) fn erased_turns<W: Write>(alloc: Global, out: &mut W) -> io::Result<()> {
     let mut space = fresh(alloc, false);
     if let Err(refused) = rounds(alloc, &mut space) {
         return writeln!(out, "erased turns {refused:?}");
     }
-    out.write_all(standing(alloc, &space)?.as_slice())
+    out.write_all(standing(alloc, &space)?.as_slice())?;
+    writeln!(out, "withdrawals kept {}", space.kept_withdrawals())
 }
 
 /// The last running call, one more, a turn that starts none, and a call that ends and makes room for another.

@@ -3,6 +3,7 @@ use Rattle.history.specs.declared.replies.Turn.{Turn}
 use Rattle.history.specs.Steps.{Step}
 use Rattle.space.specs.Acts.{event_of, acted_exports, reported_after}
 use Rattle.space.proofs.EndLaws.{has-withdrawn}
+use Rattle.space.proofs.GoneCount.{few-withdrawn}
 use Rattle.space.proofs.ReadyLaws.{step-when-ready, whole-when-ready, few-when-ready, abandoned-when-ready, finished-when-ready, countable-when-ready, within-when-ready, early-when-ready, some-when-ready, references-when-ready, stands-when-ready, few-pins-when-ready, bound-when-ready, looks-when-ready, awaiting-when-ready, wait-room-when-ready, few-calls-when-ready, stored-when-ready, log-when-ready, withdrawal-room-when-ready, gone-room-when-ready, among-when-ready, copy-room-when-ready}
 use Rattle.space.proofs.tables.Tables.take.Goals as goal
 
@@ -90,4 +91,4 @@ returns-clause-with_event c =
     c.act.ensures c.withdraw_among.ensures.kept c.withdraw_among.ensures.gone c.withdraw_among.ensures.dropped)
     c.act_on_runs.ensures (c.forget_told.ensures.items ∙ c.withdraw_among.ensures.noted) (let first = c.withdraw_among.ensures.room in let later = c.forget_told.ensures.room in omega (arith, first, later))
     reported refl (ap (λ n. c.args.self.now.units + n) c.units_of.ensures.value) in
-    (whole.0, whole.1, whole.2, stored-when-ready _ _ c.withdraw_among.new.self c.requires.ready c.withdraw_among.ensures.told c.withdraw_among.ensures.noted c.forget_told.ensures.items reported c.forget_told.ensures.told c.forget_told.ensures.stored)
+    (whole.0, whole.1, whole.2, stored-when-ready c.withdraw_among.new.self c.requires.ready c.withdraw_among.ensures.told reported (few-withdrawn whole.0) c.forget_told.ensures.stored c.forget_told.ensures.abandoned c.forget_told.ensures.told)

@@ -12,5 +12,5 @@ invariant_of-result c = (
   room-nothing c.new-2.result.items c.new.result.items c.new-3.result.items c.fresh-2.result c.new-2.result.capacity c.new-3.result.room
       c.new-2.ensures.items c.new.ensures.items c.new-3.ensures.items (ap (λ (t : ExportTable). t.rows) c.fresh-2.ensures),
   no-bindings c.args.config.now c.fresh-3.result c.new-2.result.items c.fresh-3.ensures c.new-2.ensures.items,
-  record { stored_is = c.new-2.ensures.stored; told_are = (let none = c.new-3.ensures.told in omega (arith, none)); all_kept = λ s. c.new-3.ensures.told },
+  record { stored_is = c.new-2.ensures.stored; told_are = (let none = c.new-3.ensures.told in omega (arith, none)); all_kept = λ s. c.new-3.ensures.told; untold_kept = λ s. c.new-3.ensures.told },
 )
