@@ -3,7 +3,7 @@ ghost use Rattle.std.specs.Prelude.{◌≡◌, [], ◌∷◌, ◌++◌, length, 
 ghost use Rattle.std.specs.List.{AllByRecursion};
 ghost use Rattle.wire_io.specs.Links.{Dialing, accepted_as, Dials, IsNew, accepted_in_memory, dialing_in_memory};
 ghost use Rattle.wire_io.specs.Mem.{source_half, sink_half};
-ghost use Rattle.wire_io.specs.Wire.{AreNewHalves};
+ghost use Rattle.wire_io.specs.Wire.{AreNewHalves, next_count};
 
 use crate::clock::Clock;
 use crate::link::Link;
@@ -150,6 +150,7 @@ impl Dialer for MemDialer {
         ensures gave { IfOk result
             (λ link. self.new.dialed ≡ self.old.dialed ++ (link, host.now, port) ∷ []) }
         ensures kept { OnErr result (self.new.links ≡ self.old.links) }
+        ensures counted { OnErr result (self.new.faults ≡ next_count self.old.faults) }
     {
         if self.dialed.reserve(1).is_err() {
             self.faults = self.faults.saturating_add(1);

@@ -273,6 +273,7 @@ impl Listener for MemListener {
         ensures links { self.new.links ≡ self.old.links }
         ensures waits { self.new.waits ≡ self.old.waits }
         ensures script { (self.new.quiet ≡ self.old.quiet) × (self.new.stop ≡ self.old.stop) }
+        ensures counted { OnErr result (self.new.faults ≡ next_count self.old.faults) }
     {
         if note_port(self.alloc, &mut self.ports, address.as_bytes(), port).is_err() {
             self.faults = self.faults.saturating_add(1);
@@ -295,6 +296,7 @@ impl Listener for MemListener {
         ensures next { IfOk result (λ link. self.old.links ≡ link ∷ self.new.links) }
         ensures gave { IfOk result (λ link. self.new.accepted ≡ self.old.accepted ++ link ∷ []) }
         ensures kept { OnErr result (self.new.links ≡ self.old.links) }
+        ensures counted { OnErr result (self.new.faults ≡ next_count self.old.faults) }
     {
         if self.told || self.accepted.reserve(1).is_err() {
             self.faults = self.faults.saturating_add(1);
@@ -331,6 +333,7 @@ impl Listener for MemListener {
         ensures gave { IfOk result (λ waited. IfCame waited
             (λ link. self.new.accepted ≡ self.old.accepted ++ link ∷ [])) }
         ensures kept { IfNoneCame result (self.new.links ≡ self.old.links) }
+        ensures counted { OnErr result (self.new.faults ≡ next_count self.old.faults) }
     {
         let index = self.waits;
         self.waits = index.saturating_add(1);
