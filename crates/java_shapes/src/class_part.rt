@@ -62,7 +62,8 @@ pub(crate) fn node_at<'a>(nodes: &'a [Node], slot: Slot) -> Option<&'a Node>
 
 /// The text that a node is.
 pub(crate) fn text_in<'a>(node: Option<&'a Node>) -> Option<&'a Units>
-    ensures { option_map (λ text. text.now) result ≡ text_in (option_map (λ node. node.now) node.entry) }
+    ensures { option_map (λ text. text.now) result
+        ≡ text_in (option_map (λ node. node.now) node.entry) }
 {
     match node {
         Some(Node::Text(text)) => Some(text),
@@ -72,7 +73,8 @@ pub(crate) fn text_in<'a>(node: Option<&'a Node>) -> Option<&'a Units>
 
 /// The description of a class, where it has this name.
 pub(crate) fn class_by_name<'a>(node: Option<&'a Node>, name: &str) -> Option<&'a ClassDesc>
-    ensures { option_map (λ desc. desc.now) result ≡ named_in name.now (option_map (λ node. node.now) node.entry) }
+    ensures { option_map (λ desc. desc.now) result
+        ≡ named_in name.now (option_map (λ node. node.now) node.entry) }
 {
     match node {
         Some(Node::Desc(desc)) => {
@@ -104,7 +106,8 @@ fn held_by<'a>(
     parts: &'a [Part],
     name: &str,
 ) -> Option<ClassPart<'a>>
-    ensures { option_map (λ held. (held.desc.now, held.part.now)) result ≡ held_within nodes.now name.now parts.now (length parts.now) class }
+    ensures { option_map (λ held. (held.desc.now, held.part.now)) result
+        ≡ held_within nodes.now name.now parts.now (length parts.now) class }
 {
     let mut slot = class;
     let mut left = parts.len();
@@ -131,7 +134,8 @@ pub(crate) fn held_in<'a>(
     node: Option<&'a Node>,
     name: &str,
 ) -> Option<ClassPart<'a>>
-    ensures { option_map (λ held. (held.desc.now, held.part.now)) result ≡ held_in nodes.now name.now (option_map (λ node. node.now) node.entry) }
+    ensures { option_map (λ held. (held.desc.now, held.part.now)) result
+        ≡ held_in nodes.now name.now (option_map (λ node. node.now) node.entry) }
 {
     match node {
         Some(Node::Object { class, parts }) => {
@@ -147,7 +151,8 @@ pub(crate) fn own_in<'a>(
     node: Option<&'a Node>,
     name: &str,
 ) -> Option<ClassPart<'a>>
-    ensures { option_map (λ held. (held.desc.now, held.part.now)) result ≡ own_in nodes.now name.now (option_map (λ node. node.now) node.entry) }
+    ensures { option_map (λ held. (held.desc.now, held.part.now)) result
+        ≡ own_in nodes.now name.now (option_map (λ node. node.now) node.entry) }
 {
     match node {
         Some(Node::Object { class, parts }) => {
@@ -188,7 +193,8 @@ impl<'a> ClassPart<'a> {
 
     /// The number in the class's field of type `short` and this name.
     pub(crate) fn short(&self, name: &str) -> Option<i16>
-        ensures { result ≡ as_short (value_of (self.now.desc.now, self.now.part.now) types.Short name.now) }
+        ensures { result
+            ≡ as_short (value_of (self.now.desc.now, self.now.part.now) types.Short name.now) }
     {
         match self.value(TypeCode::Short, name) {
             Some(Value::Short(number)) => Some(number),
@@ -198,7 +204,8 @@ impl<'a> ClassPart<'a> {
 
     /// The number in the class's field of type `int` and this name.
     pub(crate) fn int(&self, name: &str) -> Option<i32>
-        ensures { result ≡ as_int (value_of (self.now.desc.now, self.now.part.now) types.Int name.now) }
+        ensures { result
+            ≡ as_int (value_of (self.now.desc.now, self.now.part.now) types.Int name.now) }
     {
         match self.value(TypeCode::Int, name) {
             Some(Value::Int(number)) => Some(number),
@@ -208,7 +215,8 @@ impl<'a> ClassPart<'a> {
 
     /// The number in the class's field of type `long` and this name.
     pub(crate) fn long(&self, name: &str) -> Option<i64>
-        ensures { result ≡ as_long (value_of (self.now.desc.now, self.now.part.now) types.Long name.now) }
+        ensures { result
+            ≡ as_long (value_of (self.now.desc.now, self.now.part.now) types.Long name.now) }
     {
         match self.value(TypeCode::Long, name) {
             Some(Value::Long(number)) => Some(number),
@@ -219,14 +227,16 @@ impl<'a> ClassPart<'a> {
 
 /// Returns the part of a slot's object for its own class, where that has this name.
 pub(crate) fn own_at<'a>(nodes: &'a [Node], slot: Slot, name: &str) -> Option<ClassPart<'a>>
-    ensures { option_map (λ held. (held.desc.now, held.part.now)) result ≡ own_at nodes.now name.now slot }
+    ensures { option_map (λ held. (held.desc.now, held.part.now)) result
+        ≡ own_at nodes.now name.now slot }
 {
     own_in(nodes, node_at(nodes, slot), name)
 }
 
 /// The elements of a node that is an array, whose class has this name.
 fn array_in<'a>(nodes: &'a [Node], node: Option<&'a Node>, name: &str) -> Option<&'a Values>
-    ensures { option_map (λ values. values.now) result ≡ array_in nodes.now name.now (option_map (λ node. node.now) node.entry) }
+    ensures { option_map (λ values. values.now) result
+        ≡ array_in nodes.now name.now (option_map (λ node. node.now) node.entry) }
 {
     match node {
         Some(Node::Array { class, values }) => match class_by_name(

@@ -29,7 +29,8 @@ fn field_with(alloc: Global, field: &PartField, text: Slot) -> Result<FieldDesc,
 
 /// A known class's fields with the nodes of their type texts.
 fn fields_with(alloc: Global, fields: &[PartField], texts: &[Slot]) -> Result<FieldList, AllocError>
-    ensures { IfOk result (λ list. list ≡ map (λ p. field_with p.0 p.1) (zip fields.now texts.now)) }
+    ensures { IfOk result (λ list. list ≡ map (λ p. field_with p.0 p.1)
+        (zip fields.now texts.now)) }
 {
     let mut list = FieldList::new(alloc);
     let count = fields.len().min(texts.len());
@@ -79,14 +80,16 @@ pub(crate) fn put_text(b: &mut Builder, text: Units) -> Result<Slot, BuildFault>
 
 /// Puts an object.
 pub(crate) fn put_object(b: &mut Builder, class: Slot, parts: PartList) -> Result<Slot, BuildFault>
-    ensures { Puts 1 (λ loose s. node_at loose s ≡ Some (nodes.Object (number_of class) parts)) b.old b.new result }
+    ensures { Puts 1 (λ loose s. node_at loose s ≡ Some (nodes.Object (number_of class) parts))
+        b.old b.new result }
 {
     b.object(class, parts)
 }
 
 /// Puts an array.
 pub(crate) fn put_array(b: &mut Builder, class: Slot, values: Values) -> Result<Slot, BuildFault>
-    ensures { Puts 1 (λ loose s. node_at loose s ≡ Some (nodes.Array (number_of class) values)) b.old b.new result }
+    ensures { Puts 1 (λ loose s. node_at loose s ≡ Some (nodes.Array (number_of class) values))
+        b.old b.new result }
 {
     b.array(class, values)
 }
@@ -118,7 +121,8 @@ fn put_type(alloc: Global, b: &mut Builder, field: &PartField) -> Result<Slot, B
 
 /// Puts the type texts of fields.
 fn put_types(alloc: Global, b: &mut Builder, fields: &[PartField]) -> Result<SlotList, BuildFault>
-    ensures { Puts (length fields.now) (λ nodes slots. NameTypes nodes fields.now slots) b.old b.new result }
+    ensures { Puts (length fields.now) (λ nodes slots. NameTypes nodes fields.now slots) b.old b.new
+        result }
 {
     let mut texts = SlotList::new(alloc);
     for field in fields {
@@ -134,7 +138,8 @@ pub(crate) fn put_class(
     which: KnownClass,
     parent: Slot,
 ) -> Result<Slot, BuildFault>
-    ensures { Puts (length (parts_of which).fields + 1) (λ nodes s. IsClassAt nodes which parent s) b.old b.new result }
+    ensures { Puts (length (parts_of which).fields + 1) (λ nodes s. IsClassAt nodes which parent s)
+        b.old b.new result }
 {
     let parts = known(alloc, which)?;
     let texts = put_types(alloc, b, parts.fields.as_slice())?;

@@ -97,7 +97,8 @@ fn fault_items(alloc: Global) -> Result<Items, AllocError>
 pub fn fault_graph(alloc: Global, message: &Units) -> Result<Graph, AllocError>
     ensures nodes { IfOk result (λ graph. graph.nodes ≡ fault_nodes message.now) }
     ensures items { IfOk result (λ graph. graph.items ≡ fault_items) }
-    ensures viewed { IfOk result (λ graph. fault_text_at graph.nodes (slots.Node 6) ≡ Some (fault_text message.now)) }
+    ensures viewed { IfOk result (λ graph. fault_text_at graph.nodes (slots.Node 6)
+        ≡ Some (fault_text message.now)) }
 {
     if encoded_len(message) >= 1 << 63 {
         return Err(AllocError);

@@ -67,7 +67,8 @@ fn put_all(alloc: Global, b: &mut Builder, message: Units) -> Result<Slot, Build
 pub fn put_fault(alloc: Global, b: &mut Builder, message: &Units) -> Result<Slot, BuildFault>
     ensures ok { IfOk result (λ slot. FaultAt b.new message.now slot) }
     ensures grown { OnOk result (Grows 16 b.old b.new) }
-    ensures viewed { IfOk result (λ slot. fault_text_at b.new slot ≡ Some (fault_text message.now)) }
+    ensures viewed { IfOk result (λ slot. fault_text_at b.new slot
+        ≡ Some (fault_text message.now)) }
     ensures err { IfErr result (IsPutRefusal 16 b.old) }
     ensures unchanged { OnErr result (b.new ≡ b.old) }
 {

@@ -80,7 +80,8 @@ fn add_flag(
     nodes: &[Node],
     number: u32,
 ) -> Result<(), AllocError>
-    ensures { OnOk result (places.new.items ≡ places.old.items ++ as_places (flag_at nodes.now number)) }
+    ensures { OnOk result (places.new.items ≡ places.old.items
+        ++ as_places (flag_at nodes.now number)) }
 {
     if let Some(place) = flag_at(alloc, nodes, number)? {
         places.push(place)?;
@@ -115,9 +116,11 @@ fn set_flags(alloc: Global, graph: Graph, places: &[NotePlace]) -> Option<Graph>
 /// The same graph, in which each reference to a remote object says that it was made for a result: the last byte of its note is 1.
 /// A stub has the note itself, a proxy's is its handler's. It is refused only for want of memory.
 pub fn with_result_flag(alloc: Global, graph: Graph) -> Result<Graph, AllocError>
-    ensures nodes { IfOk result (λ flagged. set_flags graph.nodes (flags_in graph.nodes) ≡ Some flagged.nodes) }
+    ensures nodes { IfOk result (λ flagged. set_flags graph.nodes (flags_in graph.nodes)
+        ≡ Some flagged.nodes) }
     ensures items { IfOk result (λ flagged. flagged.items ≡ graph.items) }
-    ensures viewed { IfOk result (λ flagged. (s : Slot) → live_ref_at flagged.nodes s ≡ option_map for_result (live_ref_at graph.nodes s)) }
+    ensures viewed { IfOk result (λ flagged. (s : Slot) → live_ref_at flagged.nodes s
+        ≡ option_map for_result (live_ref_at graph.nodes s)) }
 {
     let places = flags_in(alloc, &graph)?;
     match set_flags(alloc, graph, &places) {

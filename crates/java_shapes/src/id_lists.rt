@@ -15,7 +15,8 @@ use std::alloc::{AllocError, Global};
 
 /// The part of an object's identifier.
 fn id_parts(alloc: Global, number: &i64, space: Slot) -> Result<PartList, AllocError>
-    ensures { IfOk result (λ parts. parts ≡ one_part (values.Long number.now ∷ values.Ref space ∷ [])) }
+    ensures { IfOk result (λ parts. parts
+        ≡ one_part (values.Long number.now ∷ values.Ref space ∷ [])) }
 {
     one_part(alloc, &[Value::Long(*number), Value::Ref(space)])
 }
@@ -44,7 +45,8 @@ fn put_each(
     uid_class: Slot,
     ids: &[ObjId],
 ) -> Result<SlotList, BuildFault>
-    ensures { Puts (2 * length ids.now) (λ nodes slots. AreIds nodes id_class uid_class ids.now slots) b.old b.new result }
+    ensures { Puts (2 * length ids.now)
+        (λ nodes slots. AreIds nodes id_class uid_class ids.now slots) b.old b.new result }
 {
     let mut objects = SlotList::new(alloc);
     for id in ids {
@@ -73,7 +75,8 @@ fn put_classes(alloc: Global, b: &mut Builder) -> Result<ListClasses, BuildFault
 
 /// Puts a list of identifiers; a refusal may leave some of its nodes.
 fn put_some_objids(alloc: Global, b: &mut Builder, ids: &[ObjId]) -> Result<Slot, BuildFault>
-    ensures { Puts (16 + 2 * length ids.now) (λ nodes s. ObjIdsAt nodes ids.now s) b.old b.new result }
+    ensures { Puts (16 + 2 * length ids.now) (λ nodes s. ObjIdsAt nodes ids.now s) b.old b.new
+        result }
 {
     let classes = put_classes(alloc, b)?;
     let objects = put_each(alloc, b, classes.id, classes.uid, ids)?;

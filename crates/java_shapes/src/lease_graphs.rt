@@ -135,7 +135,8 @@ fn lease_items(alloc: Global) -> Result<Items, AllocError>
 pub fn lease_graph(alloc: Global, value: i64, vmid: &Vmid) -> Result<Graph, AllocError>
     ensures nodes { IfOk result (λ graph. graph.nodes ≡ lease_nodes value vmid.now) }
     ensures items { IfOk result (λ graph. graph.items ≡ lease_items) }
-    ensures viewed { IfOk result (λ graph. lease_at graph.nodes (slots.Node 2) ≡ Some (record { value = value; vmid = Some vmid.now })) }
+    ensures viewed { IfOk result (λ graph. lease_at graph.nodes (slots.Node 2)
+        ≡ Some (record { value = value; vmid = Some vmid.now })) }
 {
     look_at_bytes(vmid.addr().as_slice());
     let uid = vmid.uid();

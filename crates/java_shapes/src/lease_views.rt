@@ -55,7 +55,8 @@ fn client_of(alloc: Global, addr: &ByteList, uid: Uid) -> Result<Vmid, ShapeFaul
 /// The address and the identifier in an object's fields.
 #[tactic(auto, unfolding(crate::specs::Ids::vmid_parts))]
 fn vmid_parts<'a>(nodes: &'a [Node], vmid: ClassPart) -> Option<(&'a ByteList, Uid)>
-    ensures { option_map (λ parts. (parts.0.now, parts.1)) result ≡ vmid_parts nodes.now (vmid.entry.desc.now, vmid.entry.part.now) }
+    ensures { option_map (λ parts. (parts.0.now, parts.1)) result
+        ≡ vmid_parts nodes.now (vmid.entry.desc.now, vmid.entry.part.now) }
 {
     let addr = vmid.slot(TypeCode::Array, "addr")?;
     let uid = vmid.slot(TypeCode::Object, "uid")?;

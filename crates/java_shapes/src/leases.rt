@@ -56,7 +56,8 @@ fn put_uid(alloc: Global, b: &mut Builder, uid: &Uid) -> Result<Slot, BuildFault
 
 /// Puts a client, node by node.
 fn put_client(alloc: Global, b: &mut Builder, addr: ByteList, uid: &Uid) -> Result<Slot, BuildFault>
-    ensures { Puts 11 (λ nodes s. VmidAt nodes (record { addr = addr; uid = uid.now }) s) b.old b.new result }
+    ensures { Puts 11 (λ nodes s. VmidAt nodes (record { addr = addr; uid = uid.now }) s) b.old
+        b.new result }
 {
     let addr = put_bytes(alloc, b, addr)?;
     let uid = put_uid(alloc, b, uid)?;
@@ -77,7 +78,8 @@ fn put_some_vmid(alloc: Global, b: &mut Builder, vmid: &Vmid) -> Result<Slot, Bu
 
 /// The part of a lease.
 pub(crate) fn lease_parts(alloc: Global, value: &i64, client: Slot) -> Result<PartList, AllocError>
-    ensures { IfOk result (λ parts. parts ≡ one_part (values.Long value.now ∷ values.Ref client ∷ [])) }
+    ensures { IfOk result (λ parts. parts
+        ≡ one_part (values.Long value.now ∷ values.Ref client ∷ [])) }
 {
     one_part(alloc, &[Value::Long(*value), Value::Ref(client)])
 }
@@ -128,7 +130,8 @@ pub fn put_lease(
 ) -> Result<Slot, BuildFault>
     ensures ok { IfOk result (λ slot. LeaseAt b.new value vmid.now slot) }
     ensures grown { OnOk result (Grows 16 b.old b.new) }
-    ensures viewed { IfOk result (λ slot. lease_at b.new slot ≡ Some (record { value = value; vmid = Some vmid.now })) }
+    ensures viewed { IfOk result (λ slot. lease_at b.new slot
+        ≡ Some (record { value = value; vmid = Some vmid.now })) }
     ensures err { IfErr result (IsPutRefusal 16 b.old) }
     ensures unchanged { OnErr result (b.new ≡ b.old) }
 {

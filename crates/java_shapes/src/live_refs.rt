@@ -28,7 +28,8 @@ pub const NOTE_ROOM: usize = 64;
 /// The last bytes of a reference's note: its port, its object and its flag.
 fn tail_bytes(reference: &LiveRef) -> [u8; 27]
     ensures value { result ≡ tail_bytes reference.now (truth_byte reference.now.result) }
-    ensures port { signed_from_bytes w32 (signed_bytes w32 reference.now.port) ≡ reference.now.port }
+    ensures port { signed_from_bytes w32 (signed_bytes w32 reference.now.port)
+        ≡ reference.now.port }
     ensures id { objid_from_bytes (bytes_of_objid reference.now.id) ≡ reference.now.id }
 {
     let mut tail = [0; 27];

@@ -43,7 +43,8 @@ fn add_local(
     host: &Units,
     port: i32,
 ) -> Result<(), AllocError>
-    ensures { OnOk result (ids.new.keys ≡ with_local ids.old.keys host.now port (Some reference.now)) }
+    ensures { OnOk result (ids.new.keys ≡ with_local ids.old.keys host.now port
+        (Some reference.now)) }
 {
     if is_local(reference, host, port) {
         add_once(ids, reference.id)
@@ -61,7 +62,8 @@ fn add_node(
     host: &Units,
     port: i32,
 ) -> Result<(), AllocError>
-    ensures { OnOk result (ids.new.keys ≡ with_local ids.old.keys host.now port (live_ref_at nodes.now (slots.Node number))) }
+    ensures { OnOk result (ids.new.keys ≡ with_local ids.old.keys host.now port
+        (live_ref_at nodes.now (slots.Node number))) }
 {
     match live_ref_in(alloc, nodes, Slot::Node(number)) {
         Ok(reference) => add_local(ids, &reference, host, port),

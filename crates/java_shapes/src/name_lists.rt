@@ -21,7 +21,8 @@ fn put_copy(alloc: Global, b: &mut Builder, text: &Units) -> Result<Slot, BuildF
 
 /// Puts texts.
 fn put_each(alloc: Global, b: &mut Builder, names: &[Units]) -> Result<SlotList, BuildFault>
-    ensures { Puts (length names.now) (λ nodes slots. AreTexts nodes names.now slots) b.old b.new result }
+    ensures { Puts (length names.now) (λ nodes slots. AreTexts nodes names.now slots) b.old b.new
+        result }
 {
     let mut texts = SlotList::new(alloc);
     for name in names {
@@ -32,7 +33,8 @@ fn put_each(alloc: Global, b: &mut Builder, names: &[Units]) -> Result<SlotList,
 
 /// Puts a list of texts; a refusal may leave some of its nodes.
 fn put_some_texts(alloc: Global, b: &mut Builder, names: &[Units]) -> Result<Slot, BuildFault>
-    ensures { Puts (16 + length names.now) (λ nodes s. TextsAt nodes names.now s) b.old b.new result }
+    ensures { Puts (16 + length names.now) (λ nodes s. TextsAt nodes names.now s) b.old b.new
+        result }
 {
     let texts = put_each(alloc, b, names)?;
     let class = put_class(alloc, b, KnownClass::TextArray, Slot::Null)?;

@@ -88,7 +88,8 @@ pub fn ref_graph(alloc: Global, interface: &Units, reference: &LiveRef) -> Resul
     requires host { length (utf reference.now.host) ≤ 65535 }
     ensures nodes { IfOk result (λ graph. graph.nodes ≡ ref_nodes interface.now reference.now) }
     ensures items { IfOk result (λ graph. graph.items ≡ ref_items) }
-    ensures viewed { IfOk result (λ graph. live_ref_at graph.nodes (slots.Node 3) ≡ Some reference.now) }
+    ensures viewed { IfOk result (λ graph. live_ref_at graph.nodes (slots.Node 3)
+        ≡ Some reference.now) }
 {
     if encoded_len(interface) > 65535 {
         return Err(AllocError);

@@ -12,7 +12,8 @@ use std::alloc::{AllocError, Global};
 
 /// The name of an object's class.
 fn class_name<'a>(nodes: &'a [Node], node: Option<&'a Node>) -> Option<&'a Units>
-    ensures { option_map (λ name. name.now) result ≡ class_name_in nodes.now (option_map (λ node. node.now) node.entry) }
+    ensures { option_map (λ name. name.now) result
+        ≡ class_name_in nodes.now (option_map (λ node. node.now) node.entry) }
 {
     match node {
         Some(Node::Object { class, .. }) => match nodes.get(*class as usize) {
@@ -25,7 +26,8 @@ fn class_name<'a>(nodes: &'a [Node], node: Option<&'a Node>) -> Option<&'a Units
 
 /// The message in an object's part of class `java.lang.Throwable`, where there is one.
 fn message_of<'a>(nodes: &'a [Node], throwable: ClassPart<'a>) -> Option<&'a Units>
-    ensures { option_map (λ text. text.now) result ≡ message_of nodes.now (throwable.entry.desc.now, throwable.entry.part.now) }
+    ensures { option_map (λ text. text.now) result
+        ≡ message_of nodes.now (throwable.entry.desc.now, throwable.entry.part.now) }
 {
     match throwable.slot(TypeCode::Object, "detailMessage") {
         Some(slot) => text_in(node_at(nodes, slot)),
@@ -35,7 +37,8 @@ fn message_of<'a>(nodes: &'a [Node], throwable: ClassPart<'a>) -> Option<&'a Uni
 
 /// A class's name, and a message after it.
 fn text_of(alloc: Global, name: &Units, message: Option<&Units>) -> Result<Units, AllocError>
-    ensures { IfOk result (λ text. text ≡ with_message name.now (option_map (λ message. message.now) message.entry)) }
+    ensures { IfOk result (λ text. text ≡ with_message name.now
+        (option_map (λ message. message.now) message.entry)) }
 {
     let mut text = name.copy(alloc)?;
     if let Some(message) = message {

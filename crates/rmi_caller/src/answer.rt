@@ -159,7 +159,8 @@ impl Answer {
 
     /// The units of the `String` that the result is; null is none.
     pub fn units(&self) -> Result<Units, CallError>
-        ensures { ReadsAt (text_at (nodes_in self.now.heard.body)) wanted_kinds.Text (slot_in self.now.heard.body) result }
+        ensures { ReadsAt (text_at (nodes_in self.now.heard.body)) wanted_kinds.Text
+            (slot_in self.now.heard.body) result }
     {
         let Some((graph, slot)) = self.slot() else {
             return Err(wrong(Wanted::Text));
@@ -179,7 +180,8 @@ impl Answer {
     /// The reference to a remote object that the result is; null is none. [`crate::Remote::follow`] takes a lease on the object.
     pub fn reference(&self) -> Result<LiveRef, CallError>
         ensures apart { result ≢ Err errors.DialFault }
-        ensures read { ReadsAt (live_ref_at (nodes_in self.now.heard.body)) wanted_kinds.Reference (slot_in self.now.heard.body) result }
+        ensures read { ReadsAt (live_ref_at (nodes_in self.now.heard.body)) wanted_kinds.Reference
+            (slot_in self.now.heard.body) result }
     {
         let Some((graph, slot)) = self.slot() else {
             return Err(wrong(Wanted::Reference));

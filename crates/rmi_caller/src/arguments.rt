@@ -77,7 +77,8 @@ fn put_remote(
     interface: &str,
     reference: &LiveRef,
 ) -> Result<Slot, BuildFault>
-    ensures put { IfOk result (ProxyAt builder.new (units_of interface.now) (ref_note (sent_ref reference.now))) }
+    ensures put { IfOk result (ProxyAt builder.new (units_of interface.now)
+        (ref_note (sent_ref reference.now))) }
     ensures grown { OnOk result (Grows 16 builder.old builder.new) }
 {
     if encoded_len(&reference.host) > HOST_BYTES {
@@ -123,7 +124,8 @@ impl Draft {
 
     /// Adds a string.
     fn add_text(&mut self, alloc: Global, text: &str) -> Result<(), BuildFault>
-        ensures added { OnOk result (AddsItem self.old self.new (IsTextItem self.new.builder (units_of text.now))) }
+        ensures added { OnOk result
+            (AddsItem self.old self.new (IsTextItem self.new.builder (units_of text.now))) }
         ensures grown { OnOk result (Grows 16 self.old.builder self.new.builder) }
     {
         let slot = put_text(alloc, &mut self.builder, text)?;
@@ -139,7 +141,8 @@ impl Draft {
         reference: &LiveRef,
     ) -> Result<(), BuildFault>
         ensures added { OnOk result (AddsItem self.old self.new
-            (IsProxyItem self.new.builder (units_of interface.now) (ref_note (sent_ref reference.now)))) }
+            (IsProxyItem self.new.builder (units_of interface.now)
+            (ref_note (sent_ref reference.now)))) }
         ensures grown { OnOk result (Grows 16 self.old.builder self.new.builder) }
     {
         let slot = put_remote(alloc, &mut self.builder, interface, reference)?;
@@ -149,7 +152,8 @@ impl Draft {
 
     /// Adds an argument.
     fn add(&mut self, alloc: Global, argument: &Argument<'_>) -> Result<(), BuildFault>
-        ensures added { OnOk result (AddsItem self.old self.new (IsSent self.new.builder argument.now)) }
+        ensures added { OnOk result
+            (AddsItem self.old self.new (IsSent self.new.builder argument.now)) }
         ensures grown { OnOk result (Grows 16 self.old.builder self.new.builder) }
     {
         match *argument {
@@ -187,7 +191,8 @@ impl Draft {
 /// Returns the graph whose items are arguments. Numbers that stand side by side are one run of bytes.
 pub(crate) fn arguments_graph(alloc: Global, arguments: &[Argument<'_>]) -> Result<Graph, CallError>
     ensures graph { IfOk result (AreArguments arguments.now) }
-    ensures refused { IfErr result (λ error. (error ≡ errors.BadArguments) ⊎ (error ≡ errors.OutOfMemory)) }
+    ensures refused { IfErr result (λ error. (error ≡ errors.BadArguments)
+        ⊎ (error ≡ errors.OutOfMemory)) }
 {
     let mut draft = Draft {
         builder: Builder::new(alloc),

@@ -46,7 +46,8 @@ pub(crate) fn hold_found<D: Dialer>(
     uid: Uid,
     reference: &LiveRef,
 ) -> Result<Remote<D>, CallError>
-    ensures held { IfOk result (λ remote. Holds (D.dialing dialer.old) (D.dialing dialer.new) reference.now
+    ensures held { IfOk result
+        (λ remote. Holds (D.dialing dialer.old) (D.dialing dialer.new) reference.now
         remote.object remote.table (link_of D.In.half D.Out.half remote.session)
         × AcksIf reference.now.result uid
         (link_of D.In.half D.Out.half session.old) (link_of D.In.half D.Out.half session.new)) }

@@ -64,7 +64,8 @@ impl<D: Dialer> Remote<D> {
         vmid: Vmid,
         reference: &LiveRef,
     ) -> Result<Remote<D>, CallError>
-        ensures held { IfOk result (λ remote. Holds (D.dialing dialer.old) (D.dialing dialer.new) reference.now
+        ensures held { IfOk result
+            (λ remote. Holds (D.dialing dialer.old) (D.dialing dialer.new) reference.now
             remote.object remote.table (link_of D.In.half D.Out.half remote.session)) }
         ensures same { OnOk result ((D.dialing dialer.new).faults ≡ (D.dialing dialer.old).faults) }
         ensures fault { result ≡ Err errors.DialFault
@@ -85,9 +86,11 @@ impl<D: Dialer> Remote<D> {
     /// Registers the object, and takes the lease.
     fn register(&mut self) -> Result<(), CallError>
         requires { self.old.session.is_over ≡ false }
-        ensures leases { OnOk result ((client : Holder) (first : ℤ) → StandsFor client first self.old.table []
+        ensures leases { OnOk result ((client : Holder) (first : ℤ)
+            → StandsFor client first self.old.table []
             → TakesLease client self.old.object self.new.table
-            (link_of D.In.half D.Out.half self.old.session) (link_of D.In.half D.Out.half self.new.session)) }
+            (link_of D.In.half D.Out.half self.old.session)
+            (link_of D.In.half D.Out.half self.new.session)) }
         ensures object { self.new.object ≡ self.old.object }
         ensures apart { result ≢ Err errors.DialFault }
     {
@@ -115,8 +118,10 @@ impl<D: Dialer> Remote<D> {
     pub fn call(&mut self, method: &str, arguments: &[Argument<'_>]) -> Result<Answer, CallError>
         ensures calls { self.old.session.is_over ≡ false → CallsOrRefuses
             self.old.object method.now arguments.now
-            (link_of D.In.half D.Out.half self.old.session) (link_of D.In.half D.Out.half self.new.session) result }
-        ensures lapsed { (now : ℕ) × Gave (D.Ticks.given self.old.clock) (D.Ticks.given self.new.clock) (now ∷ [])
+            (link_of D.In.half D.Out.half self.old.session)
+            (link_of D.In.half D.Out.half self.new.session) result }
+        ensures lapsed { (now : ℕ) × Gave (D.Ticks.given self.old.clock)
+            (D.Ticks.given self.new.clock) (now ∷ [])
             × ForEachLog self.old.table (λ client first log.
             is_usable_after first log self.old.object now ≡ false → result ≡ Err errors.Lapsed) }
         ensures over { self.old.session.is_over ≡ true → self.new.session ≡ self.old.session }
@@ -130,7 +135,8 @@ impl<D: Dialer> Remote<D> {
 
     /// Reads the clock, and checks that the object is held then.
     fn check_lease(&mut self) -> Result<(), CallError>
-        ensures lapsed { (now : ℕ) × Gave (D.Ticks.given self.old.clock) (D.Ticks.given self.new.clock) (now ∷ [])
+        ensures lapsed { (now : ℕ) × Gave (D.Ticks.given self.old.clock)
+            (D.Ticks.given self.new.clock) (now ∷ [])
             × ForEachLog self.old.table (λ client first log.
             is_usable_after first log self.old.object now ≡ false → result ≡ Err errors.Lapsed) }
         ensures err { IfErr result (λ error. error ≡ errors.Lapsed) }
@@ -149,9 +155,11 @@ impl<D: Dialer> Remote<D> {
 
     /// Sends a call and reads its result.
     fn ask(&mut self, prepared: &Prepared) -> Result<Answer, CallError>
-        ensures calls { (text : List ℕ) (arguments : List Arguments) → IsPrepared text arguments prepared.now
+        ensures calls { (text : List ℕ) (arguments : List Arguments)
+            → IsPrepared text arguments prepared.now
             → self.old.session.is_over ≡ false → CallsMethod self.old.object text arguments
-            (link_of D.In.half D.Out.half self.old.session) (link_of D.In.half D.Out.half self.new.session) result }
+            (link_of D.In.half D.Out.half self.old.session)
+            (link_of D.In.half D.Out.half self.new.session) result }
         ensures over { self.old.session.is_over ≡ true → self.new.session ≡ self.old.session }
         ensures clock { self.new.clock ≡ self.old.clock }
         ensures table { self.new.table ≡ self.old.table }
@@ -169,9 +177,11 @@ impl<D: Dialer> Remote<D> {
 
     /// Renews the lease, if that is due: once half of the granted time is over.
     pub fn renew(&mut self) -> Result<(), CallError>
-        ensures leases { (now : ℕ) × GaveFirst (D.Ticks.given self.old.clock) (D.Ticks.given self.new.clock) now
+        ensures leases { (now : ℕ) × GaveFirst (D.Ticks.given self.old.clock)
+            (D.Ticks.given self.new.clock) now
             × LeasesAfter (Dues now) self.old.table self.new.table self.old.session.is_over
-            (link_of D.In.half D.Out.half self.old.session) (link_of D.In.half D.Out.half self.new.session) result }
+            (link_of D.In.half D.Out.half self.old.session)
+            (link_of D.In.half D.Out.half self.new.session) result }
         ensures object { self.new.object ≡ self.old.object }
         ensures apart { result ≢ Err errors.DialFault }
     {
@@ -184,9 +194,12 @@ impl<D: Dialer> Remote<D> {
 
     /// Gives the object up: a clean call tells the server. Later calls answer Lapsed.
     pub fn give_up(&mut self) -> Result<(), CallError>
-        ensures leases { (now : ℕ) × GaveFirst (D.Ticks.given self.old.clock) (D.Ticks.given self.new.clock) now
-            × LeasesAfter (Drops self.old.object now) self.old.table self.new.table self.old.session.is_over
-            (link_of D.In.half D.Out.half self.old.session) (link_of D.In.half D.Out.half self.new.session) result }
+        ensures leases { (now : ℕ) × GaveFirst (D.Ticks.given self.old.clock)
+            (D.Ticks.given self.new.clock) now
+            × LeasesAfter (Drops self.old.object now) self.old.table self.new.table
+            self.old.session.is_over
+            (link_of D.In.half D.Out.half self.old.session)
+            (link_of D.In.half D.Out.half self.new.session) result }
         ensures object { self.new.object ≡ self.old.object }
     {
         let now = self.clock.now();
@@ -198,10 +211,13 @@ impl<D: Dialer> Remote<D> {
 
     /// Sends a lease call, and notes what became of it.
     fn send(&mut self, plan: &Plan) -> Result<(), CallError>
-        ensures leases { ForEachLog self.old.table (λ client first log. Leases client first log plan.now
+        ensures leases { ForEachLog self.old.table
+            (λ client first log. Leases client first log plan.now
             self.new.table self.old.session.is_over
-            (link_of D.In.half D.Out.half self.old.session) (link_of D.In.half D.Out.half self.new.session) result) }
-        ensures gave { (more : List ℕ) × Gave (D.Ticks.given self.old.clock) (D.Ticks.given self.new.clock) more }
+            (link_of D.In.half D.Out.half self.old.session)
+            (link_of D.In.half D.Out.half self.new.session) result) }
+        ensures gave { (more : List ℕ) × Gave (D.Ticks.given self.old.clock)
+            (D.Ticks.given self.new.clock) more }
         ensures object { self.new.object ≡ self.old.object }
         ensures apart { result ≢ Err errors.DialFault }
     {
@@ -231,9 +247,11 @@ impl<D: Dialer> Remote<D> {
             × Holds (D.dialing dialer.old) (D.dialing dialer.new) reference
             remote.object remote.table (link_of D.In.half D.Out.half remote.session)
             × AcksIf reference.result answer.now.heard.uid
-            (link_of D.In.half D.Out.half self.old.session) (link_of D.In.half D.Out.half self.new.session)) }
+            (link_of D.In.half D.Out.half self.old.session)
+            (link_of D.In.half D.Out.half self.new.session)) }
         ensures refused { OnErr result (AcksNot answer.now.heard.uid
-            (link_of D.In.half D.Out.half self.old.session) (link_of D.In.half D.Out.half self.new.session)) }
+            (link_of D.In.half D.Out.half self.old.session)
+            (link_of D.In.half D.Out.half self.new.session)) }
         ensures table { self.new.table ≡ self.old.table }
         ensures object { self.new.object ≡ self.old.object }
         ensures fault { result ≡ Err errors.DialFault

@@ -26,7 +26,8 @@ pub fn help_text(alloc: Global, topic: HelpTopic) -> Result<String, AllocError>
 
 /// Appends the text of a command.
 fn push_entry(text: &mut String, entry: &CommandEntry) -> Result<(), AllocError>
-    ensures { OnOk result (string_bytes text.new ≡ string_bytes text.old ++ text_of_entry (entry_of entry.now)) }
+    ensures { OnOk result (string_bytes text.new ≡ string_bytes text.old
+        ++ text_of_entry (entry_of entry.now)) }
 {
     push_head(text, entry)?;
     push_body(text, entry)?;
@@ -35,7 +36,8 @@ fn push_entry(text: &mut String, entry: &CommandEntry) -> Result<(), AllocError>
 
 /// Appends a command's name and its words.
 fn push_head(text: &mut String, entry: &CommandEntry) -> Result<(), AllocError>
-    ensures { OnOk result (string_bytes text.new ≡ string_bytes text.old ++ head_of (entry_of entry.now)) }
+    ensures { OnOk result (string_bytes text.new ≡ string_bytes text.old
+        ++ head_of (entry_of entry.now)) }
 {
     text.push_str("\n")?;
     text.push_str(entry.name)?;
@@ -45,7 +47,8 @@ fn push_head(text: &mut String, entry: &CommandEntry) -> Result<(), AllocError>
 
 /// Appends the words, each in brackets that may be left out, with dots where any number of words may stand.
 fn push_usage(text: &mut String, words: &[WordEntry]) -> Result<(), AllocError>
-    ensures { OnOk result (string_bytes text.new ≡ string_bytes text.old ++ flat_map usage_of (map word_of words.now)) }
+    ensures { OnOk result (string_bytes text.new ≡ string_bytes text.old
+        ++ flat_map usage_of (map word_of words.now)) }
 {
     for word in words {
         push_word(text, word.required, word.several, word.name)?;
@@ -69,7 +72,8 @@ fn push_word(text: &mut String, required: bool, several: bool, name: &str) -> Re
 
 /// Appends what a command does, and a line for each of its words.
 fn push_body(text: &mut String, entry: &CommandEntry) -> Result<(), AllocError>
-    ensures { OnOk result (string_bytes text.new ≡ string_bytes text.old ++ body_of (entry_of entry.now)) }
+    ensures { OnOk result (string_bytes text.new ≡ string_bytes text.old
+        ++ body_of (entry_of entry.now)) }
 {
     text.push_str("    ")?;
     text.push_str(entry.does)?;
@@ -79,7 +83,8 @@ fn push_body(text: &mut String, entry: &CommandEntry) -> Result<(), AllocError>
 
 /// Appends a line for each word.
 fn push_lines(text: &mut String, words: &[WordEntry]) -> Result<(), AllocError>
-    ensures { OnOk result (string_bytes text.new ≡ string_bytes text.old ++ flat_map line_of (map word_of words.now)) }
+    ensures { OnOk result (string_bytes text.new ≡ string_bytes text.old
+        ++ flat_map line_of (map word_of words.now)) }
 {
     for word in words {
         push_line(text, word.name, word.says)?;
@@ -89,7 +94,8 @@ fn push_lines(text: &mut String, words: &[WordEntry]) -> Result<(), AllocError>
 
 /// Appends the line of a word.
 fn push_line(text: &mut String, name: &str, says: &str) -> Result<(), AllocError>
-    ensures { OnOk result (string_bytes text.new ≡ string_bytes text.old ++ text_of_line name.now says.now) }
+    ensures { OnOk result (string_bytes text.new ≡ string_bytes text.old
+        ++ text_of_line name.now says.now) }
 {
     text.push_str("    ")?;
     text.push_str(name)?;
@@ -100,7 +106,8 @@ fn push_line(text: &mut String, name: &str, says: &str) -> Result<(), AllocError
 
 /// Appends the line that calls a command.
 fn push_example(text: &mut String, example: &str) -> Result<(), AllocError>
-    ensures { OnOk result (string_bytes text.new ≡ string_bytes text.old ++ text_of_example example.now) }
+    ensures { OnOk result (string_bytes text.new ≡ string_bytes text.old
+        ++ text_of_example example.now) }
 {
     text.push_str("    example: ")?;
     text.push_str(example)?;

@@ -45,7 +45,8 @@ pub(crate) fn read_drill(seed: &str, rounds: &str) -> Option<(u64, u64)>
     ensures range { IfSome result (λ p. AreInRange p.0 p.1) }
     ensures seed { IfSome result (λ p. seed.now ≡ decimal p.0) }
     ensures rounds { IfSome result (λ p. rounds.now ≡ decimal p.1) }
-    ensures none { IfNone result ((a b : ℕ) → AreInRange a b → seed.now ≡ decimal a → rounds.now ≡ decimal b → ⊥) }
+    ensures none { IfNone result ((a b : ℕ) → AreInRange a b → seed.now ≡ decimal a → rounds.now
+        ≡ decimal b → ⊥) }
 {
     let first = read_number(seed)?;
     let second = read_number(rounds)?;

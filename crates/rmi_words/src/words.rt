@@ -49,7 +49,8 @@ impl Words {
     /// read them, it is OutOfMemory.
     pub fn command(&self, alloc: Global) -> Result<Command, WordsFault>
         ensures asked { IfOk result (AskFor self.now) }
-        ensures refused { result ≡ Err WordsFault.Usage → (command : Commands) → AskFor self.now command → ⊥ }
+        ensures refused { result ≡ Err WordsFault.Usage → (command : Commands)
+            → AskFor self.now command → ⊥ }
     {
         let words = self.items.as_slice();
         if has_option(words) {
@@ -78,7 +79,8 @@ fn is_option(word: &str) -> bool
 /// Returns what `clap` makes of words none of which begins with `-`. The fault is Usage only where it finds them wrong.
 fn matches_of<'a>(alloc: Global, words: &'a [String]) -> Result<ArgMatches<'a>, WordsFault>
     ensures taken { IfOk result (AreTaken (map string_bytes words.entry.now)) }
-    ensures refused { result ≡ Err WordsFault.Usage → faults_in (map string_bytes words.entry.now) ≡ [] → ⊥ }
+    ensures refused { result ≡ Err WordsFault.Usage → faults_in (map string_bytes words.entry.now)
+        ≡ [] → ⊥ }
 {
     let declared = match declared_program(alloc) {
         Ok(declared) => declared,

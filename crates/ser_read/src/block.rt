@@ -25,7 +25,8 @@ pub(crate) enum Head {
 #[tactic(auto, unfolding(crate::specs::Heads::one_head))]
 fn one_head<S: Source>(pull: &mut Pull<'_, S>, code: u8, at: u64) -> Result<Head, StreamFault>
     ensures lent { pull.new.source.ghost_name ≡ pull.old.source.ghost_name }
-    ensures reads { ReadsTaken S.half pull.old pull.new result (λ end. one_head end code at) (λ x rest. (x, rest)) }
+    ensures reads { ReadsTaken S.half pull.old pull.new result (λ end. one_head end code at)
+        (λ x rest. (x, rest)) }
     ensures stops { StopsTaken S.half pull.old pull.new result (λ end. one_head end code at) }
 {
     if code == 0x77 {
@@ -43,7 +44,8 @@ fn one_head<S: Source>(pull: &mut Pull<'_, S>, code: u8, at: u64) -> Result<Head
 #[tactic(auto, unfolding(crate::specs::Heads::any_head))]
 fn any_head<S: Source>(pull: &mut Pull<'_, S>) -> Result<Head, StreamFault>
     ensures lent { pull.new.source.ghost_name ≡ pull.old.source.ghost_name }
-    ensures reads { ReadsTaken S.half pull.old pull.new result (λ end. any_head end) (λ x rest. (x, rest)) }
+    ensures reads { ReadsTaken S.half pull.old pull.new result (λ end. any_head end)
+        (λ x rest. (x, rest)) }
     ensures stops { StopsTaken S.half pull.old pull.new result (λ end. any_head end) }
 {
     let at = pull.at;
@@ -64,7 +66,8 @@ fn is_empty(head: Head) -> bool
 /// Returns the next head, and passes over empty blocks.
 pub(crate) fn next_head<S: Source>(pull: &mut Pull<'_, S>) -> Result<Head, StreamFault>
     ensures lent { pull.new.source.ghost_name ≡ pull.old.source.ghost_name }
-    ensures reads { ReadsTaken S.half pull.old pull.new result (λ end. head_at end) (λ x rest. (x, rest)) }
+    ensures reads { ReadsTaken S.half pull.old pull.new result (λ end. head_at end)
+        (λ x rest. (x, rest)) }
     ensures stops { StopsTaken S.half pull.old pull.new result (λ end. head_at end) }
 {
     loop {
@@ -95,7 +98,8 @@ fn no_block(code: u8) -> StreamKind
 #[tactic(auto, unfolding(crate::specs::Wants::opened_at))]
 fn present_block<S: Source>(pull: &mut Pull<'_, S>, block: u32) -> Result<u32, StreamFault>
     ensures lent { pull.new.source.ghost_name ≡ pull.old.source.ghost_name }
-    ensures reads { WantReadsTaken S.half pull.old pull.new result (λ end. opened_at end block) (λ x rest. (x, rest)) }
+    ensures reads { WantReadsTaken S.half pull.old pull.new result (λ end. opened_at end block)
+        (λ x rest. (x, rest)) }
     ensures stops { WantStopsTaken S.half pull.old pull.new result (λ end. opened_at end block) }
 {
     if block > 0 {
@@ -117,7 +121,8 @@ fn run_onto<S: Source>(
 ) -> Result<(), StreamFault>
     requires empty { bytes.old ≡ [] }
     ensures lent { pull.new.source.ghost_name ≡ pull.old.source.ghost_name }
-    ensures reads { WantReadsTaken S.half pull.old pull.new result (λ end. run_at end n block.old) (λ x rest. (bytes.new, block.new, rest)) }
+    ensures reads { WantReadsTaken S.half pull.old pull.new result (λ end. run_at end n block.old)
+        (λ x rest. (bytes.new, block.new, rest)) }
     ensures stops { WantStopsTaken S.half pull.old pull.new result (λ end. run_at end n block.old) }
 {
     let mut left = n;
@@ -140,7 +145,8 @@ pub(crate) fn run<S: Source>(
     n: u32,
 ) -> Result<ByteList, StreamFault>
     ensures lent { pull.new.source.ghost_name ≡ pull.old.source.ghost_name }
-    ensures reads { WantReadsTaken S.half pull.old pull.new result (λ end. run_at end n block.old) (λ x rest. (x, block.new, rest)) }
+    ensures reads { WantReadsTaken S.half pull.old pull.new result (λ end. run_at end n block.old)
+        (λ x rest. (x, block.new, rest)) }
     ensures stops { WantStopsTaken S.half pull.old pull.new result (λ end. run_at end n block.old) }
 {
     let mut bytes = ByteList::new(alloc);
@@ -155,8 +161,10 @@ pub(crate) fn run_into<S: Source>(
     buf: &mut [u8],
 ) -> Result<(), StreamFault>
     ensures lent { pull.new.source.ghost_name ≡ pull.old.source.ghost_name }
-    ensures reads { WantReadsTaken S.half pull.old pull.new result (λ end. run_at end (length buf.old) block.old) (λ x rest. (buf.new, block.new, rest)) }
-    ensures stops { WantStopsTaken S.half pull.old pull.new result (λ end. run_at end (length buf.old) block.old) }
+    ensures reads { WantReadsTaken S.half pull.old pull.new result
+        (λ end. run_at end (length buf.old) block.old) (λ x rest. (buf.new, block.new, rest)) }
+    ensures stops { WantStopsTaken S.half pull.old pull.new result
+        (λ end. run_at end (length buf.old) block.old) }
 {
     let mut done = 0;
     while done < buf.len() {

@@ -22,7 +22,8 @@ pub(crate) struct DescFront {
 /// The next 11 bytes, which are all there before one of them is judged. `NegativeLength` comes at the first byte of the count of fields.
 pub(crate) fn desc_front<S: Source>(pull: &mut Pull<'_, S>) -> Result<DescFront, StreamFault>
     ensures lent { pull.new.source.ghost_name ≡ pull.old.source.ghost_name }
-    ensures reads { ReadsTaken S.half pull.old pull.new result (λ end. front_at end) (λ x rest. (x, rest)) }
+    ensures reads { ReadsTaken S.half pull.old pull.new result (λ end. front_at end)
+        (λ x rest. (x, rest)) }
     ensures stops { StopsTaken S.half pull.old pull.new result (λ end. front_at end) }
 {
     let start = pull.at;

@@ -13,7 +13,8 @@ use wire_io::source::Source;
 #[tactic(auto, unfolding(stream_grammar::specs::Reading::magic_at))]
 fn magic_byte<S: Source>(pull: &mut Pull<'_, S>, want: u8) -> Result<(), StreamFault>
     ensures lent { pull.new.source.ghost_name ≡ pull.old.source.ghost_name }
-    ensures reads { ReadsTaken S.half pull.old pull.new result (λ end. magic_at end (want ∷ [])) (λ x rest. rest) }
+    ensures reads { ReadsTaken S.half pull.old pull.new result (λ end. magic_at end (want ∷ []))
+        (λ x rest. rest) }
     ensures stops { StopsTaken S.half pull.old pull.new result (λ end. magic_at end (want ∷ [])) }
 {
     let at = pull.at;
@@ -29,8 +30,10 @@ fn magic_byte<S: Source>(pull: &mut Pull<'_, S>, want: u8) -> Result<(), StreamF
 #[tactic(auto, unfolding(stream_grammar::specs::Reading::magic_at))]
 pub(crate) fn magic<S: Source>(pull: &mut Pull<'_, S>) -> Result<(), StreamFault>
     ensures lent { pull.new.source.ghost_name ≡ pull.old.source.ghost_name }
-    ensures reads { ReadsTaken S.half pull.old pull.new result (λ end. magic_at end (0xAC ∷ 0xED ∷ 0x00 ∷ 0x05 ∷ [])) (λ x rest. rest) }
-    ensures stops { StopsTaken S.half pull.old pull.new result (λ end. magic_at end (0xAC ∷ 0xED ∷ 0x00 ∷ 0x05 ∷ [])) }
+    ensures reads { ReadsTaken S.half pull.old pull.new result
+        (λ end. magic_at end (0xAC ∷ 0xED ∷ 0x00 ∷ 0x05 ∷ [])) (λ x rest. rest) }
+    ensures stops { StopsTaken S.half pull.old pull.new result
+        (λ end. magic_at end (0xAC ∷ 0xED ∷ 0x00 ∷ 0x05 ∷ [])) }
 {
     magic_byte(pull, 0xAC)?;
     magic_byte(pull, 0xED)?;

@@ -38,8 +38,10 @@ pub(crate) trait Number: Drop {
     /// The next one.
     fn pull<S: Source>(pull: &mut Pull<'_, S>) -> Result<Self, StreamFault>
         ensures lent { pull.new.source.ghost_name ≡ pull.old.source.ghost_name }
-        ensures reads { (now : Progress) → ReadsTaken S.half pull.old pull.new result (λ end. read now) (λ x rest. (x, now, rest)) }
-        ensures stops { (now : Progress) → StopsTaken S.half pull.old pull.new result (λ end. read now) };
+        ensures reads { (now : Progress) → ReadsTaken S.half pull.old pull.new result
+            (λ end. read now) (λ x rest. (x, now, rest)) }
+        ensures stops { (now : Progress) → StopsTaken S.half pull.old pull.new result
+            (λ end. read now) };
 
     /// The one that these bytes spell.
     fn of(bytes: &[u8]) -> Self
@@ -281,8 +283,10 @@ fn numbers<T: Number, S: Source>(
     n: u32,
 ) -> Result<Sequence<T>, StreamFault>
     ensures lent { pull.new.source.ghost_name ≡ pull.old.source.ghost_name }
-    ensures reads { (now : Progress) → ReadsTaken S.half pull.old pull.new result (λ end. many_at T.read n now) (λ x rest. (x, now, rest)) }
-    ensures stops { (now : Progress) → StopsTaken S.half pull.old pull.new result (λ end. many_at T.read n now) }
+    ensures reads { (now : Progress) → ReadsTaken S.half pull.old pull.new result
+        (λ end. many_at T.read n now) (λ x rest. (x, now, rest)) }
+    ensures stops { (now : Progress) → StopsTaken S.half pull.old pull.new result
+        (λ end. many_at T.read n now) }
 {
     let mut numbers = Sequence::new(alloc);
     let mut left = n;
@@ -298,8 +302,10 @@ fn numbers<T: Number, S: Source>(
 /// The next `n` bytes, as elements.
 fn bytes<S: Source>(alloc: Global, pull: &mut Pull<'_, S>, n: u32) -> Result<ByteList, StreamFault>
     ensures lent { pull.new.source.ghost_name ≡ pull.old.source.ghost_name }
-    ensures reads { (now : Progress) → ReadsTaken S.half pull.old pull.new result (λ end. many_at (plain byte_at) n now) (λ x rest. (x, now, rest)) }
-    ensures stops { (now : Progress) → StopsTaken S.half pull.old pull.new result (λ end. many_at (plain byte_at) n now) }
+    ensures reads { (now : Progress) → ReadsTaken S.half pull.old pull.new result
+        (λ end. many_at (plain byte_at) n now) (λ x rest. (x, now, rest)) }
+    ensures stops { (now : Progress) → StopsTaken S.half pull.old pull.new result
+        (λ end. many_at (plain byte_at) n now) }
 {
     let bytes = take(alloc, pull, u64::from(n))?;
     Ok(bytes)
@@ -313,8 +319,11 @@ pub(crate) fn primitive<S: Source>(
 ) -> Result<Value, StreamFault>
     requires { is_primitive code ≡ true }
     ensures lent { pull.new.source.ghost_name ≡ pull.old.source.ghost_name }
-    ensures reads { (inner : Step Slot) (now : Progress) → ReadsTaken S.half pull.old pull.new result (λ end. value_at inner code now) (λ x rest. (x, now, rest)) }
-    ensures stops { (inner : Step Slot) (now : Progress) → StopsTaken S.half pull.old pull.new result (λ end. value_at inner code now) }
+    ensures reads { (inner : Step Slot) (now : Progress)
+        → ReadsTaken S.half pull.old pull.new result (λ end. value_at inner code now)
+        (λ x rest. (x, now, rest)) }
+    ensures stops { (inner : Step Slot) (now : Progress)
+        → StopsTaken S.half pull.old pull.new result (λ end. value_at inner code now) }
 {
     match code {
         TypeCode::Byte => Ok(Value::Byte(u8::pull(pull)?)),
@@ -340,8 +349,11 @@ pub(crate) fn primitives<S: Source>(
 ) -> Result<Values, StreamFault>
     requires { is_primitive code ≡ true }
     ensures lent { pull.new.source.ghost_name ≡ pull.old.source.ghost_name }
-    ensures reads { (inner : Step Slot) (now : Progress) → ReadsTaken S.half pull.old pull.new result (λ end. elements_at inner code n now) (λ x rest. (x, now, rest)) }
-    ensures stops { (inner : Step Slot) (now : Progress) → StopsTaken S.half pull.old pull.new result (λ end. elements_at inner code n now) }
+    ensures reads { (inner : Step Slot) (now : Progress)
+        → ReadsTaken S.half pull.old pull.new result (λ end. elements_at inner code n now)
+        (λ x rest. (x, now, rest)) }
+    ensures stops { (inner : Step Slot) (now : Progress)
+        → StopsTaken S.half pull.old pull.new result (λ end. elements_at inner code n now) }
 {
     match code {
         TypeCode::Byte => Ok(Values::Bytes(bytes(alloc, pull, n)?)),

@@ -73,7 +73,8 @@ pub(crate) fn blank(alloc: Global) -> Node
 
 /// Null, whose code at this position was read.
 pub(crate) fn null(place: SlotPlace, at: u64) -> Result<Slot, StreamFault>
-    ensures gives { (after : StreamFault) (now : Progress) (bs : List ℕ) → Gives after (λ slot. (slot, now, bs)) result (null_at place at now bs) }
+    ensures gives { (after : StreamFault) (now : Progress) (bs : List ℕ)
+        → Gives after (λ slot. (slot, now, bs)) result (null_at place at now bs) }
     ensures cause { (faults : ℕ) → Caused faults faults result }
     ensures some { place ≡ Text → IfOk result (λ slot. slot ≢ Null) }
 {
@@ -95,8 +96,11 @@ pub(crate) fn handle<S: Source>(
 ) -> Result<Slot, StreamFault>
     ensures some { IfOk result (λ slot. slot ≢ Null) }
     ensures lent { pull.new.source.ghost_name ≡ pull.old.source.ghost_name }
-    ensures reads { ReadsTaken S.half pull.old pull.new result (λ end. handle_at place table.now.unread.items at (now_of table.now)) (λ x rest. (x, now_of table.now, rest)) }
-    ensures stops { StopsTaken S.half pull.old pull.new result (λ end. handle_at place table.now.unread.items at (now_of table.now)) }
+    ensures reads { ReadsTaken S.half pull.old pull.new result
+        (λ end. handle_at place table.now.unread.items at (now_of table.now))
+        (λ x rest. (x, now_of table.now, rest)) }
+    ensures stops { StopsTaken S.half pull.old pull.new result
+        (λ end. handle_at place table.now.unread.items at (now_of table.now)) }
 {
     let handle = four(pull)?;
     if handle < FIRST_HANDLE {
@@ -112,7 +116,8 @@ pub(crate) fn handle<S: Source>(
 /// Counts so many further parts. `TooLarge` of nodes comes at this position where there is no room for them.
 pub(crate) fn count_parts(table: &mut Table, more: usize, at: u64) -> Result<(), StreamFault>
     ensures ok { OnOk result (now_of table.new ≡ add_parts more (now_of table.old)) }
-    ensures err { IfErr result (λ fault. (fault ≡ TooLarge Nodes at) × (nat_lt PARTS ((now_of table.old).parts + more) ≡ true)) }
+    ensures err { IfErr result (λ fault. (fault ≡ TooLarge Nodes at)
+        × (nat_lt PARTS ((now_of table.old).parts + more) ≡ true)) }
     ensures room { OnOk result (nat_lt PARTS ((now_of table.old).parts + more) ≡ false) }
     ensures unread { table.new.unread.items ≡ table.old.unread.items }
     ensures grows { length table.new.nodes.items ≡ length table.old.nodes.items }
@@ -134,8 +139,10 @@ pub(crate) fn names<S: Source>(
     n: u32,
 ) -> Result<NameList, StreamFault>
     ensures lent { pull.new.source.ghost_name ≡ pull.old.source.ghost_name }
-    ensures reads { (now : Progress) → ReadsTaken S.half pull.old pull.new result (λ end. many_at (plain (short_at end)) n now) (λ x rest. (x, now, rest)) }
-    ensures stops { (now : Progress) → StopsTaken S.half pull.old pull.new result (λ end. many_at (plain (short_at end)) n now) }
+    ensures reads { (now : Progress) → ReadsTaken S.half pull.old pull.new result
+        (λ end. many_at (plain (short_at end)) n now) (λ x rest. (x, now, rest)) }
+    ensures stops { (now : Progress) → StopsTaken S.half pull.old pull.new result
+        (λ end. many_at (plain (short_at end)) n now) }
 {
     let mut names = NameList::new(alloc);
     for _ in 0..n {

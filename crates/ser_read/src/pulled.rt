@@ -25,7 +25,8 @@ const FEW: u16 = 64;
 /// The next byte.
 pub(crate) fn byte<S: Source>(pull: &mut Pull<'_, S>) -> Result<u8, StreamFault>
     ensures lent { pull.new.source.ghost_name ≡ pull.old.source.ghost_name }
-    ensures reads { ReadsTaken S.half pull.old pull.new result (λ end. byte_at) (λ x rest. (x, rest)) }
+    ensures reads { ReadsTaken S.half pull.old pull.new result (λ end. byte_at)
+        (λ x rest. (x, rest)) }
     ensures stops { StopsTaken S.half pull.old pull.new result (λ end. byte_at) }
 {
     Ok(pull.byte()?)
@@ -44,7 +45,8 @@ fn see(bytes: &[u8])
 #[inline(always)]
 pub(crate) fn fill<S: Source>(pull: &mut Pull<'_, S>, buf: &mut [u8]) -> Result<(), StreamFault>
     ensures lent { pull.new.source.ghost_name ≡ pull.old.source.ghost_name }
-    ensures reads { ReadsTaken S.half pull.old pull.new result (λ end. take_at (length buf.old)) (λ x rest. (buf.new, rest)) }
+    ensures reads { ReadsTaken S.half pull.old pull.new result (λ end. take_at (length buf.old))
+        (λ x rest. (buf.new, rest)) }
     ensures stops { StopsTaken S.half pull.old pull.new result (λ end. take_at (length buf.old)) }
 {
     pull.take_into(buf)?;
@@ -56,7 +58,8 @@ pub(crate) fn fill<S: Source>(pull: &mut Pull<'_, S>, buf: &mut [u8]) -> Result<
 #[inline(always)]
 pub(crate) fn two<S: Source>(pull: &mut Pull<'_, S>) -> Result<u16, StreamFault>
     ensures lent { pull.new.source.ghost_name ≡ pull.old.source.ghost_name }
-    ensures reads { ReadsTaken S.half pull.old pull.new result (λ end. number_at w16) (λ x rest. (x, rest)) }
+    ensures reads { ReadsTaken S.half pull.old pull.new result (λ end. number_at w16)
+        (λ x rest. (x, rest)) }
     ensures stops { StopsTaken S.half pull.old pull.new result (λ end. number_at w16) }
 {
     let mut bytes = [0; 2];
@@ -68,7 +71,8 @@ pub(crate) fn two<S: Source>(pull: &mut Pull<'_, S>) -> Result<u16, StreamFault>
 #[inline(always)]
 pub(crate) fn four<S: Source>(pull: &mut Pull<'_, S>) -> Result<u32, StreamFault>
     ensures lent { pull.new.source.ghost_name ≡ pull.old.source.ghost_name }
-    ensures reads { ReadsTaken S.half pull.old pull.new result (λ end. number_at w32) (λ x rest. (x, rest)) }
+    ensures reads { ReadsTaken S.half pull.old pull.new result (λ end. number_at w32)
+        (λ x rest. (x, rest)) }
     ensures stops { StopsTaken S.half pull.old pull.new result (λ end. number_at w32) }
 {
     let mut bytes = [0; 4];
@@ -80,7 +84,8 @@ pub(crate) fn four<S: Source>(pull: &mut Pull<'_, S>) -> Result<u32, StreamFault
 #[inline(always)]
 pub(crate) fn eight<S: Source>(pull: &mut Pull<'_, S>) -> Result<u64, StreamFault>
     ensures lent { pull.new.source.ghost_name ≡ pull.old.source.ghost_name }
-    ensures reads { ReadsTaken S.half pull.old pull.new result (λ end. number_at w64) (λ x rest. (x, rest)) }
+    ensures reads { ReadsTaken S.half pull.old pull.new result (λ end. number_at w64)
+        (λ x rest. (x, rest)) }
     ensures stops { StopsTaken S.half pull.old pull.new result (λ end. number_at w64) }
 {
     let mut bytes = [0; 8];
@@ -92,7 +97,8 @@ pub(crate) fn eight<S: Source>(pull: &mut Pull<'_, S>) -> Result<u64, StreamFaul
 #[tactic(auto, unfolding(stream_grammar::specs::Reading::size_at))]
 pub(crate) fn count<S: Source>(pull: &mut Pull<'_, S>) -> Result<u32, StreamFault>
     ensures lent { pull.new.source.ghost_name ≡ pull.old.source.ghost_name }
-    ensures reads { ReadsTaken S.half pull.old pull.new result (λ end. size_at end w32 (2 ^ 31)) (λ x rest. (x, rest)) }
+    ensures reads { ReadsTaken S.half pull.old pull.new result (λ end. size_at end w32 (2 ^ 31))
+        (λ x rest. (x, rest)) }
     ensures stops { StopsTaken S.half pull.old pull.new result (λ end. size_at end w32 (2 ^ 31)) }
 {
     let at = pull.at;
@@ -108,7 +114,8 @@ pub(crate) fn count<S: Source>(pull: &mut Pull<'_, S>) -> Result<u32, StreamFaul
 #[tactic(auto, unfolding(stream_grammar::specs::Reading::size_at))]
 fn long_length<S: Source>(pull: &mut Pull<'_, S>) -> Result<u64, StreamFault>
     ensures lent { pull.new.source.ghost_name ≡ pull.old.source.ghost_name }
-    ensures reads { ReadsTaken S.half pull.old pull.new result (λ end. size_at end w64 (2 ^ 63)) (λ x rest. (x, rest)) }
+    ensures reads { ReadsTaken S.half pull.old pull.new result (λ end. size_at end w64 (2 ^ 63))
+        (λ x rest. (x, rest)) }
     ensures stops { StopsTaken S.half pull.old pull.new result (λ end. size_at end w64 (2 ^ 63)) }
 {
     let at = pull.at;
@@ -137,7 +144,8 @@ pub(crate) fn piece<S: Source>(
     n: u32,
 ) -> Result<ByteList, StreamFault>
     ensures lent { pull.new.source.ghost_name ≡ pull.old.source.ghost_name }
-    ensures reads { ReadsTaken S.half pull.old pull.new result (λ end. take_at n) (λ x rest. (x, rest)) }
+    ensures reads { ReadsTaken S.half pull.old pull.new result (λ end. take_at n)
+        (λ x rest. (x, rest)) }
     ensures stops { StopsTaken S.half pull.old pull.new result (λ end. take_at n) }
 {
     let bytes = pull.take(alloc, n)?;
@@ -164,7 +172,8 @@ pub(crate) fn take<S: Source>(
     n: u64,
 ) -> Result<ByteList, StreamFault>
     ensures lent { pull.new.source.ghost_name ≡ pull.old.source.ghost_name }
-    ensures reads { ReadsTaken S.half pull.old pull.new result (λ end. take_at n) (λ x rest. (x, rest)) }
+    ensures reads { ReadsTaken S.half pull.old pull.new result (λ end. take_at n)
+        (λ x rest. (x, rest)) }
     ensures stops { StopsTaken S.half pull.old pull.new result (λ end. take_at n) }
 {
     let mut bytes = ByteList::new(alloc);
@@ -183,7 +192,8 @@ pub(crate) fn take<S: Source>(
 #[tactic(auto, unfolding(stream_grammar::specs::Reading::units_at))]
 fn units<S: Source>(alloc: Global, pull: &mut Pull<'_, S>, n: u64) -> Result<Units, StreamFault>
     ensures lent { pull.new.source.ghost_name ≡ pull.old.source.ghost_name }
-    ensures reads { ReadsTaken S.half pull.old pull.new result (λ end. units_at end n) (λ x rest. (x, rest)) }
+    ensures reads { ReadsTaken S.half pull.old pull.new result (λ end. units_at end n)
+        (λ x rest. (x, rest)) }
     ensures stops { StopsTaken S.half pull.old pull.new result (λ end. units_at end n) }
 {
     let start = pull.at;
@@ -210,7 +220,8 @@ fn is_few(n: u16) -> bool
 fn few_units<S: Source>(alloc: Global, pull: &mut Pull<'_, S>, n: u16) -> Result<Units, StreamFault>
     requires { n ≤ FEW }
     ensures lent { pull.new.source.ghost_name ≡ pull.old.source.ghost_name }
-    ensures reads { ReadsTaken S.half pull.old pull.new result (λ end. units_at end n) (λ x rest. (x, rest)) }
+    ensures reads { ReadsTaken S.half pull.old pull.new result (λ end. units_at end n)
+        (λ x rest. (x, rest)) }
     ensures stops { StopsTaken S.half pull.old pull.new result (λ end. units_at end n) }
 {
     let start = pull.at;
@@ -239,7 +250,8 @@ pub(crate) fn short_text<S: Source>(
     pull: &mut Pull<'_, S>,
 ) -> Result<Units, StreamFault>
     ensures lent { pull.new.source.ghost_name ≡ pull.old.source.ghost_name }
-    ensures reads { ReadsTaken S.half pull.old pull.new result (λ end. short_at end) (λ x rest. (x, rest)) }
+    ensures reads { ReadsTaken S.half pull.old pull.new result (λ end. short_at end)
+        (λ x rest. (x, rest)) }
     ensures stops { StopsTaken S.half pull.old pull.new result (λ end. short_at end) }
 {
     let n = two(pull)?;
@@ -257,7 +269,8 @@ pub(crate) fn long_text<S: Source>(
     pull: &mut Pull<'_, S>,
 ) -> Result<Units, StreamFault>
     ensures lent { pull.new.source.ghost_name ≡ pull.old.source.ghost_name }
-    ensures reads { ReadsTaken S.half pull.old pull.new result (λ end. long_at end) (λ x rest. (x, rest)) }
+    ensures reads { ReadsTaken S.half pull.old pull.new result (λ end. long_at end)
+        (λ x rest. (x, rest)) }
     ensures stops { StopsTaken S.half pull.old pull.new result (λ end. long_at end) }
 {
     let n = long_length(pull)?;

@@ -46,8 +46,10 @@ fn bytes_in<S: Source>(
 ) -> Result<ByteList, StreamFault>
     ensures lent { pull.new.source.ghost_name ≡ pull.old.source.ghost_name }
     ensures table { stand.new.table ≡ stand.old.table }
-    ensures reads { WantReadsTaken S.half pull.old pull.new result (λ end. bytes_at end n (stand_of stand.old)) (λ x rest. (x, stand_of stand.new, rest)) }
-    ensures stops { WantStopsTaken S.half pull.old pull.new result (λ end. bytes_at end n (stand_of stand.old)) }
+    ensures reads { WantReadsTaken S.half pull.old pull.new result
+        (λ end. bytes_at end n (stand_of stand.old)) (λ x rest. (x, stand_of stand.new, rest)) }
+    ensures stops { WantStopsTaken S.half pull.old pull.new result
+        (λ end. bytes_at end n (stand_of stand.old)) }
 {
     let bytes = run(alloc, pull, &mut stand.block, n)?;
     let copy = bytes.copy(alloc)?;
@@ -65,8 +67,11 @@ fn bytes_put<S: Source>(
 ) -> Result<(), StreamFault>
     ensures lent { pull.new.source.ghost_name ≡ pull.old.source.ghost_name }
     ensures table { stand.new.table ≡ stand.old.table }
-    ensures reads { WantReadsTaken S.half pull.old pull.new result (λ end. bytes_at end (length buf.old) (stand_of stand.old)) (λ x rest. (buf.new, stand_of stand.new, rest)) }
-    ensures stops { WantStopsTaken S.half pull.old pull.new result (λ end. bytes_at end (length buf.old) (stand_of stand.old)) }
+    ensures reads { WantReadsTaken S.half pull.old pull.new result
+        (λ end. bytes_at end (length buf.old) (stand_of stand.old))
+        (λ x rest. (buf.new, stand_of stand.new, rest)) }
+    ensures stops { WantStopsTaken S.half pull.old pull.new result
+        (λ end. bytes_at end (length buf.old) (stand_of stand.old)) }
 {
     run_into(pull, &mut stand.block, buf)?;
     let copy = ByteList::from_slice(alloc, buf)?;
@@ -85,8 +90,10 @@ fn counted<S: Source>(
     requires read { table.old.unread.items ≡ [] }
     ensures lent { pull.new.source.ghost_name ≡ pull.old.source.ghost_name }
     ensures read { OnOk result (table.new.unread.items ≡ []) }
-    ensures reads { ReadsTaken S.half pull.old pull.new result (λ end. counted_at end at code (now_of table.old)) (λ x rest. (x, now_of table.new, rest)) }
-    ensures stops { StopsTaken S.half pull.old pull.new result (λ end. counted_at end at code (now_of table.old)) }
+    ensures reads { ReadsTaken S.half pull.old pull.new result
+        (λ end. counted_at end at code (now_of table.old)) (λ x rest. (x, now_of table.new, rest)) }
+    ensures stops { StopsTaken S.half pull.old pull.new result
+        (λ end. counted_at end at code (now_of table.old)) }
 {
     let slot = construct(alloc, pull, table, SlotPlace::Reference, LEVELS, at, code)?;
     count_parts(table, 1, at)?;
@@ -103,8 +110,10 @@ fn reference<S: Source>(
     requires read { table.old.unread.items ≡ [] }
     ensures lent { pull.new.source.ghost_name ≡ pull.old.source.ghost_name }
     ensures read { OnOk result (table.new.unread.items ≡ []) }
-    ensures reads { WantReadsTaken S.half pull.old pull.new result (λ end. reference_at end (now_of table.old)) (λ x rest. (x, now_of table.new, rest)) }
-    ensures stops { WantStopsTaken S.half pull.old pull.new result (λ end. reference_at end (now_of table.old)) }
+    ensures reads { WantReadsTaken S.half pull.old pull.new result
+        (λ end. reference_at end (now_of table.old)) (λ x rest. (x, now_of table.new, rest)) }
+    ensures stops { WantStopsTaken S.half pull.old pull.new result
+        (λ end. reference_at end (now_of table.old)) }
 {
     match next_head(pull)? {
         Head::Block(_) => Err(bad(StreamKind::BlockLeft, pull.at)),
@@ -122,8 +131,10 @@ fn slot_in<S: Source>(
     requires read { stand.old.table.unread.items ≡ [] }
     ensures lent { pull.new.source.ghost_name ≡ pull.old.source.ghost_name }
     ensures read { OnOk result (stand.new.table.unread.items ≡ []) }
-    ensures reads { WantReadsTaken S.half pull.old pull.new result (λ end. slot_next end (stand_of stand.old)) (λ x rest. (x, stand_of stand.new, rest)) }
-    ensures stops { WantStopsTaken S.half pull.old pull.new result (λ end. slot_next end (stand_of stand.old)) }
+    ensures reads { WantReadsTaken S.half pull.old pull.new result
+        (λ end. slot_next end (stand_of stand.old)) (λ x rest. (x, stand_of stand.new, rest)) }
+    ensures stops { WantStopsTaken S.half pull.old pull.new result
+        (λ end. slot_next end (stand_of stand.old)) }
 {
     if stand.block > 0 {
         return Err(bad(StreamKind::BlockLeft, pull.at));
@@ -167,12 +178,16 @@ impl Reader {
     pub fn start<S: Source>(alloc: Global, pull: &mut Pull<'_, S>) -> Result<Reader, StreamFault>
         ensures kept { IfOk result (λ reader. reader.refused ≡ None) }
         ensures stand { IfOk result (λ reader. reader.stand ≡ nothing_read) }
-        ensures cause { Caused (S.half pull.old.source.now).faults (S.half pull.new.source.now).faults result }
+        ensures cause { Caused (S.half pull.old.source.now).faults
+            (S.half pull.new.source.now).faults result }
         ensures lent { pull.new.source.ghost_name ≡ pull.old.source.ghost_name }
         ensures env { OnOk result (env S.half pull.new ≡ env S.half pull.old) }
-        ensures gives { GivesTold S.half pull.old pull.new result (λ end. magic_at end (0xAC ∷ 0xED ∷ 0x00 ∷ 0x05 ∷ [])) (λ x rest. rest) }
-        ensures reads { ReadsTaken S.half pull.old pull.new result (λ end. magic_at end (0xAC ∷ 0xED ∷ 0x00 ∷ 0x05 ∷ [])) (λ x rest. rest) }
-        ensures stops { StopsTaken S.half pull.old pull.new result (λ end. magic_at end (0xAC ∷ 0xED ∷ 0x00 ∷ 0x05 ∷ [])) }
+        ensures gives { GivesTold S.half pull.old pull.new result
+            (λ end. magic_at end (0xAC ∷ 0xED ∷ 0x00 ∷ 0x05 ∷ [])) (λ x rest. rest) }
+        ensures reads { ReadsTaken S.half pull.old pull.new result
+            (λ end. magic_at end (0xAC ∷ 0xED ∷ 0x00 ∷ 0x05 ∷ [])) (λ x rest. rest) }
+        ensures stops { StopsTaken S.half pull.old pull.new result
+            (λ end. magic_at end (0xAC ∷ 0xED ∷ 0x00 ∷ 0x05 ∷ [])) }
     {
         magic(pull)?;
         Ok(Reader {
@@ -194,15 +209,21 @@ impl Reader {
         pull: &mut Pull<'_, S>,
         n: u32,
     ) -> Result<ByteList, StreamFault>
-        ensures again { (fault : StreamFault) → self.old.refused ≡ Some fault → (result ≡ Err fault) × (self.new.refused ≡ Some fault) × (pull.new.source.now ≡ pull.old.source.now) × (pull.new.at ≡ pull.old.at) × (pull.new.stop ≡ pull.old.stop) }
+        ensures again { (fault : StreamFault) → self.old.refused ≡ Some fault → (result ≡ Err fault)
+            × (self.new.refused ≡ Some fault) × (pull.new.source.now ≡ pull.old.source.now)
+            × (pull.new.at ≡ pull.old.at) × (pull.new.stop ≡ pull.old.stop) }
         ensures kept { OnOk result (self.new.refused ≡ None) }
         ensures refused { IfErr result (λ fault. self.new.refused ≡ Some fault) }
-        ensures cause { self.old.refused ≡ None → Caused (S.half pull.old.source.now).faults (S.half pull.new.source.now).faults result }
+        ensures cause { self.old.refused ≡ None → Caused (S.half pull.old.source.now).faults
+            (S.half pull.new.source.now).faults result }
         ensures lent { pull.new.source.ghost_name ≡ pull.old.source.ghost_name }
         ensures env { OnOk result (env S.half pull.new ≡ env S.half pull.old) }
-        ensures gives { self.old.refused ≡ None → WantGivesTold S.half pull.old pull.new result (λ end. bytes_at end n self.old.stand) (λ x rest. (x, self.new.stand, rest)) }
-        ensures reads { WantReadsTaken S.half pull.old pull.new result (λ end. bytes_at end n self.old.stand) (λ x rest. (x, self.new.stand, rest)) }
-        ensures stops { self.old.refused ≡ None → WantStopsTaken S.half pull.old pull.new result (λ end. bytes_at end n self.old.stand) }
+        ensures gives { self.old.refused ≡ None → WantGivesTold S.half pull.old pull.new result
+            (λ end. bytes_at end n self.old.stand) (λ x rest. (x, self.new.stand, rest)) }
+        ensures reads { WantReadsTaken S.half pull.old pull.new result
+            (λ end. bytes_at end n self.old.stand) (λ x rest. (x, self.new.stand, rest)) }
+        ensures stops { self.old.refused ≡ None → WantStopsTaken S.half pull.old pull.new result
+            (λ end. bytes_at end n self.old.stand) }
     {
         if let Some(earlier) = self.refused {
             return Err(earlier);
@@ -225,15 +246,23 @@ impl Reader {
         pull: &mut Pull<'_, S>,
         buf: &mut [u8],
     ) -> Result<(), StreamFault>
-        ensures again { (fault : StreamFault) → self.old.refused ≡ Some fault → (result ≡ Err fault) × (self.new.refused ≡ Some fault) × (pull.new.source.now ≡ pull.old.source.now) × (pull.new.at ≡ pull.old.at) × (pull.new.stop ≡ pull.old.stop) }
+        ensures again { (fault : StreamFault) → self.old.refused ≡ Some fault → (result ≡ Err fault)
+            × (self.new.refused ≡ Some fault) × (pull.new.source.now ≡ pull.old.source.now)
+            × (pull.new.at ≡ pull.old.at) × (pull.new.stop ≡ pull.old.stop) }
         ensures kept { OnOk result (self.new.refused ≡ None) }
         ensures refused { IfErr result (λ fault. self.new.refused ≡ Some fault) }
-        ensures cause { self.old.refused ≡ None → Caused (S.half pull.old.source.now).faults (S.half pull.new.source.now).faults result }
+        ensures cause { self.old.refused ≡ None → Caused (S.half pull.old.source.now).faults
+            (S.half pull.new.source.now).faults result }
         ensures lent { pull.new.source.ghost_name ≡ pull.old.source.ghost_name }
         ensures env { OnOk result (env S.half pull.new ≡ env S.half pull.old) }
-        ensures gives { self.old.refused ≡ None → WantGivesTold S.half pull.old pull.new result (λ end. bytes_at end (length buf.old) self.old.stand) (λ x rest. (buf.new, self.new.stand, rest)) }
-        ensures reads { WantReadsTaken S.half pull.old pull.new result (λ end. bytes_at end (length buf.old) self.old.stand) (λ x rest. (buf.new, self.new.stand, rest)) }
-        ensures stops { self.old.refused ≡ None → WantStopsTaken S.half pull.old pull.new result (λ end. bytes_at end (length buf.old) self.old.stand) }
+        ensures gives { self.old.refused ≡ None → WantGivesTold S.half pull.old pull.new result
+            (λ end. bytes_at end (length buf.old) self.old.stand)
+            (λ x rest. (buf.new, self.new.stand, rest)) }
+        ensures reads { WantReadsTaken S.half pull.old pull.new result
+            (λ end. bytes_at end (length buf.old) self.old.stand)
+            (λ x rest. (buf.new, self.new.stand, rest)) }
+        ensures stops { self.old.refused ≡ None → WantStopsTaken S.half pull.old pull.new result
+            (λ end. bytes_at end (length buf.old) self.old.stand) }
     {
         if let Some(earlier) = self.refused {
             return Err(earlier);
@@ -255,15 +284,21 @@ impl Reader {
         alloc: Global,
         pull: &mut Pull<'_, S>,
     ) -> Result<Slot, StreamFault>
-        ensures again { (fault : StreamFault) → self.old.refused ≡ Some fault → (result ≡ Err fault) × (self.new.refused ≡ Some fault) × (pull.new.source.now ≡ pull.old.source.now) × (pull.new.at ≡ pull.old.at) × (pull.new.stop ≡ pull.old.stop) }
+        ensures again { (fault : StreamFault) → self.old.refused ≡ Some fault → (result ≡ Err fault)
+            × (self.new.refused ≡ Some fault) × (pull.new.source.now ≡ pull.old.source.now)
+            × (pull.new.at ≡ pull.old.at) × (pull.new.stop ≡ pull.old.stop) }
         ensures kept { OnOk result (self.new.refused ≡ None) }
         ensures refused { IfErr result (λ fault. self.new.refused ≡ Some fault) }
-        ensures cause { self.old.refused ≡ None → Caused (S.half pull.old.source.now).faults (S.half pull.new.source.now).faults result }
+        ensures cause { self.old.refused ≡ None → Caused (S.half pull.old.source.now).faults
+            (S.half pull.new.source.now).faults result }
         ensures lent { pull.new.source.ghost_name ≡ pull.old.source.ghost_name }
         ensures env { OnOk result (env S.half pull.new ≡ env S.half pull.old) }
-        ensures gives { self.old.refused ≡ None → WantGivesTold S.half pull.old pull.new result (λ end. slot_next end self.old.stand) (λ x rest. (x, self.new.stand, rest)) }
-        ensures reads { WantReadsTaken S.half pull.old pull.new result (λ end. slot_next end self.old.stand) (λ x rest. (x, self.new.stand, rest)) }
-        ensures stops { self.old.refused ≡ None → WantStopsTaken S.half pull.old pull.new result (λ end. slot_next end self.old.stand) }
+        ensures gives { self.old.refused ≡ None → WantGivesTold S.half pull.old pull.new result
+            (λ end. slot_next end self.old.stand) (λ x rest. (x, self.new.stand, rest)) }
+        ensures reads { WantReadsTaken S.half pull.old pull.new result
+            (λ end. slot_next end self.old.stand) (λ x rest. (x, self.new.stand, rest)) }
+        ensures stops { self.old.refused ≡ None → WantStopsTaken S.half pull.old pull.new result
+            (λ end. slot_next end self.old.stand) }
     {
         if let Some(fault) = self.refused {
             return Err(fault);
@@ -286,15 +321,21 @@ impl Reader {
         pull: &mut Pull<'_, S>,
         wants: &[Want],
     ) -> Result<Items, StreamFault>
-        ensures again { (fault : StreamFault) → self.old.refused ≡ Some fault → (result ≡ Err fault) × (self.new.refused ≡ Some fault) × (pull.new.source.now ≡ pull.old.source.now) × (pull.new.at ≡ pull.old.at) × (pull.new.stop ≡ pull.old.stop) }
+        ensures again { (fault : StreamFault) → self.old.refused ≡ Some fault → (result ≡ Err fault)
+            × (self.new.refused ≡ Some fault) × (pull.new.source.now ≡ pull.old.source.now)
+            × (pull.new.at ≡ pull.old.at) × (pull.new.stop ≡ pull.old.stop) }
         ensures kept { OnOk result (self.new.refused ≡ None) }
         ensures refused { IfErr result (λ fault. self.new.refused ≡ Some fault) }
-        ensures cause { self.old.refused ≡ None → Caused (S.half pull.old.source.now).faults (S.half pull.new.source.now).faults result }
+        ensures cause { self.old.refused ≡ None → Caused (S.half pull.old.source.now).faults
+            (S.half pull.new.source.now).faults result }
         ensures lent { pull.new.source.ghost_name ≡ pull.old.source.ghost_name }
         ensures env { OnOk result (env S.half pull.new ≡ env S.half pull.old) }
-        ensures gives { self.old.refused ≡ None → WantGivesTold S.half pull.old pull.new result (λ end. serve end wants.now self.old.stand) (λ x rest. (x, self.new.stand, rest)) }
-        ensures reads { WantReadsTaken S.half pull.old pull.new result (λ end. serve end wants.now self.old.stand) (λ x rest. (x, self.new.stand, rest)) }
-        ensures stops { self.old.refused ≡ None → WantStopsTaken S.half pull.old pull.new result (λ end. serve end wants.now self.old.stand) }
+        ensures gives { self.old.refused ≡ None → WantGivesTold S.half pull.old pull.new result
+            (λ end. serve end wants.now self.old.stand) (λ x rest. (x, self.new.stand, rest)) }
+        ensures reads { WantReadsTaken S.half pull.old pull.new result
+            (λ end. serve end wants.now self.old.stand) (λ x rest. (x, self.new.stand, rest)) }
+        ensures stops { self.old.refused ≡ None → WantStopsTaken S.half pull.old pull.new result
+            (λ end. serve end wants.now self.old.stand) }
     {
         if let Some(earlier) = self.refused {
             return Err(earlier);
@@ -328,9 +369,12 @@ impl Reader {
     pub fn close<S: Source>(self, pull: &Pull<'_, S>) -> Result<Graph, StreamFault>
         ensures again { (fault : StreamFault) → self.refused ≡ Some fault → result ≡ Err fault }
         ensures kept { OnOk result (self.refused ≡ None) }
-        ensures cause { self.refused ≡ None → Caused (S.half pull.now.source.now).faults (S.half pull.now.source.now).faults result }
-        ensures left { self.refused ≡ None → IfErr result (λ fault. (fault ≡ Bad BlockLeft pull.now.at) × (self.stand.block ≢ 0)) }
-        ensures gives { self.refused ≡ None → WantGives (env S.half pull.now).after (λ graph. (graph.nodes, graph.items)) result (close_at pull.now.at self.stand) }
+        ensures cause { self.refused ≡ None → Caused (S.half pull.now.source.now).faults
+            (S.half pull.now.source.now).faults result }
+        ensures left { self.refused ≡ None → IfErr result
+            (λ fault. (fault ≡ Bad BlockLeft pull.now.at) × (self.stand.block ≢ 0)) }
+        ensures gives { self.refused ≡ None → WantGives (env S.half pull.now).after
+            (λ graph. (graph.nodes, graph.items)) result (close_at pull.now.at self.stand) }
     {
         let Reader { stand, refused } = self;
         if let Some(fault) = refused {

@@ -35,7 +35,8 @@ fn slot<S: Source>(
     left: u32,
 ) -> Result<Slot, StreamFault>
     requires left { left ≤ LEVELS }
-    ensures { ReadsNodes S.half pull.old pull.new table.old table.new result (GivesText place) (λ end. slot_at end left place table.old.unread.items) }
+    ensures { ReadsNodes S.half pull.old pull.new table.old table.new result (GivesText place)
+        (λ end. slot_at end left place table.old.unread.items) }
 {
     let at = pull.at;
     let code = byte(pull)?;
@@ -56,7 +57,8 @@ pub(crate) fn construct<S: Source>(
     code: u8,
 ) -> Result<Slot, StreamFault>
     requires left { left ≤ LEVELS }
-    ensures { ReadsNodes S.half pull.old pull.new table.old table.new result (GivesText place) (λ end. coded end left (slot_at end (left - 1)) place table.old.unread.items at code) }
+    ensures { ReadsNodes S.half pull.old pull.new table.old table.new result (GivesText place)
+        (λ end. coded end left (slot_at end (left - 1)) place table.old.unread.items at code) }
 {
     if code == 0x70 {
         null(place, at)
@@ -80,7 +82,8 @@ fn not_null<S: Source>(
 ) -> Result<Slot, StreamFault>
     requires left { left ≤ LEVELS }
     requires code { code ≢ 0x70 }
-    ensures { ReadsNodes S.half pull.old pull.new table.old table.new result (GivesText place) (λ end. coded end left (slot_at end (left - 1)) place table.old.unread.items at code) }
+    ensures { ReadsNodes S.half pull.old pull.new table.old table.new result (GivesText place)
+        (λ end. coded end left (slot_at end (left - 1)) place table.old.unread.items at code) }
 {
     if code == 0x71 {
         handle(pull, table, place, at)
@@ -114,7 +117,8 @@ fn fresh<S: Source>(
 ) -> Result<Slot, StreamFault>
     requires room { length table.old.nodes.items < NODES }
     requires left { left ≤ LEVELS }
-    ensures { ReadsNodes S.half pull.old pull.new table.old table.new result GivesNode (λ end. fresh_at end at (slot_at end left) table.old.unread.items code) }
+    ensures { ReadsNodes S.half pull.old pull.new table.old table.new result GivesNode
+        (λ end. fresh_at end at (slot_at end left) table.old.unread.items code) }
 {
     match code {
         0x72 => desc(alloc, pull, table, at, left),
@@ -138,7 +142,8 @@ fn text<S: Source>(
     table: &mut Table,
 ) -> Result<Slot, StreamFault>
     requires room { length table.old.nodes.items < NODES }
-    ensures { ReadsNodes S.half pull.old pull.new table.old table.new result GivesNode (λ end. text_at (short_at end)) }
+    ensures { ReadsNodes S.half pull.old pull.new table.old table.new result GivesNode
+        (λ end. text_at (short_at end)) }
 {
     let text = short_text(alloc, pull)?;
     let number = table.begin(Node::Text(text))?;
@@ -153,7 +158,8 @@ fn very_long_text<S: Source>(
     table: &mut Table,
 ) -> Result<Slot, StreamFault>
     requires room { length table.old.nodes.items < NODES }
-    ensures { ReadsNodes S.half pull.old pull.new table.old table.new result GivesNode (λ end. text_at (long_at end)) }
+    ensures { ReadsNodes S.half pull.old pull.new table.old table.new result GivesNode
+        (λ end. text_at (long_at end)) }
 {
     let text = long_text(alloc, pull)?;
     let number = table.begin(Node::Text(text))?;
@@ -171,7 +177,8 @@ fn class<S: Source>(
     left: u32,
 ) -> Result<u32, StreamFault>
     requires left { left ≤ LEVELS }
-    ensures { ReadsNodes S.half pull.old pull.new table.old table.new result (LeavesRoom table.new) (λ end. class_named (slot_at end left) table.old.unread.items at) }
+    ensures { ReadsNodes S.half pull.old pull.new table.old table.new result (LeavesRoom table.new)
+        (λ end. class_named (slot_at end left) table.old.unread.items at) }
 {
     match slot(alloc, pull, table, SlotPlace::Class, left)? {
         Slot::Null => Err(bad(StreamKind::BadCode, at)),

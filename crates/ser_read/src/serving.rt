@@ -35,8 +35,10 @@ fn serve_one<S: Source>(
     requires kept { reader.old.refused ≡ None }
     ensures kept { OnOk result (reader.new.refused ≡ None) }
     ensures lent { pull.new.source.ghost_name ≡ pull.old.source.ghost_name }
-    ensures reads { WantReadsTaken S.half pull.old pull.new result (λ end. want_at end want reader.old.stand) (λ x rest. (x, reader.new.stand, rest)) }
-    ensures stops { WantStopsTaken S.half pull.old pull.new result (λ end. want_at end want reader.old.stand) }
+    ensures reads { WantReadsTaken S.half pull.old pull.new result
+        (λ end. want_at end want reader.old.stand) (λ x rest. (x, reader.new.stand, rest)) }
+    ensures stops { WantStopsTaken S.half pull.old pull.new result
+        (λ end. want_at end want reader.old.stand) }
 {
     match want {
         Want::Bytes(n) => {
@@ -60,8 +62,10 @@ pub(crate) fn serve_all<S: Source>(
     requires kept { reader.old.refused ≡ None }
     ensures kept { OnOk result (reader.new.refused ≡ None) }
     ensures lent { pull.new.source.ghost_name ≡ pull.old.source.ghost_name }
-    ensures reads { WantReadsTaken S.half pull.old pull.new result (λ end. serve end wants.now reader.old.stand) (λ x rest. (x, reader.new.stand, rest)) }
-    ensures stops { WantStopsTaken S.half pull.old pull.new result (λ end. serve end wants.now reader.old.stand) }
+    ensures reads { WantReadsTaken S.half pull.old pull.new result
+        (λ end. serve end wants.now reader.old.stand) (λ x rest. (x, reader.new.stand, rest)) }
+    ensures stops { WantStopsTaken S.half pull.old pull.new result
+        (λ end. serve end wants.now reader.old.stand) }
 {
     let mut answers = Items::new(alloc);
     for want in wants {
@@ -79,7 +83,8 @@ fn read_each<S: Source>(
     wants: &[Want],
 ) -> Result<(Items, Graph), StreamFault>
     ensures lent { pull.new.source.ghost_name ≡ pull.old.source.ghost_name }
-    ensures reads { WantReadsTaken S.half pull.old pull.new result (λ end. wants_at end wants.now) (λ x rest. (x.0, x.1.nodes, x.1.items, rest)) }
+    ensures reads { WantReadsTaken S.half pull.old pull.new result (λ end. wants_at end wants.now)
+        (λ x rest. (x.0, x.1.nodes, x.1.items, rest)) }
     ensures stops { WantStopsTaken S.half pull.old pull.new result (λ end. wants_at end wants.now) }
 {
     let mut reader = Reader::start(alloc, pull)?;
@@ -98,11 +103,18 @@ pub fn read_wants<S: Source>(
     wants: &[Want],
 ) -> Result<(Items, Graph), StreamFault>
     ensures lent { pull.new.source.ghost_name ≡ pull.old.source.ghost_name }
-    ensures cause { Caused (S.half pull.old.source.now).faults (S.half pull.new.source.now).faults result }
-    ensures gives { WantGivesTold S.half pull.old pull.new result (λ end. wants_at end wants.now) (λ x rest. (x.0, x.1.nodes, x.1.items, rest)) }
+    ensures cause { Caused (S.half pull.old.source.now).faults (S.half pull.new.source.now).faults
+        result }
+    ensures gives { WantGivesTold S.half pull.old pull.new result (λ end. wants_at end wants.now)
+        (λ x rest. (x.0, x.1.nodes, x.1.items, rest)) }
     ensures stops { WantStopsTaken S.half pull.old pull.new result (λ end. wants_at end wants.now) }
-    ensures spelled { IfOk result (λ x. TakesWants (pull_state S.half pull.old) (pull_state S.half pull.new) wants.now x.0 x.1.nodes x.1.items) }
-    ensures complete { (answers : List Item) (nodes : List Node) (bytes rest : List ℕ) → IsTold S.half pull.old → coming S.half pull.old ≡ 0xAC ∷ 0xED ∷ 0x00 ∷ 0x05 ∷ (bytes ++ rest) → SpellsWants wants.now answers nodes bytes → AnswersWants answers nodes rest (coming S.half pull.new) result }
+    ensures spelled { IfOk result
+        (λ x. TakesWants (pull_state S.half pull.old) (pull_state S.half pull.new) wants.now x.0
+        x.1.nodes x.1.items) }
+    ensures complete { (answers : List Item) (nodes : List Node) (bytes rest : List ℕ)
+        → IsTold S.half pull.old → coming S.half pull.old ≡ 0xAC ∷ 0xED ∷ 0x00 ∷ 0x05
+        ∷ (bytes ++ rest) → SpellsWants wants.now answers nodes bytes
+        → AnswersWants answers nodes rest (coming S.half pull.new) result }
 {
     read_each(alloc, pull, wants)
 }

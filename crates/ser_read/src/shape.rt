@@ -67,7 +67,8 @@ fn both(a: bool, b: bool) -> bool
 /// Returns the step up a chain at a node of it.
 #[inline(never)]
 fn link_of(alloc: Global, node: &Node) -> Result<Climb, AllocError>
-    ensures { IfOk result (λ climb. (above : Slot → List Row × Bool) → shown (chain_above above (Some node.now)) ≡ climb_by above climb) }
+    ensures { IfOk result (λ climb. (above : Slot → List Row × Bool)
+        → shown (chain_above above (Some node.now)) ≡ climb_by above climb) }
 {
     match node {
         Node::Desc(desc) => {
@@ -99,7 +100,8 @@ fn link_of(alloc: Global, node: &Node) -> Result<Climb, AllocError>
 /// One step up a chain.
 #[tactic(auto, unfolding(stream_grammar::specs::Reading::chain_of))]
 fn step_up(alloc: Global, nodes: &[Node], slot: Slot) -> Result<Climb, AllocError>
-    ensures { IfOk result (λ climb. (n : ℕ) → shown (chain_of (suc n) nodes.now slot) ≡ climb_by (chain_of n nodes.now) climb) }
+    ensures { IfOk result (λ climb. (n : ℕ) → shown (chain_of (suc n) nodes.now slot)
+        ≡ climb_by (chain_of n nodes.now) climb) }
 {
     match slot {
         Slot::Null => Ok(Climb::Top),
@@ -112,8 +114,10 @@ fn step_up(alloc: Global, nodes: &[Node], slot: Slot) -> Result<Climb, AllocErro
 
 /// The chain of a class, the class's own row first.
 fn chain_up(alloc: Global, nodes: &[Node], class: u32) -> Result<Chain, AllocError>
-    ensures rows { IfOk result (λ chain. reverse chain.rows ≡ (shown (chain_of PARTS nodes.now (slots.Node class))).0) }
-    ensures is_serial { IfOk result (λ chain. chain.is_serial ≡ (shown (chain_of PARTS nodes.now (slots.Node class))).1) }
+    ensures rows { IfOk result (λ chain. reverse chain.rows
+        ≡ (shown (chain_of PARTS nodes.now (slots.Node class))).0) }
+    ensures is_serial { IfOk result (λ chain. chain.is_serial
+        ≡ (shown (chain_of PARTS nodes.now (slots.Node class))).1) }
 {
     let mut rows = Rows::new();
     let mut is_serial = true;
@@ -152,8 +156,10 @@ fn chain_up(alloc: Global, nodes: &[Node], class: u32) -> Result<Chain, AllocErr
 /// The chain of a class, the highest superclass first.
 #[inline(never)]
 fn chain_of(alloc: Global, nodes: &[Node], class: u32) -> Result<Chain, AllocError>
-    ensures rows { IfOk result (λ chain. chain.rows ≡ class_rows (chain_of PARTS nodes.now (slots.Node class)).0) }
-    ensures is_serial { IfOk result (λ chain. chain.is_serial ≡ (chain_of PARTS nodes.now (slots.Node class)).1) }
+    ensures rows { IfOk result (λ chain. chain.rows
+        ≡ class_rows (chain_of PARTS nodes.now (slots.Node class)).0) }
+    ensures is_serial { IfOk result (λ chain. chain.is_serial
+        ≡ (chain_of PARTS nodes.now (slots.Node class)).1) }
 {
     let Chain { rows, is_serial } = chain_up(alloc, nodes, class)?;
     Ok(Chain {
@@ -172,8 +178,10 @@ fn desc_chain(
     desc: &ClassDesc,
 ) -> Result<Chain, AllocError>
     requires { slice_get nodes.now class ≡ Some (Desc desc.now) }
-    ensures rows { IfOk result (λ chain. chain.rows ≡ class_rows (chain_of PARTS nodes.now (slots.Node class)).0) }
-    ensures is_serial { IfOk result (λ chain. chain.is_serial ≡ (chain_of PARTS nodes.now (slots.Node class)).1) }
+    ensures rows { IfOk result (λ chain. chain.rows
+        ≡ class_rows (chain_of PARTS nodes.now (slots.Node class)).0) }
+    ensures is_serial { IfOk result (λ chain. chain.is_serial
+        ≡ (chain_of PARTS nodes.now (slots.Node class)).1) }
 {
     match desc.parent {
         Slot::Null => {
@@ -190,7 +198,10 @@ fn desc_chain(
 
 /// Why a class with these flags has no objects.
 fn desc_fault(flags: u8, is_array: bool, is_serial: bool) -> Option<StreamKind>
-    ensures kind { option_map kind_of result ≡ (if has_flag flags 4 && not (has_flag flags 8) then Some old_external else (if lacks_flag flags 16 && (not is_array && (has_flag flags 4 || is_serial)) then None else Some bad_desc)) }
+    ensures kind { option_map kind_of result
+        ≡ (if has_flag flags 4 && not (has_flag flags 8) then Some old_external else
+        (if lacks_flag flags 16 && (not is_array && (has_flag flags 4 || is_serial)) then None else
+        Some bad_desc)) }
     ensures known { IfSome result IsInBytes }
 {
     if has_flag(flags, EXTERNALIZABLE) && !has_flag(flags, BLOCK_DATA) {
@@ -230,8 +241,12 @@ fn external_rows(alloc: Global) -> Rows
 /// each of its classes.
 #[inline(always)]
 pub(crate) fn shape_of(alloc: Global, table: &Table, class: u32) -> Result<ClassShape, AllocError>
-    ensures rows { IfOk result (λ shape. shape.rows ≡ class_rows (rows_of (slice_get table.now.nodes.items class) (chain_of PARTS table.now.nodes.items (slots.Node class)).0)) }
-    ensures fault { IfOk result (λ shape. option_map kind_of shape.fault ≡ class_fault (slice_get table.now.nodes.items class) (chain_of PARTS table.now.nodes.items (slots.Node class)).1) }
+    ensures rows { IfOk result (λ shape. shape.rows
+        ≡ class_rows (rows_of (slice_get table.now.nodes.items class)
+        (chain_of PARTS table.now.nodes.items (slots.Node class)).0)) }
+    ensures fault { IfOk result (λ shape. option_map kind_of shape.fault
+        ≡ class_fault (slice_get table.now.nodes.items class)
+        (chain_of PARTS table.now.nodes.items (slots.Node class)).1) }
     ensures known { IfOk result (λ shape. IfSome shape.fault IsInBytes) }
 {
     match table.node(class) {

@@ -83,7 +83,8 @@ fn push_runs(units: &mut Units, bytes: &[u8]) -> Result<(), UtfFault>
 /// Appends the text of a plain run and of what lies between it and the next one, and returns how many bytes spell it.
 fn push_run(units: &mut Units, bytes: &[u8]) -> Result<usize, UtfFault>
     requires { 0 < length bytes.now }
-    ensures text { IfOk result (λ n. (text : List ℕ) × Utf text (take n bytes.now) × (units.new ≡ units.old ++ text)) }
+    ensures text { IfOk result (λ n. (text : List ℕ) × Utf text (take n bytes.now)
+        × (units.new ≡ units.old ++ text)) }
     ensures some { IfOk result (λ n. 0 < n) }
     ensures within { IfOk result (λ n. n ≤ length bytes.now) }
 {

@@ -166,7 +166,8 @@ impl Table {
     /// The description of this number is being read.
     pub(crate) fn open(&mut self, number: u32) -> Result<(), AllocError>
         ensures now { now_of self.new ≡ now_of self.old }
-        ensures unread { OnOk result (self.new.unread.items ≡ self.old.unread.items ++ number ∷ []) }
+        ensures unread { OnOk result (self.new.unread.items ≡ self.old.unread.items ++ number
+            ∷ []) }
     {
         self.unread.push(number)?;
         Ok(())
@@ -175,7 +176,8 @@ impl Table {
     /// The last description that is being read was read.
     pub(crate) fn close(&mut self)
         ensures now { now_of self.new ≡ now_of self.old }
-        ensures unread { (others : List ℕ) (last : ℕ) → self.old.unread.items ≡ others ++ last ∷ [] → self.new.unread.items ≡ others }
+        ensures unread { (others : List ℕ) (last : ℕ) → self.old.unread.items ≡ others ++ last ∷ []
+            → self.new.unread.items ≡ others }
     {
         let _last = self.unread.pop();
     }
@@ -250,7 +252,9 @@ impl Table {
 
     /// Why a description that has a handle is not taken.
     fn desc_fault(&self, number: u32, node: &Node) -> Option<StreamKind>
-        ensures kind { option_map kind_of result ≡ (if has self.now.unread.items number then Some bad_desc else (if is_desc node.now then None else Some wrong_handle_kind)) }
+        ensures kind { option_map kind_of result
+            ≡ (if has self.now.unread.items number then Some bad_desc else
+            (if is_desc node.now then None else Some wrong_handle_kind)) }
         ensures known { IfSome result IsInBytes }
     {
         if has(&self.unread, number) {
@@ -264,7 +268,9 @@ impl Table {
 
     /// Why the node of a handle is not taken in a place.
     pub(crate) fn handle_fault(&self, place: SlotPlace, number: u32) -> Option<StreamKind>
-        ensures kind { option_map kind_of result ≡ handle_fault place (has self.now.unread.items number) (slice_get self.now.nodes.items number) }
+        ensures kind { option_map kind_of result
+            ≡ handle_fault place (has self.now.unread.items number)
+            (slice_get self.now.nodes.items number) }
         ensures known { IfSome result IsInBytes }
     {
         match self.node(number) {

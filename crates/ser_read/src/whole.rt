@@ -29,9 +29,14 @@ use wire_io::source::Source;
 /// The next code, or none where the input ends.
 fn next_code<S: Source>(pull: &mut Pull<'_, S>) -> Result<Option<u8>, StreamFault>
     ensures lent { pull.new.source.ghost_name ≡ pull.old.source.ghost_name }
-    ensures reads { IfOk result (λ code. IfSome code (λ b. Reads short (pull_state S.half pull.old) (pull_state S.half pull.new) (λ end. byte_at) (λ rest. (b, rest)))) }
-    ensures ends { IfOk result (λ code. code ≡ None → Takes (pull_state S.half pull.old) (pull_state S.half pull.new) [] × NothingLeft (S.half pull.new.source.now).left) }
-    ensures stops { IfErr result (λ e. NoCode (pull_state S.half pull.old) (pull_state S.half pull.new) e) }
+    ensures reads { IfOk result
+        (λ code. IfSome code (λ b. Reads short (pull_state S.half pull.old)
+        (pull_state S.half pull.new) (λ end. byte_at) (λ rest. (b, rest)))) }
+    ensures ends { IfOk result (λ code. code ≡ None
+        → Takes (pull_state S.half pull.old) (pull_state S.half pull.new) []
+        × NothingLeft (S.half pull.new.source.now).left) }
+    ensures stops { IfErr result
+        (λ e. NoCode (pull_state S.half pull.old) (pull_state S.half pull.new) e) }
 {
     match pull.byte() {
         Ok(code) => Ok(Some(code)),
@@ -54,8 +59,14 @@ fn items_to_end<S: Source>(
     table: &mut Table,
 ) -> Result<Items, StreamFault>
     ensures lent { pull.new.source.ghost_name ≡ pull.old.source.ghost_name }
-    ensures reads { IfOk result (λ items. ReadsAll (pull_state S.half pull.old) (pull_state S.half pull.new) (λ end. items_at end (slot_at end LEVELS Reference table.old.unread.items) false (now_of table.old)) (items, now_of table.new, [])) }
-    ensures stops { IfErr result (λ e. BreaksWhole (pull_state S.half pull.old) (pull_state S.half pull.new) e (λ end. items_at end (slot_at end LEVELS Reference table.old.unread.items) false (now_of table.old))) }
+    ensures reads { IfOk result (λ items. ReadsAll (pull_state S.half pull.old)
+        (pull_state S.half pull.new)
+        (λ end. items_at end (slot_at end LEVELS Reference table.old.unread.items) false
+        (now_of table.old)) (items, now_of table.new, [])) }
+    ensures stops { IfErr result
+        (λ e. BreaksWhole (pull_state S.half pull.old) (pull_state S.half pull.new) e
+        (λ end. items_at end (slot_at end LEVELS Reference table.old.unread.items) false
+        (now_of table.old))) }
 {
     let mut items = Vec::new(alloc);
     loop {
@@ -73,8 +84,10 @@ fn items_to_end<S: Source>(
 /// The graph of a stream.
 fn graph<S: Source>(alloc: Global, pull: &mut Pull<'_, S>) -> Result<Graph, StreamFault>
     ensures lent { pull.new.source.ghost_name ≡ pull.old.source.ghost_name }
-    ensures reads { IfOk result (λ graph. ReadsAll (pull_state S.half pull.old) (pull_state S.half pull.new) stream_at (graph.nodes, graph.items)) }
-    ensures stops { IfErr result (λ e. BreaksWhole (pull_state S.half pull.old) (pull_state S.half pull.new) e stream_at) }
+    ensures reads { IfOk result (λ graph. ReadsAll (pull_state S.half pull.old)
+        (pull_state S.half pull.new) stream_at (graph.nodes, graph.items)) }
+    ensures stops { IfErr result
+        (λ e. BreaksWhole (pull_state S.half pull.old) (pull_state S.half pull.new) e stream_at) }
 {
     magic(pull)?;
     let mut table = Table::new(alloc);
@@ -89,18 +102,27 @@ fn graph<S: Source>(alloc: Global, pull: &mut Pull<'_, S>) -> Result<Graph, Stre
 /// were taken that show it.
 pub fn read_to_end<S: Source>(alloc: Global, pull: &mut Pull<'_, S>) -> Result<Graph, StreamFault>
     ensures lent { pull.new.source.ghost_name ≡ pull.old.source.ghost_name }
-    ensures cause { Caused (S.half pull.old.source.now).faults (S.half pull.new.source.now).faults result }
+    ensures cause { Caused (S.half pull.old.source.now).faults (S.half pull.new.source.now).faults
+        result }
     // Of told bytes that end before the stop, what is answered is what reading from left to right gives.
-    ensures gives { (bytes : List ℕ) → (S.half pull.old.source.now).left ≡ Some bytes → length bytes ≤ pull.old.stop - pull.old.at
-        → Gives (Truncated (pull.old.at + length bytes)) (λ graph. (graph.nodes, graph.items)) result (stream_at (pull.old.at + length bytes) bytes) }
+    ensures gives { (bytes : List ℕ) → (S.half pull.old.source.now).left ≡ Some bytes → length bytes
+        ≤ pull.old.stop - pull.old.at
+        → Gives (Truncated (pull.old.at + length bytes)) (λ graph. (graph.nodes, graph.items))
+        result (stream_at (pull.old.at + length bytes) bytes) }
     // Of told bytes that go on past the stop, it is the first fault before it, or that there are too many.
-    ensures limited { (bytes : List ℕ) → (S.half pull.old.source.now).left ≡ Some bytes → pull.old.stop - pull.old.at < length bytes
-        → IsErrAnd result (λ e. Fails (TooLarge Bytes pull.old.stop) e (going_on (stream_at pull.old.stop (take (pull.old.stop - pull.old.at) bytes)))) }
+    ensures limited { (bytes : List ℕ) → (S.half pull.old.source.now).left ≡ Some bytes
+        → pull.old.stop - pull.old.at < length bytes
+        → IsErrAnd result (λ e. Fails (TooLarge Bytes pull.old.stop) e
+        (going_on (stream_at pull.old.stop (take (pull.old.stop - pull.old.at) bytes)))) }
     // The bytes that were taken are a stream of the graph, told or not, or come to the fault.
-    ensures taken { IfOk result (λ graph. TakesStream (pull_state S.half pull.old) (pull_state S.half pull.new) graph.nodes graph.items) }
-    ensures stops { IfErr result (λ e. BreaksWhole (pull_state S.half pull.old) (pull_state S.half pull.new) e stream_at) }
+    ensures taken { IfOk result (λ graph. TakesStream (pull_state S.half pull.old)
+        (pull_state S.half pull.new) graph.nodes graph.items) }
+    ensures stops { IfErr result
+        (λ e. BreaksWhole (pull_state S.half pull.old) (pull_state S.half pull.new) e stream_at) }
     // Each stream that is told to its end before the stop is read, unless the outside fails.
-    ensures complete { (bytes : List ℕ) (nodes : List Node) (items : List OneItem) → (S.half pull.old.source.now).left ≡ Some bytes → length bytes ≤ pull.old.stop - pull.old.at
+    ensures complete { (bytes : List ℕ) (nodes : List Node) (items : List OneItem)
+        → (S.half pull.old.source.now).left ≡ Some bytes → length bytes
+        ≤ pull.old.stop - pull.old.at
         → IsStream nodes items bytes → AnswersGraph nodes items result }
 {
     graph(alloc, pull)

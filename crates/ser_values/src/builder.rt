@@ -90,7 +90,8 @@ fn set_in_part(alloc: Global, part: &mut Part, place: usize, to: Slot) -> bool
 
 /// Writes over the reference at a place of one of several parts.
 fn set_in_parts(alloc: Global, parts: &mut [Part], part: usize, place: usize, to: Slot) -> bool
-    ensures done { put parts.old part (part_to place to (slice_get parts.old part)) ≡ or_none result (Some parts.new) }
+    ensures done { put parts.old part (part_to place to (slice_get parts.old part))
+        ≡ or_none result (Some parts.new) }
     ensures kept { result ≡ false → parts.new ≡ parts.old }
 {
     if part >= parts.len() {
@@ -101,7 +102,8 @@ fn set_in_parts(alloc: Global, parts: &mut [Part], part: usize, place: usize, to
 
 /// Writes over the reference at a place of references.
 fn set_slot(slots: &mut [Slot], place: usize, to: Slot) -> bool
-    ensures done { put slots.old place (slot_to to (slice_get slots.old place)) ≡ or_none result (Some slots.new) }
+    ensures done { put slots.old place (slot_to to (slice_get slots.old place))
+        ≡ or_none result (Some slots.new) }
     ensures kept { result ≡ false → slots.new ≡ slots.old }
 {
     if place >= slots.len() {
@@ -273,7 +275,8 @@ impl Builder {
 
     /// A loose constant of an enum.
     pub fn enumerated(&mut self, class: Slot, name: Slot) -> Result<Slot, BuildFault>
-        ensures { AddsNode self.old self.new (nodes.Enum (number_of class) (number_of name)) result }
+        ensures { AddsNode self.old self.new (nodes.Enum (number_of class) (number_of name))
+            result }
     {
         let class = number_of(class);
         let name = number_of(name);
@@ -290,8 +293,10 @@ impl Builder {
 
     /// The first loose text that equals the units, or a new one.
     pub fn share_text(&mut self, units: Units) -> Result<Slot, BuildFault>
-        ensures shared { (j : ℕ) → IsFirstText self.old units j → (result ≡ Ok (slots.Node j)) × (self.new ≡ self.old) }
-        ensures added { HasNoText self.old units → AddsNode self.old self.new (nodes.Text units) result }
+        ensures shared { (j : ℕ) → IsFirstText self.old units j → (result ≡ Ok (slots.Node j))
+            × (self.new ≡ self.old) }
+        ensures added { HasNoText self.old units
+            → AddsNode self.old self.new (nodes.Text units) result }
     {
         match find_text(&self.nodes, &units) {
             Some(number) => {
@@ -312,7 +317,8 @@ impl Builder {
         to: Slot,
     ) -> Result<(), BuildFault>
         ensures ok { OnOk result (with_reference self.old node part place to ≡ Some self.new) }
-        ensures err { IfErr result (λ fault. (fault ≡ BuildFault.WrongShape) × (with_reference self.old node part place to ≡ None) × (self.new ≡ self.old)) }
+        ensures err { IfErr result (λ fault. (fault ≡ BuildFault.WrongShape)
+            × (with_reference self.old node part place to ≡ None) × (self.new ≡ self.old)) }
     {
         if set_in_nodes(self.alloc, &mut self.nodes, node, part, place, to) {
             Ok(())

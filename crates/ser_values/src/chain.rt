@@ -11,7 +11,8 @@ use std::alloc::{AllocError, Global};
 
 /// The superclass of the description of a number, if there is one.
 fn parent_of(nodes: &[Node], number: u32) -> Option<Slot>
-    ensures { (above : OneSlot → List ℕ) → up_from above number (slice_get nodes.now number) ≡ up_by above number result }
+    ensures { (above : OneSlot → List ℕ) → up_from above number (slice_get nodes.now number)
+        ≡ up_by above number result }
 {
     match nodes.get(number as usize) {
         Some(Node::Desc(desc)) => Some(desc.parent),

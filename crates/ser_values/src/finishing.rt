@@ -21,7 +21,8 @@ use std::mem;
 
 /// Returns the number of parts of a node, which is 0 where there is no node. None where it is past the limit.
 fn parts_at(node: Option<&Node>) -> Option<usize>
-    ensures few { IfSome result (λ n. (n ≡ parts_or (option_map (λ node. node.now) node.entry)) × (n ≤ PARTS)) }
+    ensures few { IfSome result (λ n. (n ≡ parts_or (option_map (λ node. node.now) node.entry))
+        × (n ≤ PARTS)) }
     ensures many { result ≡ None → PARTS < parts_or (option_map (λ node. node.now) node.entry) }
 {
     match node {
@@ -120,7 +121,8 @@ pub(crate) fn take_nodes(
     places: &[u32],
 ) -> Result<Vec<Node>, AllocError>
     requires { Once order.now }
-    ensures { IfOk result (λ taken. taken.items ≡ map (λ j. node_or_by (place_at places.now) (slice_get nodes.old j)) order.now) }
+    ensures { IfOk result (λ taken. taken.items
+        ≡ map (λ j. node_or_by (place_at places.now) (slice_get nodes.old j)) order.now) }
 {
     let mut taken = Vec::with_capacity(alloc, order.len())?;
     for number in order {
@@ -131,7 +133,8 @@ pub(crate) fn take_nodes(
 
 /// A copy of the node of a number, under its new numbers.
 fn copy_node(alloc: Global, nodes: &[Node], number: u32, places: &[u32]) -> Result<Node, AllocError>
-    ensures { IfOk result (λ copy. copy ≡ node_or_by (place_at places.now) (slice_get nodes.now number)) }
+    ensures { IfOk result (λ copy. copy ≡ node_or_by (place_at places.now)
+        (slice_get nodes.now number)) }
 {
     match nodes.get(number as usize) {
         Some(node) => {
@@ -150,7 +153,8 @@ pub(crate) fn copy_nodes(
     order: &[u32],
     places: &[u32],
 ) -> Result<Vec<Node>, AllocError>
-    ensures { IfOk result (λ copies. copies.items ≡ map (λ j. node_or_by (place_at places.now) (slice_get nodes.now j)) order.now) }
+    ensures { IfOk result (λ copies. copies.items
+        ≡ map (λ j. node_or_by (place_at places.now) (slice_get nodes.now j)) order.now) }
 {
     let mut copies = Vec::with_capacity(alloc, order.len())?;
     for number in order {

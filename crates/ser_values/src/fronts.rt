@@ -109,7 +109,8 @@ impl Graph {
     pub fn with_front(self, alloc: Global, bytes: &[u8]) -> Result<Graph, AllocError>
         ensures nodes { IfOk result (λ graph. graph.nodes ≡ self.nodes) }
         ensures items { IfOk result (λ graph. graph.items ≡ put_block bytes.now self.items) }
-        ensures undone { IfOk result (λ graph. without_front (length bytes.now) graph.items ≡ Some self.items) }
+        ensures undone { IfOk result (λ graph. without_front (length bytes.now) graph.items
+            ≡ Some self.items) }
     {
         look_at_each(bytes);
         let (nodes, items) = self.into_parts();

@@ -91,7 +91,8 @@ impl Graph {
     /// WrongShape comes where a class or a superclass would then name a description that isn't written whole,
     /// or the reference names no node; TooDeep where something would be more than 200 levels deep.
     pub fn part(&self, alloc: Global, slot: Slot) -> Result<Graph, BuildFault>
-        ensures ok { IfOk result (λ part. IsGraphOf self.now.nodes (contents.Ref slot ∷ []) part.nodes part.items) }
+        ensures ok { IfOk result
+            (λ part. IsGraphOf self.now.nodes (contents.Ref slot ∷ []) part.nodes part.items) }
         ensures err { IfErr result (IsRefusal self.now.nodes (contents.Ref slot ∷ [])) }
     {
         let nodes = self.nodes.as_slice();

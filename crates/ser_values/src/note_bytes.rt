@@ -26,7 +26,8 @@ pub struct NotePlace {
 
 /// Writes over a byte. False where none stands there.
 fn set_byte(bytes: &mut [u8], offset: usize, byte: u8) -> bool
-    ensures done { put bytes.old offset (byte_to byte (slice_get bytes.old offset)) ≡ or_none result (Some bytes.new) }
+    ensures done { put bytes.old offset (byte_to byte (slice_get bytes.old offset))
+        ≡ or_none result (Some bytes.new) }
     ensures kept { result ≡ false → bytes.new ≡ bytes.old }
 {
     if offset >= bytes.len() {
@@ -54,7 +55,8 @@ fn set_in_item(alloc: Global, item: &mut Item, offset: usize, byte: u8) -> bool
 
 /// Writes over a byte of one of several items.
 fn set_in_items(alloc: Global, items: &mut [Item], item: usize, offset: usize, byte: u8) -> bool
-    ensures done { put items.old item (item_to offset byte (slice_get items.old item)) ≡ or_none result (Some items.new) }
+    ensures done { put items.old item (item_to offset byte (slice_get items.old item))
+        ≡ or_none result (Some items.new) }
     ensures kept { result ≡ false → items.new ≡ items.old }
 {
     if item >= items.len() {
@@ -76,7 +78,9 @@ fn set_in_part(alloc: Global, part: &mut Part, item: usize, offset: usize, byte:
 
 /// Writes over a byte of the note of one of several parts.
 fn set_in_parts(alloc: Global, parts: &mut [Part], at: NotePlace, byte: u8) -> bool
-    ensures done { put parts.old at.part (note_to at.item at.offset byte (slice_get parts.old at.part)) ≡ or_none result (Some parts.new) }
+    ensures done { put parts.old at.part
+        (note_to at.item at.offset byte (slice_get parts.old at.part))
+        ≡ or_none result (Some parts.new) }
     ensures kept { result ≡ false → parts.new ≡ parts.old }
 {
     if at.part >= parts.len() {
@@ -87,7 +91,8 @@ fn set_in_parts(alloc: Global, parts: &mut [Part], at: NotePlace, byte: u8) -> b
 
 /// Writes over a byte of an object's note.
 fn set_in_node(alloc: Global, node: &mut Node, at: NotePlace, byte: u8) -> bool
-    ensures done { object_to at.part at.item at.offset byte (Some node.old) ≡ or_none result (Some node.new) }
+    ensures done { object_to at.part at.item at.offset byte (Some node.old)
+        ≡ or_none result (Some node.new) }
     ensures kept { result ≡ false → node.new ≡ node.old }
 {
     match node {
@@ -128,7 +133,8 @@ impl Graph {
     /// The same graph with one byte of an object's note written over. None exactly where no byte of a note stands at the
     /// place. It takes no memory.
     pub fn with_note_byte(self, alloc: Global, at: NotePlace, byte: u8) -> Option<Graph>
-        ensures nodes { option_map (λ graph. graph.nodes) result ≡ with_note_byte self.nodes at byte }
+        ensures nodes { option_map (λ graph. graph.nodes) result
+            ≡ with_note_byte self.nodes at byte }
         ensures items { IfSome result (λ graph. graph.items ≡ self.items) }
     {
         let (nodes, items) = self.into_parts();

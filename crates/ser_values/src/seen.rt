@@ -94,7 +94,8 @@ impl Seen {
         requires within { number < length self.old.marks.items }
         requires unseen { has self.old.order.items number ≡ false }
         ensures order { OnOk result (self.new.order.items ≡ self.old.order.items ++ number ∷ []) }
-        ensures unread { OnOk result (self.new.unread.items ≡ self.old.unread.items ++ number ∷ []) }
+        ensures unread { OnOk result (self.new.unread.items ≡ self.old.unread.items ++ number
+            ∷ []) }
         ensures count { length self.new.marks.items ≡ length self.old.marks.items }
         ensures kept { OnOk result (IsKept self.new) }
     {

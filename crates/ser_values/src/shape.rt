@@ -173,7 +173,8 @@ fn fits_part(fields: &[FieldDesc], writes: bool, part: &Part) -> bool
 
 /// The superclass of a description that a part fits.
 fn above(node: &Node, part: &Part) -> Option<Slot>
-    ensures { (above : Slot → Bool) → fits_above above (Some part.now) (Some node.now) ≡ or_above above result }
+    ensures { (above : Slot → Bool) → fits_above above (Some part.now) (Some node.now)
+        ≡ or_above above result }
 {
     match node {
         Node::Desc(desc) => {
@@ -273,7 +274,8 @@ impl Loose<'_> {
 
     /// The superclass of a slot's description, where a part fits it.
     fn next(&self, part: &Part, slot: Slot) -> Option<Slot>
-        ensures { (above : Slot → Bool) → fits_next self.now.nodes.now above (Some part.now) slot ≡ or_above above result }
+        ensures { (above : Slot → Bool) → fits_next self.now.nodes.now above (Some part.now) slot
+            ≡ or_above above result }
     {
         match slot {
             Slot::Null => None,

@@ -29,7 +29,8 @@ pub(crate) enum Task {
 /// Puts what items want onto the stack, the first on top.
 #[tactic(auto, unfolding(crate::specs::Node::item_wants))]
 fn push_items(stack: &mut Vec<Task>, items: &[Item], left: u32) -> Result<(), AllocError>
-    ensures { OnOk result (stacked stack.new.items ≡ wanted left (item_wants items.now) ++ stacked stack.old.items) }
+    ensures { OnOk result (stacked stack.new.items ≡ wanted left (item_wants items.now)
+        ++ stacked stack.old.items) }
 {
     let mut i = items.len();
     while i > 0 {
@@ -45,7 +46,8 @@ fn push_items(stack: &mut Vec<Task>, items: &[Item], left: u32) -> Result<(), Al
 /// Puts what values want onto the stack.
 #[tactic(auto, unfolding(crate::specs::Node::value_wants))]
 fn push_values(stack: &mut Vec<Task>, values: &[Value], left: u32) -> Result<(), AllocError>
-    ensures { OnOk result (stacked stack.new.items ≡ wanted left (value_wants values.now) ++ stacked stack.old.items) }
+    ensures { OnOk result (stacked stack.new.items ≡ wanted left (value_wants values.now)
+        ++ stacked stack.old.items) }
 {
     let mut i = values.len();
     while i > 0 {
@@ -60,7 +62,8 @@ fn push_values(stack: &mut Vec<Task>, values: &[Value], left: u32) -> Result<(),
 /// Puts what parts want onto the stack.
 #[tactic(auto, unfolding(crate::specs::Node::part_wants))]
 fn push_parts(stack: &mut Vec<Task>, parts: &[Part], left: u32) -> Result<(), AllocError>
-    ensures { OnOk result (stacked stack.new.items ≡ wanted left (part_wants parts.now) ++ stacked stack.old.items) }
+    ensures { OnOk result (stacked stack.new.items ≡ wanted left (part_wants parts.now)
+        ++ stacked stack.old.items) }
 {
     let mut i = parts.len();
     while i > 0 {
@@ -74,7 +77,8 @@ fn push_parts(stack: &mut Vec<Task>, parts: &[Part], left: u32) -> Result<(), Al
 /// Puts the type texts of fields onto the stack.
 #[tactic(auto, unfolding(crate::specs::Node::field_wants))]
 fn push_fields(stack: &mut Vec<Task>, fields: &[FieldDesc], left: u32) -> Result<(), AllocError>
-    ensures { OnOk result (stacked stack.new.items ≡ wanted left (field_wants fields.now) ++ stacked stack.old.items) }
+    ensures { OnOk result (stacked stack.new.items ≡ wanted left (field_wants fields.now)
+        ++ stacked stack.old.items) }
 {
     let mut i = fields.len();
     while i > 0 {
@@ -89,7 +93,8 @@ fn push_fields(stack: &mut Vec<Task>, fields: &[FieldDesc], left: u32) -> Result
 /// Puts references onto the stack.
 #[tactic(auto, unfolding(crate::specs::Node::slot_wants))]
 fn push_slots(stack: &mut Vec<Task>, slots: &[Slot], left: u32) -> Result<(), AllocError>
-    ensures { OnOk result (stacked stack.new.items ≡ wanted left (slot_wants slots.now) ++ stacked stack.old.items) }
+    ensures { OnOk result (stacked stack.new.items ≡ wanted left (slot_wants slots.now)
+        ++ stacked stack.old.items) }
 {
     let mut i = slots.len();
     while i > 0 {
@@ -101,7 +106,8 @@ fn push_slots(stack: &mut Vec<Task>, slots: &[Slot], left: u32) -> Result<(), Al
 
 /// Puts what elements want onto the stack.
 fn push_elements(stack: &mut Vec<Task>, values: &Values, left: u32) -> Result<(), AllocError>
-    ensures { OnOk result (stacked stack.new.items ≡ wanted left (element_wants values.now) ++ stacked stack.old.items) }
+    ensures { OnOk result (stacked stack.new.items ≡ wanted left (element_wants values.now)
+        ++ stacked stack.old.items) }
 {
     match values {
         Values::Refs(slots) => push_slots(stack, slots.as_slice(), left),
@@ -116,7 +122,8 @@ fn push_one(
     slot: Slot,
     left: u32,
 ) -> Result<(), AllocError>
-    ensures { OnOk result (stacked stack.new.items ≡ tasks.Visit place slot left ∷ stacked stack.old.items) }
+    ensures { OnOk result (stacked stack.new.items ≡ tasks.Visit place slot left
+        ∷ stacked stack.old.items) }
 {
     stack.push(Task::Visit(place, slot, left))?;
     Ok(())
@@ -125,7 +132,8 @@ fn push_one(
 /// Puts onto the stack what is written of a node before its handle is given.
 #[tactic(auto, unfolding(crate::specs::Node::before))]
 fn push_before(stack: &mut Vec<Task>, node: &Node, left: u32) -> Result<(), AllocError>
-    ensures { OnOk result (stacked stack.new.items ≡ wanted left (before node.now) ++ stacked stack.old.items) }
+    ensures { OnOk result (stacked stack.new.items ≡ wanted left (before node.now)
+        ++ stacked stack.old.items) }
 {
     match node {
         Node::Text(_) => Ok(()),
@@ -141,7 +149,8 @@ fn push_before(stack: &mut Vec<Task>, node: &Node, left: u32) -> Result<(), Allo
 /// Puts onto the stack what is written of a node after its handle was given.
 #[tactic(auto, unfolding(crate::specs::Node::after))]
 fn push_after(stack: &mut Vec<Task>, node: &Node, left: u32) -> Result<(), AllocError>
-    ensures { OnOk result (stacked stack.new.items ≡ wanted left (after node.now) ++ stacked stack.old.items) }
+    ensures { OnOk result (stacked stack.new.items ≡ wanted left (after node.now)
+        ++ stacked stack.old.items) }
 {
     match node {
         Node::Text(_) => Ok(()),
@@ -179,7 +188,11 @@ fn visit(
 ) -> Result<bool, AllocError>
     requires kept { IsKept seen.now }
     requires count { length seen.now.marks.items ≡ length loose.now.nodes.now }
-    ensures { Steps result (run loose.now.nodes.now (tasks.Visit place (slots.Node number) left ∷ stacked stack.old.items) seen.now.unread.items seen.now.order.items) (run loose.now.nodes.now (stacked stack.new.items) seen.now.unread.items seen.now.order.items) }
+    ensures { Steps result
+        (run loose.now.nodes.now (tasks.Visit place (slots.Node number) left
+        ∷ stacked stack.old.items) seen.now.unread.items seen.now.order.items)
+        (run loose.now.nodes.now (stacked stack.new.items) seen.now.unread.items
+        seen.now.order.items) }
 {
     match loose.node(number) {
         None => Ok(false),
@@ -205,8 +218,10 @@ fn enter(seen: &mut Seen, stack: &mut Vec<Task>, number: u32, node: &Node) -> Re
     ensures kept { OnOk result (IsKept seen.new) }
     ensures count { length seen.new.marks.items ≡ length seen.old.marks.items }
     ensures order { OnOk result (seen.new.order.items ≡ seen.old.order.items ++ number ∷ []) }
-    ensures unread { OnOk result (seen.new.unread.items ≡ inside seen.old.unread.items number node.now) }
-    ensures stack { OnOk result (stacked stack.new.items ≡ closing (is_desc node.now) (stacked stack.old.items)) }
+    ensures unread { OnOk result (seen.new.unread.items
+        ≡ inside seen.old.unread.items number node.now) }
+    ensures stack { OnOk result (stacked stack.new.items
+        ≡ closing (is_desc node.now) (stacked stack.old.items)) }
 {
     if is_desc(node) {
         stack.push(Task::Close)?;
@@ -228,7 +243,11 @@ fn give_handle(
     requires count { length seen.old.marks.items ≡ length loose.now.nodes.now }
     ensures kept { OnOk result (IsKept seen.new) }
     ensures count { length seen.new.marks.items ≡ length loose.now.nodes.now }
-    ensures step { Steps result (run loose.now.nodes.now (tasks.Number number left ∷ stacked stack.old.items) seen.old.unread.items seen.old.order.items) (run loose.now.nodes.now (stacked stack.new.items) seen.new.unread.items seen.new.order.items) }
+    ensures step { Steps result
+        (run loose.now.nodes.now (tasks.Number number left ∷ stacked stack.old.items)
+        seen.old.unread.items seen.old.order.items)
+        (run loose.now.nodes.now (stacked stack.new.items) seen.new.unread.items
+        seen.new.order.items) }
 {
     match loose.node(number) {
         None => Ok(false),
@@ -254,7 +273,11 @@ fn step(
     requires count { length seen.old.marks.items ≡ length loose.now.nodes.now }
     ensures kept { OnOk result (IsKept seen.new) }
     ensures count { length seen.new.marks.items ≡ length loose.now.nodes.now }
-    ensures step { Steps result (run loose.now.nodes.now (task ∷ stacked stack.old.items) seen.old.unread.items seen.old.order.items) (run loose.now.nodes.now (stacked stack.new.items) seen.new.unread.items seen.new.order.items) }
+    ensures step { Steps result
+        (run loose.now.nodes.now (task ∷ stacked stack.old.items) seen.old.unread.items
+        seen.old.order.items)
+        (run loose.now.nodes.now (stacked stack.new.items) seen.new.unread.items
+        seen.new.order.items) }
 {
     match task {
         Task::Close => {
@@ -277,7 +300,8 @@ pub(crate) fn walk(
     items: &[Item],
     levels: u32,
 ) -> Result<Option<Vec<u32>>, AllocError>
-    ensures { IfOk result (λ r. option_map (λ v. v.items) r ≡ end_of (all (visit_at loose.now.nodes.now levels []) (item_wants items.now) [])) }
+    ensures { IfOk result (λ r. option_map (λ v. v.items) r
+        ≡ end_of (all (visit_at loose.now.nodes.now levels []) (item_wants items.now) [])) }
 {
     let mut seen = Seen::new(alloc, loose.count())?;
     let mut stack = Vec::new(alloc);

@@ -147,7 +147,8 @@ fn put_units(out: &mut ByteList, units: &[u16]) -> Result<(), AllocError>
 
 /// Appends a text with a length of 16 bits.
 pub(crate) fn put_short_text(out: &mut ByteList, text: &Units) -> Result<(), AllocError>
-    ensures written { OnOk result (out.new ≡ out.old ++ (to_be_bytes w16 (length (utf text.now)) ++ utf text.now)) }
+    ensures written { OnOk result (out.new ≡ out.old
+        ++ (to_be_bytes w16 (length (utf text.now)) ++ utf text.now)) }
     ensures kept { OnErr result (Begins out.old out.new) }
 {
     let len = encoded_len(text) as usize;
@@ -158,7 +159,8 @@ pub(crate) fn put_short_text(out: &mut ByteList, text: &Units) -> Result<(), All
 
 /// Appends a text with a length of 64 bits.
 pub(crate) fn put_long_text(out: &mut ByteList, text: &Units) -> Result<(), AllocError>
-    ensures written { OnOk result (out.new ≡ out.old ++ (to_be_bytes w64 (length (utf text.now)) ++ utf text.now)) }
+    ensures written { OnOk result (out.new ≡ out.old
+        ++ (to_be_bytes w64 (length (utf text.now)) ++ utf text.now)) }
     ensures kept { OnErr result (Begins out.old out.new) }
 {
     let len = encoded_len(text);

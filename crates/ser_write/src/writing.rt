@@ -57,7 +57,8 @@ fn put_new(
     number: u32,
     left: u32,
 ) -> Result<u64, AllocError>
-    ensures { Adds out.old out.new result (write_new nodes.now (write_at left nodes.now) next number (slice_get nodes.now number)) }
+    ensures { Adds out.old out.new result
+        (write_new nodes.now (write_at left nodes.now) next number (slice_get nodes.now number)) }
 {
     match node_at(nodes, number) {
         None => Ok(next),
@@ -84,7 +85,8 @@ fn put_after(
     node: &Node,
     left: u32,
 ) -> Result<u64, AllocError>
-    ensures { Adds out.old out.new result (write_all (write_at left nodes.now) next (tokens_after nodes.now node.now)) }
+    ensures { Adds out.old out.new result
+        (write_all (write_at left nodes.now) next (tokens_after nodes.now node.now)) }
 {
     put_behind_handle(out, node)?;
     match node {
@@ -119,7 +121,9 @@ fn put_class_parts(
     parent: Slot,
     left: u32,
 ) -> Result<u64, AllocError>
-    ensures { Adds out.old out.new result (write_all (write_at left nodes.now) next (field_tokens fields.now ++ ending_tokens annotation.now parent)) }
+    ensures { Adds out.old out.new result
+        (write_all (write_at left nodes.now) next
+        (field_tokens fields.now ++ ending_tokens annotation.now parent)) }
 {
     let next = put_fields(alloc, out, nodes, next, fields, left)?;
     let next = put_note(alloc, out, nodes, next, true, annotation, left)?;
@@ -138,7 +142,8 @@ fn put_object(
     parts: &[Part],
     left: u32,
 ) -> Result<u64, AllocError>
-    ensures { Adds out.old out.new result (write_all (write_at left nodes.now) next (object_tokens nodes.now class parts.now)) }
+    ensures { Adds out.old out.new result
+        (write_all (write_at left nodes.now) next (object_tokens nodes.now class parts.now)) }
 {
     if is_external_class(node_at(nodes, class)) {
         match parts {
@@ -162,7 +167,8 @@ fn put_fields(
     fields: &[FieldDesc],
     left: u32,
 ) -> Result<u64, AllocError>
-    ensures { Adds out.old out.new result (write_all (write_at left nodes.now) next (field_tokens fields.now)) }
+    ensures { Adds out.old out.new result
+        (write_all (write_at left nodes.now) next (field_tokens fields.now)) }
 {
     let mut next = next;
     for field in fields {
@@ -208,7 +214,8 @@ fn put_values(
     values: &[Value],
     left: u32,
 ) -> Result<u64, AllocError>
-    ensures { Adds out.old out.new result (write_all (write_at left nodes.now) next (map value_token values.now)) }
+    ensures { Adds out.old out.new result
+        (write_all (write_at left nodes.now) next (map value_token values.now)) }
 {
     let mut next = next;
     for value in values {
@@ -232,7 +239,8 @@ fn put_parts(
     parts: &[Part],
     left: u32,
 ) -> Result<u64, AllocError>
-    ensures { Adds out.old out.new result (write_all (write_at left nodes.now) next (part_tokens writes.now parts.now)) }
+    ensures { Adds out.old out.new result
+        (write_all (write_at left nodes.now) next (part_tokens writes.now parts.now)) }
 {
     let mut next = next;
     let mut i = 0;
@@ -265,7 +273,8 @@ fn put_note(
     note: &[Item],
     left: u32,
 ) -> Result<u64, AllocError>
-    ensures { Adds out.old out.new result (write_all (write_at left nodes.now) next (note_tokens writes note.now)) }
+    ensures { Adds out.old out.new result
+        (write_all (write_at left nodes.now) next (note_tokens writes note.now)) }
 {
     if writes {
         let next = put_items(alloc, out, nodes, next, note, left)?;
@@ -287,7 +296,8 @@ fn put_slots(
     slots: &[Slot],
     left: u32,
 ) -> Result<u64, AllocError>
-    ensures { Adds out.old out.new result (write_all (write_at left nodes.now) next (map reference slots.now)) }
+    ensures { Adds out.old out.new result
+        (write_all (write_at left nodes.now) next (map reference slots.now)) }
 {
     let mut next = next;
     for slot in slots {
@@ -301,7 +311,8 @@ fn put_slots(
 /// as it was.
 pub fn write_items_onto(alloc: Global, out: &mut ByteList, graph: &Graph) -> Result<(), AllocError>
     ensures written { OnOk result (out.new ≡ out.old ++ contents graph.now.nodes graph.now.items) }
-    ensures spelled { OnOk result (SpellContents graph.now.nodes graph.now.items (contents graph.now.nodes graph.now.items)) }
+    ensures spelled { OnOk result
+        (SpellContents graph.now.nodes graph.now.items (contents graph.now.nodes graph.now.items)) }
     ensures err { OnErr result (out.new ≡ out.old) }
 {
     let before = out.len();
@@ -335,7 +346,8 @@ fn put_joined(
     nodes: &[Node],
     items: &[Item],
 ) -> Result<u64, AllocError>
-    ensures { Adds out.old out.new result (write_items (write_at LEVELS nodes.now) 0 (put_block front.now items.now)) }
+    ensures { Adds out.old out.new result
+        (write_items (write_at LEVELS nodes.now) 0 (put_block front.now items.now)) }
 {
     let (bytes, rest) = split_front(items);
     let mut run = ByteList::from_slice(alloc, front)?;
@@ -352,8 +364,11 @@ pub fn write_items_after(
     front: &[u8],
     graph: &Graph,
 ) -> Result<(), AllocError>
-    ensures written { OnOk result (out.new ≡ out.old ++ contents graph.now.nodes (put_block front.now graph.now.items)) }
-    ensures spelled { OnOk result (∥ SpellFully graph.now.nodes (put_block front.now graph.now.items) (contents graph.now.nodes (put_block front.now graph.now.items)) ∥₁) }
+    ensures written { OnOk result (out.new ≡ out.old
+        ++ contents graph.now.nodes (put_block front.now graph.now.items)) }
+    ensures spelled { OnOk result
+        (∥ SpellFully graph.now.nodes (put_block front.now graph.now.items)
+        (contents graph.now.nodes (put_block front.now graph.now.items)) ∥₁) }
     ensures err { OnErr result (out.new ≡ out.old) }
 {
     let start = out.len();

@@ -20,8 +20,11 @@ pub fn description_read_back(
     outline: &ClassOutline,
 ) -> Result<Result<Graph, StreamFault>, DescribeFault>
     ensures same { IfOk result (λ read. ∥ AnswersGraph (nodes_of outline.now) items_of read ∥₁) }
-    ensures spelled { IfOk result (λ _. ∥ IsStream (nodes_of outline.now) items_of (canonical (nodes_of outline.now) items_of) ∥₁) }
-    ensures read { IfOk result (λ _. stream_of (canonical (nodes_of outline.now) items_of) ≡ Ok (nodes_of outline.now, items_of)) }
+    ensures spelled { IfOk result
+        (λ _. ∥ IsStream (nodes_of outline.now) items_of (canonical (nodes_of outline.now) items_of)
+        ∥₁) }
+    ensures read { IfOk result (λ _. stream_of (canonical (nodes_of outline.now) items_of)
+        ≡ Ok (nodes_of outline.now, items_of)) }
     ensures err { IfErr result (IsUndescribed outline.now) }
 {
     let graph = describe(alloc, outline)?;

@@ -15,7 +15,8 @@ use wire_io::pull::Pull;
 /// Writes a graph as a stream, and reads the stream. What is read is the same graph, with all that is shared in it; a
 /// refusal is none of the bytes': there was no memory, or a read failed.
 pub fn read_back(alloc: Global, graph: &Graph) -> Result<Graph, StreamFault>
-    ensures same { length (canonical graph.now.nodes graph.now.items) ≤ LAST_POSITION → ∥ AnswersGraph graph.now.nodes graph.now.items result ∥₁ }
+    ensures same { length (canonical graph.now.nodes graph.now.items) ≤ LAST_POSITION
+        → ∥ AnswersGraph graph.now.nodes graph.now.items result ∥₁ }
 {
     let written = write_stream(alloc, graph)?;
     let mut source = MemSource::new(written, Kinds::new(alloc), Kinds::new(alloc));

@@ -28,7 +28,8 @@ pub(super) fn note<S: Source>(
     left: u32,
 ) -> Result<Items, StreamFault>
     requires left { left ≤ LEVELS }
-    ensures { ReadsNodes S.half pull.old pull.new table.old table.new result Any (λ end. note_at end (slot_at end left Reference table.old.unread.items) writes) }
+    ensures { ReadsNodes S.half pull.old pull.new table.old table.new result Any
+        (λ end. note_at end (slot_at end left Reference table.old.unread.items) writes) }
 {
     if writes {
         items(alloc, pull, table, left)
@@ -46,7 +47,8 @@ pub(super) fn items<S: Source>(
     left: u32,
 ) -> Result<Items, StreamFault>
     requires left { left ≤ LEVELS }
-    ensures { ReadsNodes S.half pull.old pull.new table.old table.new result Any (λ end. items_at end (slot_at end left Reference table.old.unread.items) true) }
+    ensures { ReadsNodes S.half pull.old pull.new table.old table.new result Any
+        (λ end. items_at end (slot_at end left Reference table.old.unread.items) true) }
 {
     let mut items = Vec::new(alloc);
     loop {
@@ -73,7 +75,9 @@ pub(crate) fn item<S: Source>(
     left: u32,
 ) -> Result<Item, StreamFault>
     requires left { left ≤ LEVELS }
-    ensures { ReadsNodes S.half pull.old pull.new table.old table.new result Any (λ end. item_at end at (coded end left (slot_at end (left - 1)) Reference table.old.unread.items at code) code) }
+    ensures { ReadsNodes S.half pull.old pull.new table.old table.new result Any
+        (λ end. item_at end at
+        (coded end left (slot_at end (left - 1)) Reference table.old.unread.items at code) code) }
 {
     if code == 0x77 {
         let n = byte(pull)?;

@@ -30,7 +30,9 @@ pub(super) fn array<S: Source>(
     left: u32,
 ) -> Result<Slot, StreamFault>
     requires left { left ≤ LEVELS }
-    ensures { ReadsNodes S.half pull.old pull.new table.old table.new result GivesNode (λ end. with_class (slot_at end left) table.old.unread.items at (array_at end at (slot_at end left Reference table.old.unread.items))) }
+    ensures { ReadsNodes S.half pull.old pull.new table.old table.new result GivesNode
+        (λ end. with_class (slot_at end left) table.old.unread.items at
+        (array_at end at (slot_at end left Reference table.old.unread.items))) }
 {
     let class = class(alloc, pull, table, at, left)?;
     array_in(alloc, pull, table, at, class, left)
@@ -49,7 +51,8 @@ fn array_in<S: Source>(
 ) -> Result<Slot, StreamFault>
     requires room { length table.old.nodes.items < NODES }
     requires left { left ≤ LEVELS }
-    ensures { ReadsNodes S.half pull.old pull.new table.old table.new result GivesNode (λ end. array_at end at (slot_at end left Reference table.old.unread.items) class) }
+    ensures { ReadsNodes S.half pull.old pull.new table.old table.new result GivesNode
+        (λ end. array_at end at (slot_at end left Reference table.old.unread.items) class) }
 {
     match table.element_type(class) {
         None => Err(bad(StreamKind::BadDesc, at)),
@@ -78,7 +81,9 @@ fn array_of<S: Source>(
 ) -> Result<Slot, StreamFault>
     requires room { length table.old.nodes.items < NODES }
     requires left { left ≤ LEVELS }
-    ensures { ReadsNodes S.half pull.old pull.new table.old table.new result GivesNode (λ end. array_of end at (slot_at end left Reference table.old.unread.items) class (Some code)) }
+    ensures { ReadsNodes S.half pull.old pull.new table.old table.new result GivesNode
+        (λ end. array_of end at (slot_at end left Reference table.old.unread.items) class
+        (Some code)) }
 {
     let n = count(pull)?;
     count_parts(table, refs_among(code, n), at)?;
@@ -103,7 +108,8 @@ fn elements<S: Source>(
     left: u32,
 ) -> Result<Values, StreamFault>
     requires left { left ≤ LEVELS }
-    ensures { ReadsNodes S.half pull.old pull.new table.old table.new result Any (λ end. elements_at (slot_at end left Reference table.old.unread.items) code n) }
+    ensures { ReadsNodes S.half pull.old pull.new table.old table.new result Any
+        (λ end. elements_at (slot_at end left Reference table.old.unread.items) code n) }
 {
     if is_primitive(code) {
         primitives(alloc, pull, code, n)
@@ -123,7 +129,8 @@ fn slots<S: Source>(
     left: u32,
 ) -> Result<SlotList, StreamFault>
     requires left { left ≤ LEVELS }
-    ensures { ReadsNodes S.half pull.old pull.new table.old table.new result Any (λ end. many_at (slot_at end left Reference table.old.unread.items) n) }
+    ensures { ReadsNodes S.half pull.old pull.new table.old table.new result Any
+        (λ end. many_at (slot_at end left Reference table.old.unread.items) n) }
 {
     let mut slots = SlotList::new(alloc);
     for _ in 0..n {

@@ -26,7 +26,8 @@ pub(super) fn class_value<S: Source>(
     left: u32,
 ) -> Result<Slot, StreamFault>
     requires left { left ≤ LEVELS }
-    ensures { ReadsNodes S.half pull.old pull.new table.old table.new result GivesNode (λ end. with_class (slot_at end left) table.old.unread.items at class_at) }
+    ensures { ReadsNodes S.half pull.old pull.new table.old table.new result GivesNode
+        (λ end. with_class (slot_at end left) table.old.unread.items at class_at) }
 {
     let class = class(alloc, pull, table, at, left)?;
     let number = table.begin(Node::Class { class })?;
@@ -44,7 +45,9 @@ pub(super) fn constant<S: Source>(
     left: u32,
 ) -> Result<Slot, StreamFault>
     requires left { left ≤ LEVELS }
-    ensures { ReadsNodes S.half pull.old pull.new table.old table.new result GivesNode (λ end. with_class (slot_at end left) table.old.unread.items at (enum_at at (slot_at end left Text table.old.unread.items))) }
+    ensures { ReadsNodes S.half pull.old pull.new table.old table.new result GivesNode
+        (λ end. with_class (slot_at end left) table.old.unread.items at
+        (enum_at at (slot_at end left Text table.old.unread.items))) }
 {
     let class = class(alloc, pull, table, at, left)?;
     constant_in(alloc, pull, table, at, class, left)
@@ -63,7 +66,8 @@ fn constant_in<S: Source>(
 ) -> Result<Slot, StreamFault>
     requires room { length table.old.nodes.items < NODES }
     requires left { left ≤ LEVELS }
-    ensures { ReadsNodes S.half pull.old pull.new table.old table.new result GivesNode (λ end. enum_at at (slot_at end left Text table.old.unread.items) class) }
+    ensures { ReadsNodes S.half pull.old pull.new table.old table.new result GivesNode
+        (λ end. enum_at at (slot_at end left Text table.old.unread.items) class) }
 {
     if !table.is_enum(class) {
         return Err(bad(StreamKind::BadDesc, at));

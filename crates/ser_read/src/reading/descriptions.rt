@@ -35,7 +35,8 @@ pub(super) fn desc<S: Source>(
 ) -> Result<Slot, StreamFault>
     requires room { length table.old.nodes.items < NODES }
     requires left { left ≤ LEVELS }
-    ensures { ReadsNodes S.half pull.old pull.new table.old table.new result GivesNode (λ end. desc_at end at (slot_at end left) table.old.unread.items) }
+    ensures { ReadsNodes S.half pull.old pull.new table.old table.new result GivesNode
+        (λ end. desc_at end at (slot_at end left) table.old.unread.items) }
 {
     let name = short_text(alloc, pull)?;
     let front = desc_front(pull)?;
@@ -60,7 +61,8 @@ fn desc_behind<S: Source>(
     left: u32,
 ) -> Result<ClassDesc, StreamFault>
     requires left { left ≤ LEVELS }
-    ensures { ReadsNodes S.half pull.old pull.new table.old table.new result Any (λ end. desc_behind end at (slot_at end left) table.old.unread.items name front) }
+    ensures { ReadsNodes S.half pull.old pull.new table.old table.new result Any
+        (λ end. desc_behind end at (slot_at end left) table.old.unread.items name front) }
 {
     count_parts(table, usize::from(front.fields), at)?;
     let fields = fields(alloc, pull, table, at, front.fields, left)?;
@@ -91,7 +93,8 @@ fn fields<S: Source>(
     left: u32,
 ) -> Result<FieldList, StreamFault>
     requires left { left ≤ LEVELS }
-    ensures { ReadsNodes S.half pull.old pull.new table.old table.new result Any (λ end. many_at (field_at end at (slot_at end left Text table.old.unread.items)) n) }
+    ensures { ReadsNodes S.half pull.old pull.new table.old table.new result Any
+        (λ end. many_at (field_at end at (slot_at end left Text table.old.unread.items)) n) }
 {
     let mut fields = Vec::new(alloc);
     for _ in 0..n {
@@ -112,7 +115,8 @@ fn field<S: Source>(
     left: u32,
 ) -> Result<FieldDesc, StreamFault>
     requires left { left ≤ LEVELS }
-    ensures { ReadsNodes S.half pull.old pull.new table.old table.new result Any (λ end. field_at end at (slot_at end left Text table.old.unread.items)) }
+    ensures { ReadsNodes S.half pull.old pull.new table.old table.new result Any
+        (λ end. field_at end at (slot_at end left Text table.old.unread.items)) }
 {
     let letter = byte(pull)?;
     match TypeCode::from_letter(letter) {
@@ -133,7 +137,8 @@ fn field_of<S: Source>(
     left: u32,
 ) -> Result<FieldDesc, StreamFault>
     requires left { left ≤ LEVELS }
-    ensures { ReadsNodes S.half pull.old pull.new table.old table.new result Any (λ end. field_of end at (slot_at end left Text table.old.unread.items) (Some code)) }
+    ensures { ReadsNodes S.half pull.old pull.new table.old table.new result Any
+        (λ end. field_of end at (slot_at end left Text table.old.unread.items) (Some code)) }
 {
     let name = short_text(alloc, pull)?;
     if is_primitive(code) {
@@ -166,7 +171,8 @@ pub(super) fn proxy<S: Source>(
 ) -> Result<Slot, StreamFault>
     requires room { length table.old.nodes.items < NODES }
     requires left { left ≤ LEVELS }
-    ensures { ReadsNodes S.half pull.old pull.new table.old table.new result GivesNode (λ end. proxy_at end at (slot_at end left) table.old.unread.items) }
+    ensures { ReadsNodes S.half pull.old pull.new table.old table.new result GivesNode
+        (λ end. proxy_at end at (slot_at end left) table.old.unread.items) }
 {
     let n = count(pull)?;
     count_parts(table, n as usize, at)?;

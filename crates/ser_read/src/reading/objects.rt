@@ -33,7 +33,9 @@ pub(super) fn object<S: Source>(
     left: u32,
 ) -> Result<Slot, StreamFault>
     requires left { left ≤ LEVELS }
-    ensures { ReadsNodes S.half pull.old pull.new table.old table.new result GivesNode (λ end. with_class (slot_at end left) table.old.unread.items at (object_at end at (slot_at end left Reference table.old.unread.items))) }
+    ensures { ReadsNodes S.half pull.old pull.new table.old table.new result GivesNode
+        (λ end. with_class (slot_at end left) table.old.unread.items at
+        (object_at end at (slot_at end left Reference table.old.unread.items))) }
 {
     let class = class(alloc, pull, table, at, left)?;
     object_in(alloc, pull, table, at, class, left)
@@ -52,7 +54,8 @@ fn object_in<S: Source>(
 ) -> Result<Slot, StreamFault>
     requires room { length table.old.nodes.items < NODES }
     requires left { left ≤ LEVELS }
-    ensures { ReadsNodes S.half pull.old pull.new table.old table.new result GivesNode (λ end. object_at end at (slot_at end left Reference table.old.unread.items) class) }
+    ensures { ReadsNodes S.half pull.old pull.new table.old table.new result GivesNode
+        (λ end. object_at end at (slot_at end left Reference table.old.unread.items) class) }
 {
     let shape = shape_of(alloc, table, class)?;
     let rows = shape.rows.as_slice();
@@ -109,7 +112,8 @@ fn object_after<S: Source>(
     requires room { length table.old.nodes.items < NODES }
     requires parts { table.old.parts + sizes_by rows.now ≤ PARTS }
     requires left { left ≤ LEVELS }
-    ensures { ReadsNodes S.half pull.old pull.new table.old table.new result GivesNode (λ end. object_by end (slot_at end left Reference table.old.unread.items) class rows.now) }
+    ensures { ReadsNodes S.half pull.old pull.new table.old table.new result GivesNode
+        (λ end. object_by end (slot_at end left Reference table.old.unread.items) class rows.now) }
 {
     if let Some(more) = sizes_of(rows) {
         table.add_parts(more);
@@ -133,7 +137,8 @@ fn parts<S: Source>(
     left: u32,
 ) -> Result<PartList, StreamFault>
     requires left { left ≤ LEVELS }
-    ensures { ReadsNodes S.half pull.old pull.new table.old table.new result Any (λ end. parts_by end (slot_at end left Reference table.old.unread.items) rows.now) }
+    ensures { ReadsNodes S.half pull.old pull.new table.old table.new result Any
+        (λ end. parts_by end (slot_at end left Reference table.old.unread.items) rows.now) }
 {
     let mut parts = Vec::new(alloc);
     for row in rows {
@@ -154,7 +159,8 @@ fn part<S: Source>(
     left: u32,
 ) -> Result<Part, StreamFault>
     requires left { left ≤ LEVELS }
-    ensures { ReadsNodes S.half pull.old pull.new table.old table.new result Any (λ end. part_by end (slot_at end left Reference table.old.unread.items) row.now) }
+    ensures { ReadsNodes S.half pull.old pull.new table.old table.new result Any
+        (λ end. part_by end (slot_at end left Reference table.old.unread.items) row.now) }
 {
     let values = values(alloc, pull, table, row.codes.as_slice(), left)?;
     let note = note(alloc, pull, table, row.note, left)?;
@@ -171,7 +177,8 @@ fn values<S: Source>(
     left: u32,
 ) -> Result<ValueList, StreamFault>
     requires left { left ≤ LEVELS }
-    ensures { ReadsNodes S.half pull.old pull.new table.old table.new result Any (λ end. values_by (slot_at end left Reference table.old.unread.items) codes.now) }
+    ensures { ReadsNodes S.half pull.old pull.new table.old table.new result Any
+        (λ end. values_by (slot_at end left Reference table.old.unread.items) codes.now) }
 {
     let mut values = Vec::new(alloc);
     for code in codes {
@@ -192,7 +199,8 @@ fn value<S: Source>(
     left: u32,
 ) -> Result<Value, StreamFault>
     requires left { left ≤ LEVELS }
-    ensures { ReadsNodes S.half pull.old pull.new table.old table.new result Any (λ end. value_at (slot_at end left Reference table.old.unread.items) code) }
+    ensures { ReadsNodes S.half pull.old pull.new table.old table.new result Any
+        (λ end. value_at (slot_at end left Reference table.old.unread.items) code) }
 {
     if is_primitive(code) {
         primitive(pull, code)
