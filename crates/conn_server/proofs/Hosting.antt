@@ -5,6 +5,7 @@ use Rattle.wire_io.specs.Links.{Accepted, Listening, with_next}
 use Rattle.wire_io.specs.Wire.{ReadHalf, WriteHalf, Rose}
 use Rattle.space.specs.declared.asked.Asked.{Asked}
 use Rattle.turn_lock.specs.Handles.{opening_of, view_of}
+use Rattle.turn_lock.specs.Rule.{Events}
 use Rattle.turn_lock.specs.declared.handles.TurnLock.{TurnLock}
 use Rattle.call_dispatch.specs.Acts.{WorkerState, Call, States}
 use Rattle.call_dispatch.specs.declared.outcome.Invocation.{Invocation}
@@ -14,7 +15,7 @@ use Rattle.conn_server.specs.Accepts.{Follows, IsAccepting, TicksOn, shown_all, 
 use Rattle.conn_server.specs.Taken.{Taken}
 use Rattle.conn_server.specs.Hosts.{IsHosting, IsHalted}
 use Rattle.conn_server.specs.Made.{IsMadeFor}
-use Rattle.conn_server.specs.Quiet.{MayPass, TicksQuietly}
+use Rattle.conn_server.specs.Quiet.{TicksQuietly}
 use Rattle.conn_server.specs.Stops.{HostStopped, IsLostLink}
 use Rattle.conn_server.specs.Talks.{TalksOver}
 use Rattle.conn_server.specs.declared.accept_loop.Stop.{Stop}
@@ -26,7 +27,7 @@ use Rattle.conn_server.specs.declared.link_thread.StartedLink.{StartedLink}
 use Rattle.conn_server.specs.declared.plan.ServePlan.{ServePlan}
 use Rattle.conn_server.specs.declared.quiet_second.OwnHand.{OwnHand}
 use Rattle.conn_server.proofs.Listening.{one_more, with_none}
-use Rattle.conn_server.proofs.Quiet.{passes_on, quiet_first, quiet_later, quiet_link, quiet_same}
+use Rattle.conn_server.proofs.Quiet.{quiet_first, quiet_later, quiet_link, quiet_same}
 
 module _ {I O T H C : Type 0} (read_half : I → ReadHalf) (write_half : O → WriteHalf) (given : T → Option (List ℕ)) (shown : H → WorkerState) (may : Invocation → Outcome → Type 0) (moves : States → Call → States → Type 0)
     (taken : C → Taken (LinkReport I O T H)) (expects : C → LinkReport I O T H → Type 0) (lock : TurnLock) (kinds : List Kind) (plan : ServePlan) (l0 : Listening) (gave_first : Option (List ℕ)) where
@@ -42,16 +43,15 @@ module _ {I O T H C : Type 0} (read_half : I → ReadHalf) (write_half : O → W
   abbrev ticks_now : Acceptor I O T H C → List Asked
   ticks_now a = ticks_of (shown_all read_half write_half given a.all)
 
-  abbrev passing : Acceptor I O T H C → OwnHand H → ℕ → Type 0
-  passing a own = MayPass (opening_of lock) (view_of a.root.pass).seen own.missed
+  abbrev seen_by : Acceptor I O T H C → Events
+  seen_by a = (view_of a.root.pass).seen
 
   -- More was seen, and the lists are the same.
-  quiet_then : (gave : Option (List ℕ)) (a b : Acceptor I O T H C) (own : OwnHand H) (before before_after ticks ticks_after : List Asked) → Follows a b → TicksQuietly shown moves (passing a own) gave_first gave before ticks own.hand
-      → ticks_after ≡ ticks → before_after ≡ before → TicksQuietly shown moves (passing b own) gave_first gave before_after ticks_after own.hand
+  quiet_then : (gave : Option (List ℕ)) (a b : Acceptor I O T H C) (own : OwnHand H) (before before_after ticks ticks_after : List Asked) → Follows a b → TicksQuietly shown moves (opening_of lock) (seen_by a) own.missed gave_first gave before ticks own.hand
+      → ticks_after ≡ ticks → before_after ≡ before → TicksQuietly shown moves (opening_of lock) (seen_by b) own.missed gave_first gave before_after ticks_after own.hand
   quiet_then gave a b own before before_after ticks ticks_after follows t same other =
-      quiet_later shown moves (passing a own) (passing b own) gave_first gave before_after ticks_after own.hand
-      (passes_on (opening_of lock) (view_of a.root.pass).seen (view_of b.root.pass).seen own.missed own.missed follows.0 (λ is. is))
-      (quiet_same shown moves (passing a own) gave_first gave before before_after ticks ticks_after own.hand t same other)
+      quiet_later shown moves (opening_of lock) (seen_by a) (seen_by b) own.missed gave_first gave before_after ticks_after own.hand follows.0
+      (quiet_same shown moves (opening_of lock) (seen_by a) own.missed gave_first gave before before_after ticks ticks_after own.hand t same other)
 
   -- Links ended, and the listener was asked, or wasn't.
   pub hosting_joined : (l l2 : Listening) (gave : Option (List ℕ)) (a b : Acceptor I O T H C) (own : OwnHand H) → Going l gave a own → Taking b → Follows a b → (taken b.taker).ticks ≡ (taken a.taker).ticks
@@ -72,14 +72,14 @@ module _ {I O T H C : Type 0} (read_half : I → ReadHalf) (write_half : O → W
 
   -- A quiet second passed.
   pub hosting_quiet : (l : Listening) (gave gave2 : Option (List ℕ)) (a b : Acceptor I O T H C) (own own2 : OwnHand H) → Going l gave a own → Taking b → Follows a b → b.all ≡ a.all → b.begun ≡ a.begun
-      → (TicksQuietly shown moves (passing a own) gave_first gave (ticks_now a) (taken a.taker).ticks own.hand → TicksQuietly shown moves (passing b own2) gave_first gave2 (ticks_now a) (taken b.taker).ticks own2.hand) → Going l gave2 b own2
+      → (TicksQuietly shown moves (opening_of lock) (seen_by a) own.missed gave_first gave (ticks_now a) (taken a.taker).ticks own.hand → TicksQuietly shown moves (opening_of lock) (seen_by b) own2.missed gave_first gave2 (ticks_now a) (taken b.taker).ticks own2.hand) → Going l gave2 b own2
   hosting_quiet l gave gave2 a b own own2 is then follows same begun ticks =
       let few = is.few in
       record {
         is = then;
         hosts = follows.1 ∙ is.hosts;
         few = omega (arith, few, begun);
-        quiet = quiet_same shown moves (passing b own2) gave_first gave2 (ticks_now a) (ticks_now b) (taken b.taker).ticks (taken b.taker).ticks own2.hand (ticks is.quiet) refl (ap (λ (l : List (StartedLink I O T H)). ticks_of (shown_all read_half write_half given l)) same);
+        quiet = quiet_same shown moves (opening_of lock) (seen_by b) own2.missed gave_first gave2 (ticks_now a) (ticks_now b) (taken b.taker).ticks (taken b.taker).ticks own2.hand (ticks is.quiet) refl (ap (λ (l : List (StartedLink I O T H)). ticks_of (shown_all read_half write_half given l)) same);
         links = is.links ∙ ap (λ (l : List (StartedLink I O T H)). with_all l0.accepted (links_of (shown_all read_half write_half given l))) (sym same);
         faults = is.faults;
         same_told = is.same_told;
@@ -95,7 +95,7 @@ module _ {I O T H C : Type 0} (read_half : I → ReadHalf) (write_half : O → W
         is = then;
         hosts = follows.1 ∙ is.hosts;
         few = omega (arith, few, begun);
-        quiet = quiet_link shown moves (passing b own) gave_first gave (ticks_now a) (ticks_now b) (taken a.taker).ticks (taken b.taker).ticks own.hand
+        quiet = quiet_link shown moves (opening_of lock) (seen_by b) own.missed gave_first gave (ticks_now a) (ticks_now b) (taken a.taker).ticks (taken b.taker).ticks own.hand
             (quiet_then gave a b own (ticks_now a) (ticks_now a) (taken a.taker).ticks (taken a.taker).ticks follows is.quiet refl refl) ticks;
         links = one_more l0.accepted l.accepted l2.accepted (links_now a) link is.links next ∙ ap (with_all l0.accepted) (sym links);
         faults = omega (arith, faults, more);
@@ -164,16 +164,16 @@ module _ {I O T H C : Type 0} (read_half : I → ReadHalf) (write_half : O → W
 -- At first no link is accepted.
 pub hosting_first : {I O T H C : Type 0} (read_half : I → ReadHalf) (write_half : O → WriteHalf) (given : T → Option (List ℕ)) (shown : H → WorkerState) (may : Invocation → Outcome → Type 0) (moves : States → Call → States → Type 0)
     (taken : C → Taken (LinkReport I O T H)) (expects : C → LinkReport I O T H → Type 0) (lock : TurnLock) (kinds : List Kind) (plan : ServePlan) (l : Listening) (gave : Option (List ℕ)) (a : Acceptor I O T H C) (own : OwnHand H)
-    → IsAccepting (TalksOver read_half write_half given shown may moves kinds) (IsMadeFor read_half write_half given shown moves plan) shown taken expects lock kinds a → a.all ≡ [] → (taken a.taker).ticks ≡ [] → own.hand ≡ None → a.keeps ≡ false
+    → IsAccepting (TalksOver read_half write_half given shown may moves kinds) (IsMadeFor read_half write_half given shown moves plan) shown taken expects lock kinds a → a.all ≡ [] → (taken a.taker).ticks ≡ [] → own.hand ≡ None → own.missed ≡ false → a.keeps ≡ false
     → IsHosting read_half write_half given shown may moves taken expects lock kinds plan l l gave gave a own
-hosting_first {I = I} {O = O} {T = T} {H = H} read_half write_half given shown may moves taken expects lock kinds plan l gave a own is none no_tick handless hosts =
+hosting_first {I = I} {O = O} {T = T} {H = H} read_half write_half given shown may moves taken expects lock kinds plan l gave a own is none no_turn handless unmissed hosts =
     let count = is.begun ∙ ap (λ (l : List (StartedLink I O T H)). length l) none in
     record {
       is = is;
       hosts = hosts;
       few = omega (arith, count);
-      quiet = subst (λ (o : Option H). TicksQuietly shown moves (MayPass (opening_of lock) (view_of a.root.pass).seen own.missed) gave gave (ticks_of (shown_all read_half write_half given a.all)) (taken a.taker).ticks o) (sym handless)
-          (quiet_first shown moves (MayPass (opening_of lock) (view_of a.root.pass).seen own.missed) gave (ticks_of (shown_all read_half write_half given a.all)) (taken a.taker).ticks (ap (λ (l : List (StartedLink I O T H)). ticks_of (shown_all read_half write_half given l)) none) no_tick);
+      quiet = subst (λ (o : Option H). TicksQuietly shown moves (opening_of lock) (view_of a.root.pass).seen own.missed gave gave (ticks_of (shown_all read_half write_half given a.all)) (taken a.taker).ticks o) (sym handless)
+          (quiet_first shown moves (opening_of lock) (view_of a.root.pass).seen own.missed gave (ticks_of (shown_all read_half write_half given a.all)) (taken a.taker).ticks unmissed (ap (λ (l : List (StartedLink I O T H)). ticks_of (shown_all read_half write_half given l)) none) no_turn);
       links = sym (with_none l.accepted) ∙ ap (λ (s : List (StartedLink I O T H)). with_all l.accepted (links_of (shown_all read_half write_half given s))) (sym none);
       faults = omega arith;
       same_told = refl;

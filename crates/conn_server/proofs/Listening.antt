@@ -1,10 +1,11 @@
 -- What a listener tells as links are accepted one after another.
-use Rattle.std.proofs.Common.{◌≡◌, List, [], ◌∷◌, ◌++◌, refl, ap, sym, ◌∙◌, append_assoc, append-nil}
+use Rattle.std.proofs.Common.{◌≡◌, Bool, true, false, List, [], ◌∷◌, ◌++◌, refl, ap, sym, ◌∙◌, append_assoc, append-nil, arith, true≢false}
 use Rattle.std.proofs.lemmas.List.{map_push}
 use Rattle.std.specs.Prelude.{Option, Some, None}
-use Rattle.wire_io.specs.Links.{Accepted, with_next}
+use Rattle.wire_io.specs.Links.{Accepted, Listening, Looks, with_next}
 use Rattle.space.specs.declared.asked.Asked.{Asked}
 use Rattle.conn_server.specs.Accepts.{TicksOn, links_of, ticks_of, with_all}
+use Rattle.conn_server.specs.Hosts.{IsLike}
 
 pub with_none : {A : Type 0} (told : Option (List A)) → with_all told [] ≡ told
 with_none None = refl
@@ -32,3 +33,13 @@ ticks_on shown after p before ticks more is was then = (p.1, then, ap ticks_of i
 -- The Ticks are those before the links, and one more of each was made.
 pub ticks_same : (ticks ticks_after shown shown_after : List Asked) → ticks ≡ shown → TicksOn ticks ticks_after shown shown_after → ticks_after ≡ shown_after
 ticks_same ticks ticks_after shown shown_after tied (tick, one, other) = one ∙ (ap (λ l. l ++ tick ∷ []) tied ∙ sym other)
+
+still_untold : (old new answer : Bool) → new ≡ answer → answer ≡ false → (old ≡ true → answer ≡ true) → new ≡ old
+still_untold true new answer is untold once = absurd (true≢false (sym (once refl) ∙ untold))
+still_untold false new answer is untold once = is ∙ untold
+
+-- A look found that the listener wasn't told to stop.
+pub like_looked : (l l2 : Listening) (answer : Bool) → Looks l l2 answer → answer ≡ false → IsLike l l2
+like_looked l l2 answer looks untold =
+    let same = looks.2 in
+    record { accepted = looks.1; faults = omega (arith, same); same_told = still_untold l.told l2.told answer looks.3 untold looks.4; same_ports = looks.0 }

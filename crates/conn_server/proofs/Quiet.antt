@@ -1,69 +1,130 @@
 -- Ticks of quiet seconds, one after another.
-use Rattle.std.proofs.Common.{◌≡◌, ◌⊎◌, ℕ, Bool, true, false, List, [], ◌∷◌, ◌++◌, map, inl, inr, refl, ap, sym, ◌∙◌, subst, append_assoc, append-nil}
-use Rattle.std.proofs.lemmas.List.{map-append}
+use Rattle.std.proofs.Common.{◌≡◌, ◌⊎◌, ℕ, ◌+◌, ◌<◌, Bool, true, false, List, [], ◌∷◌, ◌++◌, length, inl, inr, refl, ap, sym, ◌∙◌, subst, append_assoc, append-nil, length-append, arith, true≢false}
 use Rattle.std.proofs.lemmas.Grind.{flat_map-append}
-use Rattle.std.specs.List.{AllByRecursion, flat_map}
-use Rattle.std.specs.Prelude.{Option, Some, None, IfSome, IfNone, option_to_list}
+use Rattle.std.specs.List.{flat_map}
+use Rattle.std.specs.Prelude.{Option, Some, None, Result, Ok, Err, IfSome, IfNone, option_to_list}
 use Rattle.wire_io.specs.Wire.{Gave, Gave-append, Gave-nothing}
+use Rattle.history.specs.Steps as history
+use Rattle.history.specs.declared.asks.Ask.{Ask}
 use Rattle.history.specs.declared.asks.Ask.TheVariants.{Tick}
+use Rattle.history.specs.declared.asks.Event.{Event}
 use Rattle.history.specs.declared.asks.SpaceConfig.{SpaceConfig}
+use Rattle.history.specs.declared.replies.Refused.{Refused}
+use Rattle.history.specs.declared.replies.Turn.{Turn}
+use Rattle.space.proofs.NotedLaws.{taken-turn, refused-turn}
+use Rattle.space.specs.Acts.{event_of}
 use Rattle.space.specs.Built.{SpaceHistory}
-use Rattle.space.specs.Idle.{TickChangesNothing, untold_of}
+use Rattle.space.specs.Idle.{SomethingEnds, TickChangesNothing, untold_of}
 use Rattle.space.specs.declared.asked.Asked.{Asked}
 use Rattle.call_dispatch.specs.Acts.{WorkerState, Call, States, Moves, TellsMore, LeadsStates}
 use Rattle.call_dispatch.specs.Hands.{IsUntold, IsUncounted}
 use Rattle.call_dispatch.proofs.Going.{tells_nothing, leads_nothing}
+use Rattle.turn_lock.specs.Answers.{events_of}
 use Rattle.turn_lock.specs.Handles.{IsRootOf, opening_of, view_of}
-use Rattle.turn_lock.specs.NoTick.{NeedsNoTick}
-use Rattle.turn_lock.specs.Rule.{Events, StartsWith}
+use Rattle.turn_lock.specs.NoTick.{MadeNeededTick, NeedsNoTick}
+use Rattle.turn_lock.specs.Rule.{Events, HasOwn, StartsWith, TurnedWithEntry, events_by}
 use Rattle.turn_lock.specs.declared.handles.Root.{Root}
 use Rattle.turn_lock.specs.declared.handles.TurnLock.{TurnLock}
+use Rattle.turn_lock.specs.declared.view.View.{View}
 use Rattle.conn_server.specs.Accepts.{TicksOn}
 use Rattle.conn_server.specs.Made.{IsTickEnd, told_of}
-use Rattle.conn_server.specs.Quiet.{Merges, IsTick, moments_of, MayPass, HasTold, HaveTold, TicksQuietly, TicksOnce}
+use Rattle.conn_server.specs.Quiet.{Step, link_tick, quiet_tick, without_tick, link_entry, look_entry, step_entry, look_moment, passed_moment, EachBehind, WasSeen, WasDue, MayPass, IsStep, IsTick, HasTold, HaveTold, NeededThen, TicksQuietly, TicksOnce}
+use Rattle.conn_server.specs.Views.{IsTicking}
 use Rattle.conn_server.proofs.Histories.{starts_on, starts_self}
 
--- ---- lists merged
+-- ---- histories
 
-pub merges_first : {A : Type 0} (xs ys zs : List A) (x : A) → Merges xs ys zs → Merges (xs ++ x ∷ []) ys (zs ++ x ∷ [])
-merges_first xs ys [] x m = inl ([], ap (λ l. l ++ x ∷ []) m.0, (refl, m.1))
-merges_first xs ys (z ∷ zs) x (inl m) = inl (m.0 ++ x ∷ [], ap (λ l. l ++ x ∷ []) m.1, merges_first m.0 ys zs x m.2)
-merges_first xs ys (z ∷ zs) x (inr m) = inr (m.0, m.1, merges_first xs m.0 zs x m.2)
+starts_same : (a b : Events) → a ≡ b → StartsWith a b
+starts_same a b same = ([], same ∙ sym (append-nil b))
 
-pub merges_second : {A : Type 0} (xs ys zs : List A) (y : A) → Merges xs ys zs → Merges xs (ys ++ y ∷ []) (zs ++ y ∷ [])
-merges_second xs ys [] y m = inr ([], ap (λ l. l ++ y ∷ []) m.1, (m.0, refl))
-merges_second xs ys (z ∷ zs) y (inl m) = inl (m.0, m.1, merges_second m.0 ys zs y m.2)
-merges_second xs ys (z ∷ zs) y (inr m) = inr (m.0 ++ y ∷ [], ap (λ l. l ++ y ∷ []) m.1, merges_second xs m.0 zs y m.2)
+-- A step of a history keeps what was there.
+stepped_on : (config : SpaceConfig) (h last : Events) (e : Event) (answer : Result Turn Refused) → history.Step config h e answer last → StartsWith last h
+stepped_on config h last e (Ok turn) step = (e ∷ [], (taken-turn config h last e turn step).1)
+stepped_on config h last e (Err refused) step = starts_same last h (refused-turn config h last e refused step).1
 
-each_on : {A : Type 0} (P : A → Type 0) (xs : List A) (x : A) → AllByRecursion P xs → P x → AllByRecursion P (xs ++ x ∷ [])
-each_on P [] x a p = (p, tt)
-each_on P (y ∷ xs) x a p = (a.0, each_on P xs x a.1 p)
+none_some : {A : Type 0} (x : A) → Some x ≡ None → ⊥
+none_some x is = absurd (cc)
 
-each_more : {A : Type 0} (P Q : A → Type 0) (xs : List A) → ((x : A) → P x → Q x) → AllByRecursion P xs → AllByRecursion Q xs
-each_more P Q [] more a = tt
-each_more P Q (x ∷ xs) more a = (more x a.0, each_more P Q xs more a.1)
+-- ---- the course of a server's turns and looks
 
--- ---- moments without a Tick
+behind_on : (P : List Asked → Step → Type 0) (made : List Asked) (steps : List Step) (x : Step) → EachBehind P made steps → P (made ++ flat_map step_entry steps) x → EachBehind P made (steps ++ x ∷ [])
+behind_on P made [] x each is = (subst (λ (l : List Asked). P l x) (append-nil made) is, tt)
+behind_on P made (s ∷ steps) x each is =
+    (each.0, behind_on P (made ++ step_entry s) steps x each.1 (subst (λ (l : List Asked). P l x) (sym (append_assoc made (step_entry s) (flat_map step_entry steps))) is))
 
--- They may pass when more was seen, and when further Ticks were missed.
-pub passes_on : (opening : SpaceHistory) (events events_after : Events) (missed missed_after : Bool) → ((front : Events) → StartsWith events front → StartsWith events_after front) → (missed ≡ true → missed_after ≡ true)
-    → (m : ℕ) → MayPass opening events missed m → MayPass opening events_after missed_after m
-passes_on opening events events_after missed missed_after begins still m (inl is) = inl (still is)
-passes_on opening events events_after missed missed_after begins still m (inr (seen, at_front, opened, nothing, told)) = inr (seen, begins seen at_front, opened, nothing, told)
+behind_more : (P Q : List Asked → Step → Type 0) (made : List Asked) (steps : List Step) → ((l : List Asked) (s : Step) → P l s → Q l s) → EachBehind P made steps → EachBehind Q made steps
+behind_more P Q made [] more each = tt
+behind_more P Q made (s ∷ steps) more each = (more made s each.0, behind_more P Q (made ++ step_entry s) steps more each.1)
+
+-- ---- what was seen at a moment
+
+due_later : (opening : SpaceHistory) (events events_after : Events) (made : List Asked) (m : ℕ) → ((front : Events) → StartsWith events front → StartsWith events_after front) → WasDue opening events made m → WasDue opening events_after made m
+due_later opening events events_after made m begins (seen, was, ends) = (seen, record { begins = begins seen was.begins; own = was.own }, ends)
+
+-- A moment without a Tick may pass when more was seen, and when further Ticks were missed.
+passes_on : (opening : SpaceHistory) (events events_after : Events) (missed missed_after : Bool) (made : List Asked) (m : ℕ) → ((front : Events) → StartsWith events front → StartsWith events_after front) → (missed ≡ true → missed_after ≡ true)
+    → MayPass opening events missed made m → MayPass opening events_after missed_after made m
+passes_on opening events events_after missed missed_after made m begins still (inl is) = inl (still is)
+passes_on opening events events_after missed missed_after made m begins still (inr (seen, was, nothing, told)) = inr (seen, record { begins = begins seen was.begins; own = was.own }, nothing, told)
+
+step_on : (opening : SpaceHistory) (events events_after : Events) (missed missed_after : Bool) → ((front : Events) → StartsWith events front → StartsWith events_after front) → (missed ≡ true → missed_after ≡ true)
+    → (made : List Asked) (s : Step) → IsStep opening events missed made s → IsStep opening events_after missed_after made s
+step_on opening events events_after missed missed_after begins still made (link_tick e) is = tt
+step_on opening events events_after missed missed_after begins still made (quiet_tick e) is = (is.0, due_later opening events events_after made e.moment begins is.1)
+step_on opening events events_after missed missed_after begins still made (without_tick m) is = passes_on opening events events_after missed missed_after made m begins still is
+
+-- What the root with the view v has seen, which knows its own turns by these entries.
+seen_now : (lock : TurnLock) (r : Root) (ticks : List Asked) → IsRootOf lock r → IsTicking (view_of r.pass) ticks → WasSeen (opening_of lock) (view_of r.pass).seen ticks (view_of r.pass).seen
+seen_now lock r ticks own ticking =
+    let v = view_of r.pass in
+    let order = own.pass_is.ordered in
+    record {
+      begins = starts_self v.seen;
+      own = (order.tail, order.begins, subst (λ (n : ℕ). events_by n order.tail ≡ v.own) ticking.number order.own ∙ ticking.own);
+    }
 
 -- The moment at which the clock was looked at may pass where it has no entry: either a Tick was due and is missed, or nothing had ended.
-pub may_pass : (lock : TurnLock) (r : Root) (entry : Option Asked) (due missed : Bool) (look : ℕ) → IsRootOf lock r → (entry ≡ None → (missed ≡ true) ⊎ (due ≡ false)) → (due ≡ false → NeedsNoTick (view_of r.pass) look)
-    → IfNone entry (MayPass (opening_of lock) (view_of r.pass).seen missed look)
-may_pass lock r (Some e) due missed look own unmade idle = tt
-may_pass lock r None due missed look own unmade idle = by (unmade refl)
+pub may_pass : (lock : TurnLock) (r : Root) (ticks ticks_after : List Asked) (entry : Option Asked) (due missed : Bool) (look : ℕ) → IsRootOf lock r → IsTicking (view_of r.pass) ticks_after → ticks_after ≡ ticks ++ option_to_list entry
+    → (entry ≡ None → (missed ≡ true) ⊎ (due ≡ false)) → (due ≡ false → NeedsNoTick (view_of r.pass) look)
+    → IfNone entry (MayPass (opening_of lock) (view_of r.pass).seen missed ticks look)
+may_pass lock r ticks ticks_after (Some e) due missed look own ticking longer unmade idle = tt
+may_pass lock r ticks ticks_after None due missed look own ticking longer unmade idle = by (unmade refl)
   where
-    by : (missed ≡ true) ⊎ (due ≡ false) → MayPass (opening_of lock) (view_of r.pass).seen missed look
+    by : (missed ≡ true) ⊎ (due ≡ false) → MayPass (opening_of lock) (view_of r.pass).seen missed ticks look
     by (inl is) = inl is
     by (inr none) =
         let seen = (view_of r.pass).seen in
         let nothing = idle none in
-        let order = own.pass_is.ordered in
-        inr (seen, starts_self seen, (order.tail, order.begins), subst (λ (config : SpaceConfig). TickChangesNothing config seen look) own.pass_is.configured nothing.0, subst (λ (config : SpaceConfig). untold_of config seen ≡ []) own.pass_is.configured nothing.1)
+        let was = seen_now lock r ticks own (subst (λ (l : List Asked). IsTicking (view_of r.pass) l) (longer ∙ append-nil ticks) ticking) in
+        inr (seen, was, subst (λ (config : SpaceConfig). TickChangesNothing config seen look) own.pass_is.configured nothing.0, subst (λ (config : SpaceConfig). untold_of config seen ≡ []) own.pass_is.configured nothing.1)
+
+-- The root needed the Tick that it made, by what it had then seen.
+pub was_due : (lock : TurnLock) (a b : Root) (ticks : List Asked) (moment : ℕ) → IsRootOf lock a → IsTicking (view_of a.pass) ticks → NeededThen (view_of a.pass) moment (view_of b.pass) → WasDue (opening_of lock) (view_of b.pass).seen ticks moment
+was_due lock a b ticks moment own ticking need =
+    let v = view_of a.pass in
+    let w = need.between in
+    let (h, came, is) = need.sees in
+    let seen : w.seen ≡ h = ap (λ (x : View). x.seen) is in
+    let config : w.config ≡ (opening_of lock).configuration = ap (λ (x : View). x.config) is ∙ own.pass_is.configured in
+    let P : ℕ × Events × Events × Events → Type 0 = λ x. HasOwn x.1 x.0 x.2 x.3 in
+    let has : HasOwn (opening_of lock).events 0 (events_of 0 ticks) w.seen = subst P (λ i. (ticking.number i, own.pass_is.opened i, ticking.own i, sym seen i)) came.has_own in
+    let Q : SpaceConfig → Type 0 = λ config. SomethingEnds config w.seen moment ⊎ (0 < length (untold_of config w.seen)) in
+    (w.seen, record { begins = need.later; own = has }, subst Q config need.needs)
+
+pub due_there : (lock : TurnLock) (a b : Root) (ticks : List Asked) (entry : Option Asked) → IsRootOf lock a → IsTicking (view_of a.pass) ticks → IfSome entry (λ e. NeededThen (view_of a.pass) e.moment (view_of b.pass))
+    → IfSome entry (λ e. WasDue (opening_of lock) (view_of b.pass).seen ticks e.moment)
+due_there lock a b ticks None own ticking need = tt
+due_there lock a b ticks (Some e) own ticking need = was_due lock a b ticks e.moment own ticking need
+
+-- A root that turned after it had seen more, has seen that then, too.
+pub turned_later : (v w : View) (by moment : ℕ) (a : Ask) (answer : Result Turn Refused) → TurnedWithEntry v by moment a answer w → StartsWith w.seen v.seen
+turned_later v w by moment a answer (inr t) = starts_same w.seen v.seen (ap (λ (x : View). x.seen) t.1)
+turned_later v w by moment a answer (inl t) =
+    let turned = t.1 in
+    starts_on w.seen t.0 v.seen (stepped_on v.config t.0 w.seen (event_of by moment a) answer turned.step) (turned.came.others, turned.came.after)
+
+pub needed_then : (v w : View) (by moment : ℕ) (answer : Result Turn Refused) → MadeNeededTick v by moment answer w → NeededThen v moment w
+needed_then v w by moment answer made = record { between = made.between; sees = made.sees; needs = made.needs; later = turned_later made.between w by moment Tick answer made.turned }
 
 -- An entry that there is, is a Tick's.
 pub tick_there : (entry : Option Asked) → IfSome entry (λ e. e.ask ≡ Tick) → IfSome entry (λ e. IsTickEnd e.end) → IfSome entry IsTick
@@ -121,125 +182,123 @@ module _ {H : Type 0} (shown : H → WorkerState) (moves : States → Call → S
   -- ---- a server's own turns
 
   -- At first there are none.
-  pub quiet_first : (Passes : ℕ → Type 0) (gave : Option (List ℕ)) (before_links ticks : List Asked) → before_links ≡ [] → ticks ≡ [] → TicksQuietly shown moves Passes gave gave before_links ticks None
-  quiet_first Passes gave before_links ticks no_link no_tick =
-      let start : TicksQuietly shown moves Passes gave gave [] [] None = record { quiet = []; merged = (refl, refl); each = tt; told = refl; passed_over = []; each_passes = tt; looks = []; gave = Gave-nothing gave; among = (refl, refl) } in
-      subst (λ (x : List Asked × List Asked). TicksQuietly shown moves Passes gave gave x.0 x.1 None) (λ i. (sym no_link i, sym no_tick i)) start
+  pub quiet_first : (opening : SpaceHistory) (events : Events) (missed : Bool) (gave : Option (List ℕ)) (before_links ticks : List Asked) → missed ≡ false → before_links ≡ [] → ticks ≡ [] → TicksQuietly shown moves opening events missed gave gave before_links ticks None
+  quiet_first opening events missed gave before_links ticks none no_link no_turn = record {
+    course = [];
+    links = sym no_link;
+    made = sym no_turn;
+    each = tt;
+    told = refl;
+    gave = Gave-nothing gave;
+    cause = λ is. absurd (true≢false (sym is ∙ none));
+  }
 
   -- A Tick was made before a link.
-  pub quiet_link : (Passes : ℕ → Type 0) (gave_first gave_last : Option (List ℕ)) (before_links before_links_after ticks ticks_after : List Asked) (hand : Option H) → TicksQuietly shown moves Passes gave_first gave_last before_links ticks hand
-      → TicksOn ticks ticks_after before_links before_links_after → TicksQuietly shown moves Passes gave_first gave_last before_links_after ticks_after hand
-  quiet_link Passes gave_first gave_last before_links before_links_after ticks ticks_after hand t (tick, one, other) =
-      let longer : TicksQuietly shown moves Passes gave_first gave_last (before_links ++ tick ∷ []) (ticks ++ tick ∷ []) hand = record {
-        quiet = t.quiet;
-        merged = merges_first before_links t.quiet ticks tick t.merged;
-        each = t.each;
-        told = t.told;
-        passed_over = t.passed_over;
-        each_passes = t.each_passes;
-        looks = t.looks;
-        gave = t.gave;
-        among = t.among;
-      } in
-      subst (λ (x : List Asked × List Asked). TicksQuietly shown moves Passes gave_first gave_last x.0 x.1 hand) (λ i. (sym other i, sym one i)) longer
+  pub quiet_link : (opening : SpaceHistory) (events : Events) (missed : Bool) (gave_first gave_last : Option (List ℕ)) (before_links before_links_after ticks ticks_after : List Asked) (hand : Option H)
+      → TicksQuietly shown moves opening events missed gave_first gave_last before_links ticks hand → TicksOn ticks ticks_after before_links before_links_after → TicksQuietly shown moves opening events missed gave_first gave_last before_links_after ticks_after hand
+  quiet_link opening events missed gave_first gave_last before_links before_links_after ticks ticks_after hand t (tick, one, other) =
+      let step = link_tick tick in
+      record {
+        course = t.course ++ step ∷ [];
+        links = flat_map-append link_entry t.course (step ∷ []) ∙ (ap (λ l. l ++ tick ∷ []) t.links ∙ sym other);
+        made = flat_map-append step_entry t.course (step ∷ []) ∙ (ap (λ l. l ++ tick ∷ []) t.made ∙ sym one);
+        each = behind_on (IsStep opening events missed) [] t.course step t.each tt;
+        told = subst (λ (l : List Asked). HaveTold shown moves l hand) (sym (flat_map-append look_entry t.course (step ∷ []) ∙ append-nil (flat_map look_entry t.course))) t.told;
+        gave = subst (λ (l : List ℕ). Gave gave_first gave_last l) (sym (flat_map-append look_moment t.course (step ∷ []) ∙ append-nil (flat_map look_moment t.course))) t.gave;
+        cause = λ is. subst (λ (l : List ℕ). 0 < length l) (sym (flat_map-append passed_moment t.course (step ∷ []) ∙ append-nil (flat_map passed_moment t.course))) (t.cause is);
+      }
 
   -- The same lists by other names.
-  pub quiet_same : (Passes : ℕ → Type 0) (gave_first gave_last : Option (List ℕ)) (before_links before_links_after ticks ticks_after : List Asked) (hand : Option H) → TicksQuietly shown moves Passes gave_first gave_last before_links ticks hand
-      → ticks_after ≡ ticks → before_links_after ≡ before_links → TicksQuietly shown moves Passes gave_first gave_last before_links_after ticks_after hand
-  quiet_same Passes gave_first gave_last before_links before_links_after ticks ticks_after hand t same other =
-      subst (λ (x : List Asked × List Asked). TicksQuietly shown moves Passes gave_first gave_last x.0 x.1 hand) (λ i. (sym other i, sym same i)) t
+  pub quiet_same : (opening : SpaceHistory) (events : Events) (missed : Bool) (gave_first gave_last : Option (List ℕ)) (before_links before_links_after ticks ticks_after : List Asked) (hand : Option H)
+      → TicksQuietly shown moves opening events missed gave_first gave_last before_links ticks hand → ticks_after ≡ ticks → before_links_after ≡ before_links → TicksQuietly shown moves opening events missed gave_first gave_last before_links_after ticks_after hand
+  quiet_same opening events missed gave_first gave_last before_links before_links_after ticks ticks_after hand t same other =
+      subst (λ (x : List Asked × List Asked). TicksQuietly shown moves opening events missed gave_first gave_last x.0 x.1 hand) (λ i. (sym other i, sym same i)) t
 
-  -- More moments may pass.
-  pub quiet_later : (Passes Passes2 : ℕ → Type 0) (gave_first gave_last : Option (List ℕ)) (before_links ticks : List Asked) (hand : Option H) → ((m : ℕ) → Passes m → Passes2 m)
-      → TicksQuietly shown moves Passes gave_first gave_last before_links ticks hand → TicksQuietly shown moves Passes2 gave_first gave_last before_links ticks hand
-  quiet_later Passes Passes2 gave_first gave_last before_links ticks hand more t = record {
-    quiet = t.quiet;
-    merged = t.merged;
-    each = t.each;
+  -- More was seen.
+  pub quiet_later : (opening : SpaceHistory) (events events_after : Events) (missed : Bool) (gave_first gave_last : Option (List ℕ)) (before_links ticks : List Asked) (hand : Option H) → ((front : Events) → StartsWith events front → StartsWith events_after front)
+      → TicksQuietly shown moves opening events missed gave_first gave_last before_links ticks hand → TicksQuietly shown moves opening events_after missed gave_first gave_last before_links ticks hand
+  quiet_later opening events events_after missed gave_first gave_last before_links ticks hand begins t = record {
+    course = t.course;
+    links = t.links;
+    made = t.made;
+    each = behind_more (IsStep opening events missed) (IsStep opening events_after missed) [] t.course (step_on opening events events_after missed missed begins (λ is. is)) t.each;
     told = t.told;
-    passed_over = t.passed_over;
-    each_passes = each_more Passes Passes2 t.passed_over more t.each_passes;
-    looks = t.looks;
     gave = t.gave;
-    among = t.among;
+    cause = t.cause;
   }
-
-  -- A second passed in which there was no memory: any moment may pass then.
-  pub quiet_missed : (Passes Passes2 : ℕ → Type 0) (gave_first gave_last : Option (List ℕ)) (before_links ticks ticks_after : List Asked) (hand hand_after : Option H) → ((m : ℕ) → Passes2 m) → ticks_after ≡ ticks → hand_after ≡ hand
-      → TicksQuietly shown moves Passes gave_first gave_last before_links ticks hand → TicksQuietly shown moves Passes2 gave_first gave_last before_links ticks_after hand_after
-  quiet_missed Passes Passes2 gave_first gave_last before_links ticks ticks_after hand hand_after every same same_hand t =
-      let later = quiet_later Passes Passes2 gave_first gave_last before_links ticks hand (λ m was. every m) t in
-      subst (λ (x : List Asked × Option H). TicksQuietly shown moves Passes2 gave_first gave_last before_links x.0 x.1) (λ i. (sym same i, sym same_hand i)) later
-
-  -- The same of one look at the clock.
-  pub once_later : (Passes Passes2 : ℕ → Type 0) (gave_first gave_last : Option (List ℕ)) (ticks ticks_after : List Asked) (a b : H) → ((m : ℕ) → Passes m → Passes2 m)
-      → TicksOnce shown moves Passes gave_first gave_last ticks ticks_after a b → TicksOnce shown moves Passes2 gave_first gave_last ticks ticks_after a b
-  once_later Passes Passes2 gave_first gave_last ticks ticks_after a b more once = record {
-    entry = once.entry;
-    longer = once.longer;
-    is_tick = once.is_tick;
-    look = once.look;
-    gave = once.gave;
-    at_look = once.at_look;
-    passes = more_none once.entry once.passes;
-    seen = once.seen;
-    state = once.state;
-    same_calls = once.same_calls;
-    same_number = once.same_number;
-  }
-    where
-      more_none : (entry : Option Asked) → IfNone entry (Passes once.look) → IfNone entry (Passes2 once.look)
-      more_none None is = more once.look is
-      more_none (Some e) is = tt
 
   -- The lock was closed, and the same is known by other names.
   pub quiet_closed : (opening : SpaceHistory) (seen events : Events) (missed missed_after : Bool) (gave_first gave_last : Option (List ℕ)) (before_links ticks ticks_after : List Asked) (hand hand_after : Option H)
       → StartsWith events seen → missed_after ≡ missed → ticks_after ≡ ticks → hand_after ≡ hand
-      → TicksQuietly shown moves (MayPass opening seen missed) gave_first gave_last before_links ticks hand → TicksQuietly shown moves (MayPass opening events missed_after) gave_first gave_last before_links ticks_after hand_after
+      → TicksQuietly shown moves opening seen missed gave_first gave_last before_links ticks hand → TicksQuietly shown moves opening events missed_after gave_first gave_last before_links ticks_after hand_after
   quiet_closed opening seen events missed missed_after gave_first gave_last before_links ticks ticks_after hand hand_after more same_missed same same_hand t =
-      let later = quiet_later (MayPass opening seen missed) (MayPass opening events missed_after) gave_first gave_last before_links ticks hand
-      (passes_on opening seen events missed missed_after (λ front begins. starts_on events seen front more begins) (λ is. same_missed ∙ is)) t in
-      subst (λ (x : List Asked × Option H). TicksQuietly shown moves (MayPass opening events missed_after) gave_first gave_last before_links x.0 x.1) (λ i. (sym same i, sym same_hand i)) later
+      let later = quiet_later opening seen events missed gave_first gave_last before_links ticks hand (λ front begins. starts_on events seen front more begins) t in
+      subst (λ (x : List Asked × Option H × Bool). TicksQuietly shown moves opening events x.2 gave_first gave_last before_links x.0 x.1) (λ i. (sym same i, sym same_hand i, sym same_missed i)) later
 
-  -- A Tick was made in a quiet second, or none.
-  pub quiet_on : (Passes : ℕ → Type 0) (gave_first gave_last gave_then : Option (List ℕ)) (before_links ticks ticks_after : List Asked) (own : Option H) (a b : H) → TicksQuietly shown moves Passes gave_first gave_last before_links ticks own
-      → ((entries : List Asked) → HaveTold shown moves entries own → HasTold shown moves entries a)
-      → TicksOnce shown moves Passes gave_last gave_then ticks ticks_after a b → TicksQuietly shown moves Passes gave_first gave_then before_links ticks_after (Some b)
-  quiet_on Passes gave_first gave_last gave_then before_links ticks ticks_after own a b t has once = more once.entry refl
-    where
-      looks_after : List ℕ
-      looks_after = t.looks ++ once.look ∷ []
-
-      gave_after : Gave gave_first gave_then looks_after
-      gave_after = Gave-append gave_first gave_last gave_then t.looks (once.look ∷ []) t.gave once.gave
-
-      told_after : HasTold shown moves (t.quiet ++ option_to_list once.entry) b
-      told_after = told_on t.quiet (option_to_list once.entry) a b (has t.quiet t.told) once.seen once.state once.same_calls once.same_number
-
-      more : (entry : Option Asked) → once.entry ≡ entry → TicksQuietly shown moves Passes gave_first gave_then before_links ticks_after (Some b)
-      more None is = record {
-        quiet = t.quiet;
-        merged = subst (λ (l : List Asked). Merges before_links t.quiet l) (sym (once.longer ∙ (ap (λ e. ticks ++ option_to_list e) is ∙ append-nil ticks))) t.merged;
-        each = t.each;
-        told = subst (λ (l : List Asked). HasTold shown moves l b) (ap (λ e. t.quiet ++ option_to_list e) is ∙ append-nil t.quiet) told_after;
-        passed_over = t.passed_over ++ once.look ∷ [];
-        each_passes = each_on Passes t.passed_over once.look t.each_passes (subst (λ (o : Option Asked). IfNone o (Passes once.look)) is once.passes);
-        looks = looks_after;
-        gave = gave_after;
-        among = merges_second (moments_of t.quiet) t.passed_over t.looks once.look t.among;
+  -- A look passed without a Tick.
+  passed : (opening : SpaceHistory) (events events_after : Events) (missed missed_after : Bool) (gave_first gave_last gave_then : Option (List ℕ)) (look : ℕ) (before_links ticks ticks_after : List Asked) (own own_after : Option H)
+      → ((front : Events) → StartsWith events front → StartsWith events_after front) → (missed ≡ true → missed_after ≡ true) → MayPass opening events_after missed_after ticks look → Gave gave_last gave_then (look ∷ []) → ticks_after ≡ ticks
+      → ((entries : List Asked) → HaveTold shown moves entries own → HaveTold shown moves entries own_after)
+      → TicksQuietly shown moves opening events missed gave_first gave_last before_links ticks own → TicksQuietly shown moves opening events_after missed_after gave_first gave_then before_links ticks_after own_after
+  passed opening events events_after missed missed_after gave_first gave_last gave_then look before_links ticks ticks_after own own_after begins still may gave same has t =
+      let step = without_tick look in
+      let each = behind_more (IsStep opening events missed) (IsStep opening events_after missed_after) [] t.course (step_on opening events events_after missed missed_after begins still) t.each in
+      let longer = flat_map-append passed_moment t.course (step ∷ []) in
+      let count : length (flat_map passed_moment (t.course ++ step ∷ [])) ≡ length (flat_map passed_moment t.course) + 1 = ap length longer ∙ length-append (flat_map passed_moment t.course) (look ∷ []) in
+      record {
+        course = t.course ++ step ∷ [];
+        links = flat_map-append link_entry t.course (step ∷ []) ∙ (append-nil (flat_map link_entry t.course) ∙ t.links);
+        made = flat_map-append step_entry t.course (step ∷ []) ∙ (append-nil (flat_map step_entry t.course) ∙ (t.made ∙ sym same));
+        each = behind_on (IsStep opening events_after missed_after) [] t.course step each (subst (λ (l : List Asked). MayPass opening events_after missed_after l look) (sym t.made) may);
+        told = has _ (subst (λ (l : List Asked). HaveTold shown moves l own) (sym (flat_map-append look_entry t.course (step ∷ []) ∙ append-nil (flat_map look_entry t.course))) t.told);
+        gave = subst (λ (l : List ℕ). Gave gave_first gave_then l) (sym (flat_map-append look_moment t.course (step ∷ []))) (Gave-append gave_first gave_last gave_then (flat_map look_moment t.course) (look ∷ []) t.gave gave);
+        cause = λ is. omega (arith, count);
       }
+
+  -- A second passed in which there was no memory: any moment may pass then.
+  pub quiet_missed : (opening : SpaceHistory) (events events_after : Events) (missed missed_after : Bool) (gave_first gave_last gave_then : Option (List ℕ)) (look : ℕ) (before_links ticks ticks_after : List Asked) (hand hand_after : Option H)
+      → ((front : Events) → StartsWith events front → StartsWith events_after front) → missed_after ≡ true → Gave gave_last gave_then (look ∷ []) → ticks_after ≡ ticks → hand_after ≡ hand
+      → TicksQuietly shown moves opening events missed gave_first gave_last before_links ticks hand → TicksQuietly shown moves opening events_after missed_after gave_first gave_then before_links ticks_after hand_after
+  quiet_missed opening events events_after missed missed_after gave_first gave_last gave_then look before_links ticks ticks_after hand hand_after begins is gave same same_hand t =
+      passed opening events events_after missed missed_after gave_first gave_last gave_then look before_links ticks ticks_after hand hand_after begins (λ was. is) (inl is) gave same
+      (λ entries told. subst (λ (o : Option H). HaveTold shown moves entries o) (sym same_hand) told) t
+
+  -- A Tick was made at a look, or none.
+  pub quiet_on : (opening : SpaceHistory) (events events_after : Events) (missed missed_now missed_after : Bool) (gave_first gave_last gave_then : Option (List ℕ)) (before_links ticks ticks_after : List Asked) (own : Option H) (a b : H)
+      → ((front : Events) → StartsWith events front → StartsWith events_after front) → (missed ≡ true → missed_after ≡ true) → (missed_now ≡ true → missed_after ≡ true) → (missed_after ≡ true → (missed ≡ true) ⊎ (missed_now ≡ true))
+      → TicksQuietly shown moves opening events missed gave_first gave_last before_links ticks own
+      → ((entries : List Asked) → HaveTold shown moves entries own → HasTold shown moves entries a)
+      → TicksOnce shown moves opening events_after missed_now gave_last gave_then ticks ticks_after a b → TicksQuietly shown moves opening events_after missed_after gave_first gave_then before_links ticks_after (Some b)
+  quiet_on opening events events_after missed missed_now missed_after gave_first gave_last gave_then before_links ticks ticks_after own a b begins still still_now either t has once = more once.entry refl
+    where
+      told_more : (entries : List Asked) → HaveTold shown moves entries own → HasTold shown moves (entries ++ option_to_list once.entry) b
+      told_more entries told = told_on entries (option_to_list once.entry) a b (has entries told) once.seen once.state once.same_calls once.same_number
+
+      more : (entry : Option Asked) → once.entry ≡ entry → TicksQuietly shown moves opening events_after missed_after gave_first gave_then before_links ticks_after (Some b)
+      more None is =
+          let may = subst (λ (o : Option Asked). IfNone o (MayPass opening events_after missed_now ticks once.look)) is once.passes in
+          passed opening events events_after missed missed_after gave_first gave_last gave_then once.look before_links ticks ticks_after own (Some b) begins still
+          (passes_on opening events_after events_after missed_now missed_after ticks once.look (λ front was. was) still_now may) once.gave (once.longer ∙ (ap (λ e. ticks ++ option_to_list e) is ∙ append-nil ticks))
+          (λ entries told. subst (λ (l : List Asked). HasTold shown moves l b) (ap (λ e. entries ++ option_to_list e) is ∙ append-nil entries) (told_more entries told)) t
       more (Some e) is =
+          let step = quiet_tick e in
           let tick : IsTick e = subst (λ (o : Option Asked). IfSome o IsTick) is once.is_tick in
           let at_look : e.moment ≡ once.look = subst (λ (o : Option Asked). IfSome o (λ x. x.moment ≡ once.look)) is once.at_look in
+          let due : WasDue opening events_after ticks e.moment = subst (λ (o : Option Asked). IfSome o (λ x. WasDue opening events_after ticks x.moment)) is once.due in
+          let each = behind_more (IsStep opening events missed) (IsStep opening events_after missed_after) [] t.course (step_on opening events events_after missed missed_after begins still) t.each in
+          let here = subst (λ (l : List Asked). WasDue opening events_after l e.moment) (sym t.made) due in
+          let caused : missed_after ≡ true → 0 < length (flat_map passed_moment t.course) = λ after. by (either after) in
           record {
-            quiet = t.quiet ++ e ∷ [];
-            merged = subst (λ (l : List Asked). Merges before_links (t.quiet ++ e ∷ []) l) (sym (once.longer ∙ ap (λ o. ticks ++ option_to_list o) is)) (merges_second before_links t.quiet ticks e t.merged);
-            each = each_on IsTick t.quiet e t.each tick;
-            told = subst (λ (l : List Asked). HasTold shown moves l b) (ap (λ o. t.quiet ++ option_to_list o) is) told_after;
-            passed_over = t.passed_over;
-            each_passes = t.each_passes;
-            looks = looks_after;
-            gave = gave_after;
-            among = subst (λ (l : List ℕ). Merges l t.passed_over looks_after) (ap (λ m. moments_of t.quiet ++ m ∷ []) (sym at_look) ∙ sym (map-append (λ (x : Asked). x.moment) t.quiet (e ∷ [])))
-                (merges_first (moments_of t.quiet) t.passed_over t.looks once.look t.among);
+            course = t.course ++ step ∷ [];
+            links = flat_map-append link_entry t.course (step ∷ []) ∙ (append-nil (flat_map link_entry t.course) ∙ t.links);
+            made = flat_map-append step_entry t.course (step ∷ []) ∙ (ap (λ l. l ++ e ∷ []) t.made ∙ sym (once.longer ∙ ap (λ o. ticks ++ option_to_list o) is));
+            each = behind_on (IsStep opening events_after missed_after) [] t.course step each (tick, here);
+            told = subst (λ (l : List Asked). HasTold shown moves l b) (ap (λ o. flat_map look_entry t.course ++ option_to_list o) is ∙ sym (flat_map-append look_entry t.course (step ∷ []))) (told_more (flat_map look_entry t.course) t.told);
+            gave = subst (λ (l : List ℕ). Gave gave_first gave_then l) (ap (λ m. flat_map look_moment t.course ++ m ∷ []) (sym at_look) ∙ sym (flat_map-append look_moment t.course (step ∷ [])))
+                (Gave-append gave_first gave_last gave_then (flat_map look_moment t.course) (once.look ∷ []) t.gave once.gave);
+            cause = λ after. subst (λ (l : List ℕ). 0 < length l) (sym (flat_map-append passed_moment t.course (step ∷ []) ∙ append-nil (flat_map passed_moment t.course))) (caused after);
           }
+        where
+          by : (missed ≡ true) ⊎ (missed_now ≡ true) → 0 < length (flat_map passed_moment t.course)
+          by (inl was) = t.cause was
+          by (inr late) = absurd (none_some e (sym is ∙ once.cause late))

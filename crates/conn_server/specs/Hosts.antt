@@ -18,7 +18,7 @@ use Rattle.conn_server.specs.Accepts.{IsAccepting, shown_all, links_of, ticks_of
 use Rattle.conn_server.specs.Taken.{Taken}
 use Rattle.conn_server.specs.Handed.{AreHanded}
 use Rattle.conn_server.specs.Made.{IsMadeFor}
-use Rattle.conn_server.specs.Quiet.{MayPass, TicksQuietly}
+use Rattle.conn_server.specs.Quiet.{TicksQuietly}
 use Rattle.conn_server.specs.Reports.{AreTurnsOf, IsAllJoined, IsReportOf, events_after}
 use Rattle.conn_server.specs.Rows.{Paired}
 use Rattle.conn_server.specs.Stops.{HostStopped, AreGivenBack, IsLostLink}
@@ -41,11 +41,18 @@ pub record IsHosting {I O T H C : Type 0} (read_half : I → ReadHalf) (write_ha
   pub is : IsAccepting (TalksOver read_half write_half given shown may moves kinds) (IsMadeFor read_half write_half given shown moves plan) shown taken expects lock kinds a
   pub hosts : a.keeps ≡ false
   pub few : a.begun ≤ plan.count
-  pub quiet : TicksQuietly shown moves (MayPass (opening_of lock) (view_of a.root.pass).seen own.missed) gave_first gave_last (ticks_of (shown_all read_half write_half given a.all)) (taken a.taker).ticks own.hand
+  pub quiet : TicksQuietly shown moves (opening_of lock) (view_of a.root.pass).seen own.missed gave_first gave_last (ticks_of (shown_all read_half write_half given a.all)) (taken a.taker).ticks own.hand
   pub links : l1.accepted ≡ with_all l0.accepted (links_of (shown_all read_half write_half given a.all))
   pub faults : l0.faults ≤ l1.faults
   pub same_told : l1.told ≡ l0.told
   pub same_ports : l1.ports ≡ l0.ports
+
+-- A listener gave no link between two moments, and wasn't told to stop. It may have failed.
+pub record IsLike (l1 l2 : Listening) : Type 0 where
+  pub accepted : l2.accepted ≡ l1.accepted
+  pub faults : l1.faults ≤ l2.faults
+  pub same_told : l2.told ≡ l1.told
+  pub same_ports : l2.ports ≡ l1.ports
 
 -- No more links are accepted.
 pub record IsHalted {I O T H C : Type 0} (read_half : I → ReadHalf) (write_half : O → WriteHalf) (given : T → Option (List ℕ)) (shown : H → WorkerState) (may : Invocation → Outcome → Type 0) (moves : States → Call → States → Type 0)
@@ -53,7 +60,7 @@ pub record IsHalted {I O T H C : Type 0} (read_half : I → ReadHalf) (write_hal
     (a : Acceptor I O T H C) (own : OwnHand H) (halt : Halt I O T) : Type 0 where
   pub is : IsAccepting (TalksOver read_half write_half given shown may moves kinds) (IsMadeFor read_half write_half given shown moves plan) shown taken expects lock kinds a
   pub hosts : a.keeps ≡ false
-  pub quiet : TicksQuietly shown moves (MayPass (opening_of lock) (view_of a.root.pass).seen own.missed) gave_first gave_last (ticks_of (shown_all read_half write_half given a.all)) (taken a.taker).ticks own.hand
+  pub quiet : TicksQuietly shown moves (opening_of lock) (view_of a.root.pass).seen own.missed gave_first gave_last (ticks_of (shown_all read_half write_half given a.all)) (taken a.taker).ticks own.hand
   pub missed : List Accepted
   pub links : l1.accepted ≡ with_all l0.accepted (links_of (shown_all read_half write_half given a.all) ++ missed)
   pub stopped : HostStopped halt.stop l1.told plan.count a.begun missed
@@ -81,7 +88,7 @@ pub record IsHosted {I O T H C : Type 0} (IsLink : ℕ → Accepted × Asked →
   pub missed : List Accepted
   pub joined : IsAllJoined IsLink lock served o.root links (taken o.taker).ticks
   pub handed_on : AreHanded lock (view_of o.root.pass) (taken o.taker).events o.handed
-  pub quiet : TicksQuietly shown moves (MayPass (opening_of lock) (view_of o.root.pass).seen o.own.missed) gave_first gave_last (ticks_of served) (taken o.taker).ticks o.own.hand
+  pub quiet : TicksQuietly shown moves (opening_of lock) (view_of o.root.pass).seen o.own.missed gave_first gave_last (ticks_of served) (taken o.taker).ticks o.own.hand
   pub reports : IsPermutation links (taken o.taker).reports
   pub told_links : after.accepted ≡ with_all before.accepted (links_of served ++ missed)
   pub stopped : HostStopped o.stop after.told count (length links) missed
@@ -91,8 +98,8 @@ pub record IsHosted {I O T H C : Type 0} (IsLink : ℕ → Accepted × Asked →
 -- Links were served over a space that was opened so, until the listener was told to stop, or for another cause. The one history that is left is legal
 -- and goes on from the opening, and its rows are what the collector of the space made of none at each of its events. Each link that was accepted has
 -- its Tick and its report, which the taker was given once, but the one, if any, for which there was no memory, which is given back.
--- The server's own turns are those Ticks and the Ticks of quiet seconds, and there are no turns but these and the links'. A moment of a quiet second had
--- no Tick only where nothing had ended then, or where the server says that it missed a Tick. The events that the taker was given are the
+-- The server's own turns are those Ticks and the Ticks at looks at a clock, and there are no turns but these and the links'. A look had a Tick only where
+-- something had ended, and none only where nothing had ended then, or where the server says that it missed a Tick. The events that the taker was given are the
 -- first after the opening's, in their order, and all of them where the server says so.
 pub record HostsLinks {I O T H C : Type 0} (IsLink : ℕ → Accepted × Asked → LinkReport I O T H → Type 0) (IsLost : Accepted → LostLink I O T → Type 0) (shown : H → WorkerState) (moves : States → Call → States → Type 0)
     (taken : C → Taken (LinkReport I O T H)) (opening : SpaceHistory) (count : ℕ) (before after : Listening) (gave_first gave_last : Option (List ℕ)) (h : Hosted I O T C H) : Type 0 where
@@ -107,7 +114,7 @@ pub record HostsLinks {I O T H C : Type 0} (IsLink : ℕ → Accepted × Asked �
   pub reported : Paired (IsReportOf IsLink opening h.space) 1 served links
   pub reports : IsPermutation links (taken h.taker).reports
   pub ticks : AreTurnsOf opening 0 (taken h.taker).ticks h.space
-  pub quiet : TicksQuietly shown moves (MayPass opening h.space.events h.tick_missed) gave_first gave_last (ticks_of served) (taken h.taker).ticks h.hand
+  pub quiet : TicksQuietly shown moves opening h.space.events h.tick_missed gave_first gave_last (ticks_of served) (taken h.taker).ticks h.hand
   pub others : (n : ℕ) → length links < n → events_after opening n h.space ≡ []
   pub stopped : HostStopped h.stop after.told count (length links) missed
   pub back : AreGivenBack IsLost missed h.lost

@@ -1,28 +1,22 @@
 -- Ticks that a server makes in seconds without a link.
-use Rattle.std.specs.Prelude.{◌≡◌, ◌⊎◌, ℕ, Bool, true, List, [], ◌∷◌, ◌++◌, map, Option, Some, None, IfSome, IfNone, option_to_list}
-use Rattle.std.specs.List.{AllByRecursion, flat_map}
+use Rattle.std.specs.Prelude.{◌≡◌, ◌⊎◌, ◌<◌, ℕ, Bool, true, List, [], ◌∷◌, ◌++◌, length, Option, Some, None, IfSome, IfNone, option_to_list}
+use Rattle.std.specs.List.{flat_map}
 use Rattle.wire_io.specs.Wire.{Gave}
 use Rattle.history.specs.declared.asks.Ask.TheVariants.{Tick}
 use Rattle.space.specs.Built.{SpaceHistory}
-use Rattle.space.specs.Idle.{TickChangesNothing, untold_of}
+use Rattle.space.specs.Idle.{SomethingEnds, TickChangesNothing, untold_of}
 use Rattle.space.specs.declared.asked.Asked.{Asked}
 use Rattle.call_dispatch.specs.Acts.{WorkerState, Call, States, TellsMore, LeadsStates}
 use Rattle.call_dispatch.specs.Hands.{IsUntold, IsUncounted}
-use Rattle.turn_lock.specs.Rule.{Events, StartsWith}
+use Rattle.turn_lock.specs.Answers.{events_of}
+use Rattle.turn_lock.specs.NoTick.{NeedsTick}
+use Rattle.turn_lock.specs.Rule.{Events, HasOwn, SeesMore, StartsWith}
+use Rattle.turn_lock.specs.declared.view.View.{View}
 use Rattle.conn_server.specs.Made.{IsTickEnd, told_of}
-
--- The third list has the elements of the first two and no others, those of each in their order.
-abbrev pub Merges : {A : Type 0} → List A → List A → List A → Type 0
-Merges xs ys [] = (xs ≡ []) × (ys ≡ [])
-Merges {A = A} xs ys (z ∷ zs) = ((more : List A) × (xs ≡ z ∷ more) × Merges more ys zs) ⊎ ((more : List A) × (ys ≡ z ∷ more) × Merges xs more zs)
 
 -- The entry is that of a Tick that was made: it was taken, or refused since the history is full.
 abbrev pub IsTick : Asked → Type 0
 IsTick entry = (entry.ask ≡ Tick) × IsTickEnd entry.end
-
--- The moments of entries.
-abbrev pub moments_of : List Asked → List ℕ
-moments_of entries = map (λ entry. entry.moment) entries
 
 -- The hand has number 0 and was given no invocation. It was told nothing before and had no numbers, and was then told what these entries withdrew,
 -- each object once, and nothing else.
@@ -41,39 +35,106 @@ abbrev pub HaveTold : {H : Type 0} → (H → WorkerState) → (States → Call 
 HaveTold shown moves entries None = entries ≡ []
 HaveTold shown moves entries (Some hand) = HasTold shown moves entries hand
 
--- Nothing had ended at the moment: by a history that goes on from the opening and begins this one, a Tick then changes nothing and tells nothing as gone.
-abbrev pub WasIdle : SpaceHistory → Events → ℕ → Type 0
-WasIdle opening events moment = (seen : Events) × StartsWith events seen × StartsWith seen opening.events
+-- ---- the course of a server's own turns
+
+-- A Tick before a link; a Tick at a look at the clock; or a look at this moment without a Tick.
+pub data Step : Type 0 where
+  link_tick : Asked → Step
+  quiet_tick : Asked → Step
+  without_tick : ℕ → Step
+
+-- The entry of a step before a link.
+abbrev pub link_entry : Step → List Asked
+link_entry (link_tick entry) = entry ∷ []
+link_entry (quiet_tick entry) = []
+link_entry (without_tick moment) = []
+
+-- The entry of a step at a look.
+abbrev pub look_entry : Step → List Asked
+look_entry (link_tick entry) = []
+look_entry (quiet_tick entry) = entry ∷ []
+look_entry (without_tick moment) = []
+
+-- The entry of a step, of either kind.
+abbrev pub step_entry : Step → List Asked
+step_entry (link_tick entry) = entry ∷ []
+step_entry (quiet_tick entry) = entry ∷ []
+step_entry (without_tick moment) = []
+
+-- The moment of a look.
+abbrev pub look_moment : Step → List ℕ
+look_moment (link_tick entry) = []
+look_moment (quiet_tick entry) = entry.moment ∷ []
+look_moment (without_tick moment) = moment ∷ []
+
+-- The moment of a look without a Tick.
+abbrev pub passed_moment : Step → List ℕ
+passed_moment (link_tick entry) = []
+passed_moment (quiet_tick entry) = []
+passed_moment (without_tick moment) = moment ∷ []
+
+-- What holds of each step, and of the entries of the server's own turns before it, the first of which are these.
+abbrev pub EachBehind : (List Asked → Step → Type 0) → List Asked → List Step → Type 0
+EachBehind P made [] = Unit {0}
+EachBehind P made (step ∷ more) = P made step × EachBehind P (made ++ step_entry step) more
+
+-- The history begins the later one and goes on from the opening. Of the server's own turns it has just those with these entries.
+pub record WasSeen (opening : SpaceHistory) (events : Events) (made : List Asked) (seen : Events) : Type 0 where
+  pub begins : StartsWith events seen
+  pub own : HasOwn opening.events 0 (events_of 0 made) seen
+
+-- Nothing had ended at the moment: by a history that had just these turns of the server, a Tick then changes nothing and tells nothing as gone.
+abbrev pub WasIdle : SpaceHistory → Events → List Asked → ℕ → Type 0
+WasIdle opening events made moment = (seen : Events) × WasSeen opening events made seen
     × TickChangesNothing opening.configuration seen moment × (untold_of opening.configuration seen ≡ [])
 
+-- Something had ended at the moment: by a history that had just these turns of the server, a lease or a wait has ended, or objects are still to be told as gone.
+abbrev pub WasDue : SpaceHistory → Events → List Asked → ℕ → Type 0
+WasDue opening events made moment = (seen : Events) × WasSeen opening events made seen
+    × (SomethingEnds opening.configuration seen moment ⊎ (0 < length (untold_of opening.configuration seen)))
+
 -- A moment at which no Tick was made: nothing had ended then, unless the server says that it missed Ticks for want of memory.
-abbrev pub MayPass : SpaceHistory → Events → Bool → ℕ → Type 0
-MayPass opening events missed moment = (missed ≡ true) ⊎ WasIdle opening events moment
+abbrev pub MayPass : SpaceHistory → Events → Bool → List Asked → ℕ → Type 0
+MayPass opening events missed made moment = (missed ≡ true) ⊎ WasIdle opening events made moment
 
--- A server's own turns have these entries: those of the Ticks before its links, and those of its quiet seconds, each in their order. The latter are
--- Ticks at moments of the clock that gave these moments. The clock gave others, too, at which no Tick was made, and each of them may pass.
--- The server's own hand, if it has one, was told what the Ticks withdrew.
-pub record TicksQuietly {H : Type 0} (shown : H → WorkerState) (moves : States → Call → States → Type 0) (Passes : ℕ → Type 0) (gave_first gave_last : Option (List ℕ)) (before_links ticks : List Asked) (hand : Option H) : Type 0 where
-  pub quiet : List Asked
-  pub merged : Merges before_links quiet ticks
-  pub each : AllByRecursion IsTick quiet
-  pub told : HaveTold shown moves quiet hand
-  pub passed_over : List ℕ
-  pub each_passes : AllByRecursion Passes passed_over
-  pub looks : List ℕ
-  pub gave : Gave gave_first gave_last looks
-  pub among : Merges (moments_of quiet) passed_over looks
+-- A Tick at a look was made where something had ended. A look without a Tick may pass.
+abbrev pub IsStep : SpaceHistory → Events → Bool → List Asked → Step → Type 0
+IsStep opening events missed made (link_tick entry) = Unit {0}
+IsStep opening events missed made (quiet_tick entry) = IsTick entry × WasDue opening events made entry.moment
+IsStep opening events missed made (without_tick moment) = MayPass opening events missed made moment
 
--- One Tick was made at a moment of the clock, as connection 0, and the hand was told what it withdrew. Or none was made, and the moment may pass.
-pub record TicksOnce {H : Type 0} (shown : H → WorkerState) (moves : States → Call → States → Type 0) (Passes : ℕ → Type 0) (gave_first gave_last : Option (List ℕ)) (ticks ticks_after : List Asked) (hand hand_after : H) : Type 0 where
+-- A server's own turns have these entries, in their order: those of the Ticks before its links, and those of its looks at a clock. The latter are Ticks at moments
+-- of the clock at which something had ended. At the other moments that the clock gave no Tick was made, and each of them may pass. If the server says that it
+-- missed a Tick, then there is such a moment. The server's own hand, if it has one, was told what the Ticks at looks withdrew.
+pub record TicksQuietly {H : Type 0} (shown : H → WorkerState) (moves : States → Call → States → Type 0) (opening : SpaceHistory) (events : Events) (missed : Bool) (gave_first gave_last : Option (List ℕ)) (before_links ticks : List Asked) (hand : Option H) : Type 0 where
+  pub course : List Step
+  pub links : flat_map link_entry course ≡ before_links
+  pub made : flat_map step_entry course ≡ ticks
+  pub each : EachBehind (IsStep opening events missed) [] course
+  pub told : HaveTold shown moves (flat_map look_entry course) hand
+  pub gave : Gave gave_first gave_last (flat_map look_moment course)
+  pub cause : missed ≡ true → 0 < length (flat_map passed_moment course)
+
+-- The clock was looked at once. One Tick was made at that moment, as connection 0, where something had ended, and the hand was told what it withdrew. Or none was
+-- made, and the moment may pass. Only then a Tick was missed.
+pub record TicksOnce {H : Type 0} (shown : H → WorkerState) (moves : States → Call → States → Type 0) (opening : SpaceHistory) (events : Events) (missed : Bool) (gave_first gave_last : Option (List ℕ)) (ticks ticks_after : List Asked) (hand hand_after : H) : Type 0 where
   pub entry : Option Asked
   pub longer : ticks_after ≡ ticks ++ option_to_list entry
   pub is_tick : IfSome entry IsTick
   pub look : ℕ
   pub gave : Gave gave_first gave_last (look ∷ [])
   pub at_look : IfSome entry (λ e. e.moment ≡ look)
-  pub passes : IfNone entry (Passes look)
+  pub due : IfSome entry (λ e. WasDue opening events ticks e.moment)
+  pub passes : IfNone entry (MayPass opening events missed ticks look)
+  pub cause : missed ≡ true → entry ≡ None
   pub seen : TellsMore (shown hand).seen (flat_map told_of (option_to_list entry)) (shown hand_after).seen
   pub state : LeadsStates moves (shown hand).state (flat_map told_of (option_to_list entry)) (shown hand_after).state
   pub same_calls : (shown hand_after).calls ≡ (shown hand).calls
   pub same_number : (shown hand_after).number ≡ (shown hand).number
+
+-- A root that knew v needed a Tick at this moment, by a history that it had seen then. It knows w now.
+pub record NeededThen (v : View) (moment : ℕ) (w : View) : Type 0 where
+  pub between : View
+  pub sees : SeesMore v between
+  pub needs : NeedsTick between moment
+  pub later : StartsWith w.seen between.seen

@@ -319,8 +319,8 @@ impl<
     H: Worker + Drop,
     C: ReportTaker<LinkReport<I, O, T, H>>,
 > Acceptor<I, O, T, H, C> {
-    /// Takes room for one more link, and makes what its connection begins with. None where there was no memory.
-    fn reserve_link<'s, R, G: Crew<Hand = H>>(
+    /// Takes room for one more link and for its number once it ends, and makes what its connection begins with. None where there was no memory.
+    fn reserve_link<'s, R: Wait, G: Crew<Hand = H>>(
         &mut self,
         shared: &Shared<'s, R>,
         crew: &G,
@@ -334,6 +334,9 @@ impl<
         ensures ready { IfSome result (λ r. IsHandFor H.shown shared.now.plan.now (self.old.begun + 1) link.now.host link.now.port r) }
     {
         if !self.with_room() {
+            return None;
+        }
+        if !shared.ended.reserve(shared.rt, self.live.len()) {
             return None;
         }
         let by = self.begun + 1;

@@ -80,7 +80,13 @@ fn close_lock(lock: TurnLock, root: Root, handed: Option<u64>) -> (Space, Option
         (λ from. IfSome result.1 (λ part. IsRest from result.0.events part)) }
 {
     match handed {
-        Some(from) => lock.close_recording(root, from),
+        Some(from) => {
+            let (space, rest) = lock.close_recording(root, from);
+            match rest {
+                Ok(part) => (space, Some(part)),
+                Err(_fault) => (space, None),
+            }
+        }
         None => (lock.close(root), None),
     }
 }
@@ -142,11 +148,11 @@ impl<
             return;
         };
         match self.root.take_recent(shared.rt, shared.lock, from) {
-            Some(part) => {
+            Ok(part) => {
                 record_parts(&mut self.taker, part.as_slice());
                 self.handed = place_behind(from, part.len());
             }
-            None => (),
+            Err(_fault) => (),
         }
     }
 
@@ -173,7 +179,8 @@ impl<
         self.join_all(shared);
     }
 
-    /// Waits until no link is live, `MAX_WAITS` times at most, and hands on what there is each time.
+    /// Waits until all links that were begun have ended, `MAX_WAITS` times at most, and hands on what there is each time. It pauses only where no thread
+    /// was joined.
     fn wait_for_ends<'s, R: Threads + Wait>(&mut self, shared: &Shared<'s, R>)
         requires accepting { IsAccepting
             (TalksOver I.half O.half T.given H.shown H.may H.moves shared.now.book.now)
@@ -191,12 +198,15 @@ impl<
         ensures begun { self.new.begun ≡ self.old.begun }
     {
         for _ in 0..MAX_WAITS {
-            if self.live.is_empty() {
+            let seen = shared.ended.count();
+            if seen >= u64::from(self.begun) {
                 return;
             }
-            let seen = shared.ended.count();
+            let live = self.live.len();
             self.catch_up(shared);
-            shared.ended.pause(shared.rt, seen);
+            if self.live.len() == live {
+                shared.ended.pause(shared.rt, seen);
+            }
         }
     }
 

@@ -7,7 +7,7 @@ ghost use Rattle.wire_io.specs.declared.limits.TheConstants.{MAX_HOST_BYTES};
 ghost use Rattle.wire_io.specs.declared.source.Failed.{Failed};
 ghost use Rattle.conn_server.specs.Accepts.{IsAccepting};
 ghost use Rattle.conn_server.specs.Taken.{Keeps};
-ghost use Rattle.conn_server.specs.Hosts.{GoesOn, IsHalted, IsHosting};
+ghost use Rattle.conn_server.specs.Hosts.{GoesOn, IsHalted, IsHosting, IsLike};
 ghost use Rattle.conn_server.specs.Made.{IsMadeFor};
 ghost use Rattle.conn_server.specs.Talks.{TalksOver};
 ghost use Rattle.conn_server.specs.declared.plan.TheConstants.{LAST_NUMBER};
@@ -24,11 +24,17 @@ use std::sync::Wait;
 use std::thread::{Scope, Threads};
 use wire_io::{Clock, Link, Listener, Sink, Source, Waited};
 
-/// The most links that are live when another is accepted.
-const MAX_LIVE: usize = 8_192;
+/// The most links of a host that are live at once, where its beginning names no smaller number.
+pub const MAX_LIVE: usize = 8_192;
 
-/// The most times that a failing listener is asked again, after a pause each, while no link is live.
-const MAX_IDLE_TRIES: u32 = 4;
+/// The most times that a failing listener is asked again while no link is live. With a pause of 50 milliseconds each that takes three seconds.
+const MAX_IDLE_TRIES: u32 = 60;
+
+/// The most short rounds, of 10 milliseconds each, before the listener is asked to wait again.
+const SHORT_ROUNDS: u32 = 100;
+
+/// The least number of events of a short round after which another one follows.
+const MANY_EVENTS: u64 = 80;
 
 /// Why a host accepts no more links, and the link for which there was no memory, if that is why.
 #[derive(Drop)]
@@ -45,6 +51,27 @@ pub struct HostLoop<I: Source, O: Sink, T: Clock, H: Worker, C> {
     pub own: OwnHand<H>,
     /// The number of times that the listener failed without a live link since it last answered.
     pub idle_tries: u32,
+    /// The most links that are live at once.
+    pub most_live: usize,
+    /// The number of short rounds to come, in which events are handed on and the listener isn't asked to wait.
+    pub short_rounds: u32,
+}
+
+/// Returns the number of events between two places.
+fn events_between(from: Option<u64>, to: Option<u64>) -> u64 {
+    match (from, to) {
+        (Some(from), Some(to)) => to.saturating_sub(from),
+        _ => 0,
+    }
+}
+
+/// Returns how many short rounds come next, where so many were to come, the lock was crowded or not, and so many events were handed on. They begin
+/// where the lock is crowded, and end where few events come.
+fn rounds_after(rounds: u32, crowded: bool, events: u64) -> u32 {
+    if rounds == 0 {
+        return if crowded { SHORT_ROUNDS } else { 0 };
+    }
+    if events < MANY_EVENTS { 0 } else { rounds - 1 }
 }
 
 /// Returns the most links that are served.
@@ -52,6 +79,15 @@ fn count_of(plan: &ServePlan) -> u32
     ensures { result ≡ plan.now.count }
 {
     plan.count
+}
+
+/// Waits for a link to end: 10 milliseconds at most in a short round, or 50.
+fn pause_for<'s, R: Wait>(shared: &Shared<'s, R>, seen: u64, short: bool) {
+    if short {
+        shared.ended.pause_briefly(shared.rt, seen);
+    } else {
+        shared.ended.pause(shared.rt, seen);
+    }
 }
 
 impl<
@@ -105,7 +141,9 @@ impl<
             l0 l2 gave_first (Q.given ticks.new) self.new.acceptor self.new.own result }
     {
         self.idle_tries = 0;
+        let crowded = shared.lock.is_crowded();
         self.acceptor.catch_up(shared);
+        self.short_rounds = rounds_after(0, crowded, 0);
         match waited {
             Waited::Came(link) => match self.acceptor.admit(scope, shared, crew, link) {
                 Some(lost) => Some(Halt {
@@ -126,7 +164,49 @@ impl<
         }
     }
 
-    /// Waits for the next link for a second at most, and does what is to be done then; or waits for a link to end, where as many are live as may be.
+    /// Joins threads of links that have ended, hands events on, and makes a Tick where a lease or a wait has ended. Then it waits for a link to end, for 50
+    /// milliseconds at most, or for 10 in a short round; but not where a thread was joined.
+    fn pass_time<'s, R: Threads + Wait + Sync, Q: Clock, G: Crew<Hand = H>>(
+        &mut self,
+        shared: &Shared<'s, R>,
+        crew: &G,
+        ticks: &mut Q,
+    )
+        requires accepting { IsAccepting
+            (TalksOver I.half O.half T.given H.shown H.may H.moves shared.now.book.now)
+            (IsMadeFor I.half O.half T.given H.shown H.moves shared.now.plan.now)
+            H.shown C.taken C.expects shared.now.lock.now shared.now.book.now self.old.acceptor }
+        ensures keeps { Keeps C.holds C.stays self.old.acceptor.taker self.new.acceptor.taker }
+        ensures begun { self.new.acceptor.begun ≡ self.old.acceptor.begun }
+        ensures goes_on { (l0 l1 l2 : Listening) (gave_first : Option (List ℕ))
+            → IsHosting I.half O.half T.given H.shown H.may H.moves C.taken C.expects
+            shared.now.lock.now shared.now.book.now shared.now.plan.now
+            l0 l1 gave_first (Q.given ticks.old) self.old.acceptor self.old.own
+            → IsLike l1 l2
+            → IsHosting I.half O.half T.given H.shown H.may H.moves C.taken C.expects
+            shared.now.lock.now shared.now.book.now shared.now.plan.now
+            l0 l2 gave_first (Q.given ticks.new) self.new.acceptor self.new.own }
+    {
+        let seen = shared.ended.count();
+        let live = self.acceptor.live.len();
+        let crowded = shared.lock.is_crowded();
+        let first = self.acceptor.handed;
+        self.acceptor.catch_up(shared);
+        let events = events_between(first, self.acceptor.handed);
+        self.acceptor
+            .tick_quietly(shared, crew, ticks, &mut self.own);
+        if self.acceptor.live.len() == live {
+            pause_for(shared, seen, self.short_rounds > 0);
+        }
+        self.short_rounds = rounds_after(self.short_rounds, crowded, events);
+    }
+
+    /// Returns whether as many links are live as may be, or a short round is due.
+    fn holds_back(&self) -> bool {
+        self.short_rounds > 0 || self.acceptor.live.len() >= self.most_live
+    }
+
+    /// Waits for the next link for a second at most, and does what is to be done then. Where as many links are live as may be, or many events are made, it looks whether the listener was told to stop, and passes time.
     fn step<
         's,
         E,
@@ -167,29 +247,33 @@ impl<
                 lost: None,
             });
         }
-        let seen = shared.ended.count();
-        if self.acceptor.live.len() >= MAX_LIVE {
-            shared.ended.pause(shared.rt, seen);
-            self.acceptor.catch_up(shared);
+        if self.holds_back() {
+            if listener.is_told() {
+                return Some(Halt {
+                    stop: Stop::Told,
+                    lost: None,
+                });
+            }
+            self.pass_time(shared, crew, ticks);
             return None;
         }
         match listener.wait() {
             Ok(waited) => self.take_waited(scope, shared, crew, ticks, waited),
             Err(_failed) => {
-                self.acceptor.catch_up(shared);
+                self.pass_time(shared, crew, ticks);
                 if self.gives_up() {
                     return Some(Halt {
                         stop: Stop::AcceptFault,
                         lost: None,
                     });
                 }
-                shared.ended.pause(shared.rt, seen);
                 None
             }
         }
     }
 
-    /// Accepts links until the listener is told to stop, or for another cause. A thread of the scope serves each.
+    /// Accepts links until the listener is told to stop, or for another cause. A thread of the scope serves each. Then the listener is closed, so that new
+    /// clients are refused and live links are told to end.
     pub fn run<
         's,
         E,
@@ -217,7 +301,7 @@ impl<
             H.shown C.taken C.expects shared.now.lock.now shared.now.book.now self.old.acceptor }
         requires fresh { (self.old.acceptor.all ≡ [])
             × ((C.taken self.old.acceptor.taker).ticks ≡ []) }
-        requires handless { self.old.own.hand ≡ None }
+        requires unused { (self.old.own.hand ≡ None) × (self.old.own.missed ≡ false) }
         requires hosts { self.old.acceptor.keeps ≡ false }
         ensures keeps { Keeps C.holds C.stays self.old.acceptor.taker self.new.acceptor.taker }
         ensures halted { IsHalted I.half O.half T.given H.shown H.may H.moves C.taken C.expects
@@ -227,7 +311,10 @@ impl<
     {
         for _ in shared.rt.forever() {
             match self.step(scope, shared, crew, listener, ticks) {
-                Some(halt) => return halt,
+                Some(halt) => {
+                    listener.close();
+                    return halt;
+                }
                 None => {}
             }
         }

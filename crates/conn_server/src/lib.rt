@@ -17,20 +17,26 @@
 //! - The stop is `All` exactly if the count was served, and `AcceptFault` only if the listener failed.
 //! - `given` of `serve_with`: the same, and the taker is given each report once.
 //! - `hosts` of `host` (`specs/Hosts`, `specs/Quiet`): the same. The server also makes Ticks in seconds
-//!   without a link. At each moment of its clock there is a Tick, or nothing had ended, or the result
-//!   says `tick_missed`. The hand of number 0 is told each withdrawn object once (`told`). The stop is
-//!   `Told` only if the listener was told. A host that records gives its taker the events after
-//!   the opening's in order (`handed`), and all of them if it says `whole`.
+//!   without a link. At each moment of its clock there is a Tick if something had ended, and none if
+//!   nothing had, or the result says `tick_missed`. It says that only if some moment had no Tick. The
+//!   hand of number 0 is told each object that these Ticks withdraw once (`told`). The stop is `Told`
+//!   only if the listener was told. A host that records gives its taker the events after the
+//!   opening's in order (`handed`), and all of them if it says `whole`.
 //!
 //! # What is not
 //!
-//! - When a link begins, how long it waits, or how long a stop takes. That a quiet second reads the
-//!   clock. That memory grows with live links alone. `test_server` tests most of these.
+//! - When a link begins, how long it waits, or how long a stop takes. That a host asks its listener,
+//!   or reads its clock in a quiet second. That memory grows with live links alone. `test_server`
+//!   tests most of these.
+//! - Who is told of objects that the end of a call withdraws after its link has ended: nobody is.
 //!
 //! # Choices and cost
 //!
 //! - A thread that cannot be started leaves its link to the accepting thread.
-//! - A listener that fails is asked again while a link is served, and four times more when none is.
+//! - A listener that fails is asked again while a link is served. When none is, `serve` asks it four
+//!   times more and `host` 60 times, with a pause of 50 milliseconds each.
+//! - A host that has as many links as it may have looks every 50 milliseconds whether it is to stop.
+//! - A host closes its listener before it waits for its last links, whatever the cause.
 //! - Threads of ended links are joined as accepting goes on. Each notes its number as its last act.
 //! - The list of all links exists in proofs alone, and so do the entries of a host's links.
 //! - An idle link takes 16.4 kB, 12 of them its thread's stack. Linux allows some 32,700 threads.
@@ -53,6 +59,7 @@ pub mod taker;
 
 pub use accept_loop::Stop;
 pub use admission::LostLink;
+pub use host_loop::MAX_LIVE;
 pub use link_entries::LinkEntries;
 pub use link_task::{AdmittedLink, LinkDone, LinkReport, LinkTask, TaskPromise};
 pub use plan::ServePlan;

@@ -1,4 +1,4 @@
-//! Ticks in seconds without a link.
+//! Ticks where a lease or a wait has ended, in seconds without a link and while no link is accepted.
 ghost use Rattle.std.specs.Prelude.{◌≡◌, ◌<◌, ◌⊎◌, List, [], ◌∷◌, length, MatchBool, MatchOption, IfSome, None, Option, option_to_list, ℕ, true, false};
 ghost use Rattle.std.specs.List.{flat_map};
 ghost use Rattle.wire_io.specs.Wire.{Gave};
@@ -10,7 +10,7 @@ ghost use Rattle.turn_lock.specs.PassPorts.{PassWent};
 ghost use Rattle.conn_server.specs.Accepts.{Follows, HasSameLinks, IsAccepting, IsSame};
 ghost use Rattle.conn_server.specs.Taken.{Keeps};
 ghost use Rattle.conn_server.specs.Made.{IsMadeFor, told_of};
-ghost use Rattle.conn_server.specs.Quiet.{HasTold, HaveTold, IsTick, MayPass, TicksOnce, TicksQuietly};
+ghost use Rattle.conn_server.specs.Quiet.{HasTold, HaveTold, IsTick, NeededThen, TicksOnce, TicksQuietly};
 ghost use Rattle.conn_server.specs.Talks.{TalksOver};
 
 use crate::admission::{Acceptor, hand_entry, tell_answer, tick_entry};
@@ -28,7 +28,7 @@ use wire_io::{Clock, Sink, Source};
 pub struct OwnHand<H> {
     /// The hand, once there was a quiet second and memory for it.
     pub hand: Option<H>,
-    /// True once a second without a link passed in which there was no memory for the hand, for the entry of a Tick or for a Tick that was due.
+    /// True once the clock was looked at and there was no memory for the hand, for the entry of a Tick or for a Tick that was due.
     pub missed: bool,
 }
 
@@ -42,6 +42,17 @@ impl<H> OwnHand<H> {
             hand: None,
             missed: false,
         }
+    }
+
+    /// Looks at the clock where there is no memory for a Tick, and notes that.
+    fn miss<Q: Clock>(&mut self, clock: &mut Q)
+        ensures hand { self.new.hand ≡ self.old.hand }
+        ensures missed { self.new.missed ≡ true }
+        ensures look { (look : ℕ) × Gave (Q.given clock.old) (Q.given clock.new) (look ∷ []) }
+    {
+        let moment = clock.now();
+        let _ = moment;
+        self.missed = true;
     }
 }
 
@@ -74,6 +85,8 @@ fn tick_if_ended<'s, R: Wait, T: Clock, H: Worker>(
     ensures counts { (root.new.made ≡ root.old.made) × (root.new.out ≡ root.old.out) }
     ensures went { PassWent root.old.pass root.new.pass (option_to_list result.0) }
     ensures is_tick { IfSome result.0 IsTick }
+    ensures needed { IfSome result.0 (λ entry. NeededThen (view_of root.old.pass) entry.moment
+        (view_of root.new.pass)) }
 
     // The clock gave one moment: the Tick's, or one at which a Tick changes nothing, by the history that the root has then seen.
     ensures once { (moment : ℕ) × Gave (T.given clock.old) (T.given clock.new) (moment ∷ [])
@@ -99,7 +112,8 @@ fn tick_if_ended<'s, R: Wait, T: Clock, H: Worker>(
 
 /// Returns whether a Tick was due and has no entry.
 fn is_missed(due: bool, entry: &Option<Asked>) -> bool
-    ensures { entry.now ≡ None → (result ≡ true) ⊎ (due ≡ false) }
+    ensures unmade { entry.now ≡ None → (result ≡ true) ⊎ (due ≡ false) }
+    ensures cause { result ≡ true → entry.now ≡ None }
 {
     due && entry.is_none()
 }
@@ -108,6 +122,7 @@ fn is_missed(due: bool, entry: &Option<Asked>) -> bool
 fn is_either(first: bool, second: bool) -> bool
     ensures first { first ≡ true → result ≡ true }
     ensures second { second ≡ true → result ≡ true }
+    ensures either { result ≡ true → (first ≡ true) ⊎ (second ≡ true) }
 {
     first || second
 }
@@ -153,7 +168,7 @@ impl<
         ensures follows { Follows self.old self.new }
         ensures links { HasSameLinks C.taken self.old self.new }
         ensures once { TicksOnce H.shown H.moves
-            (MayPass (opening_of shared.now.lock.now) (view_of self.new.root.pass).seen result)
+            (opening_of shared.now.lock.now) (view_of self.new.root.pass).seen result
             (Q.given clock.old) (Q.given clock.new)
             (C.taken self.old.taker).ticks (C.taken self.new.taker).ticks
             hand.old hand.new }
@@ -164,8 +179,8 @@ impl<
         missed
     }
 
-    /// Makes a Tick in a second without a link, where a lease or a wait has ended, and tells the hand of number 0 what it withdraws. Where there is no
-    /// memory for the hand, the entry or the Tick, the second passes without a Tick, and that is noted.
+    /// Looks at the clock, makes a Tick where a lease or a wait has ended, and tells the hand of number 0 what it withdraws. Where there is no memory for
+    /// the hand, the entry or the Tick, the look passes without a Tick, and that is noted.
     pub fn tick_quietly<'s, R: Wait, Q: Clock, G: Crew<Hand = H>>(
         &mut self,
         shared: &Shared<'s, R>,
@@ -187,22 +202,20 @@ impl<
         ensures all { self.new.all ≡ self.old.all }
         ensures quiet { (gave_first : Option (List ℕ)) (before_links : List Asked)
             → TicksQuietly H.shown H.moves
-            (MayPass (opening_of shared.now.lock.now) (view_of self.old.root.pass).seen
-            own.old.missed)
+            (opening_of shared.now.lock.now) (view_of self.old.root.pass).seen own.old.missed
             gave_first (Q.given clock.old)
             before_links (C.taken self.old.taker).ticks own.old.hand
             → TicksQuietly H.shown H.moves
-            (MayPass (opening_of shared.now.lock.now) (view_of self.new.root.pass).seen
-            own.new.missed)
+            (opening_of shared.now.lock.now) (view_of self.new.root.pass).seen own.new.missed
             gave_first (Q.given clock.new)
             before_links (C.taken self.new.taker).ticks own.new.hand }
     {
         if !self.with_tick_room() {
-            own.missed = true;
+            own.miss(clock);
             return;
         }
         let Some(mut hand) = own_hand(crew, &mut own.hand) else {
-            own.missed = true;
+            own.miss(clock);
             return;
         };
         let missed = self.tick_once(shared, clock, &mut hand);

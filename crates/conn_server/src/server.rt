@@ -74,7 +74,7 @@ pub struct HostJoined<I, O, T, C, H> {
 #[derive(Drop)]
 pub struct Hosted<I, O, T, C, H> {
     /// The taker, which was given the report of each link that was served, and the entries of the server's own turns, which are Ticks: one
-    /// before each of these links, and those of the seconds without a link.
+    /// before each of these links, and those at looks at the host's clock.
     pub taker: C,
     /// Why no more links were accepted.
     pub stop: Stop,
@@ -85,9 +85,9 @@ pub struct Hosted<I, O, T, C, H> {
     /// True where the taker was given all events of the space after the opening's. False means that there was no memory to hand them on, or that the host
     /// or its lock doesn't record.
     pub whole: bool,
-    /// The hand of number 0, which was told what the Ticks of seconds without a link withdrew, where there was one.
+    /// The hand of number 0, which was told what the Ticks at looks at the host's clock withdrew, where there was one.
     pub hand: Option<H>,
-    /// True where there was no memory, in a second without a link, for that hand, for the entry of a Tick or for a Tick that was due.
+    /// True where there was no memory, when the host looked at its clock, for that hand, for the entry of a Tick or for a Tick that was due.
     pub tick_missed: bool,
 }
 
@@ -124,15 +124,19 @@ pub struct HostBegin<C> {
     pub taker: C,
     /// True where the taker is given the events of the space, as they are made. The lock has to be one that records (`TurnLock::recording`).
     pub record: bool,
+    /// The most links that are live at once. [`MAX_LIVE`] is what a system with many descriptors bears.
+    pub most_live: usize,
 }
 
-/// The root, the taker and the crew with which a host begins, and the number of events of the opening, where it hands further events on.
+/// The root, the taker and the crew with which a host begins, the number of events of the opening, where it hands further events on, and the most links
+/// that are live at once.
 #[derive(Drop)]
 struct HostStart<'c, C, G> {
     root: Root,
     taker: C,
     crew: &'c G,
     handed: Option<u64>,
+    most_live: usize,
 }
 
 /// A server: what it runs on, who does the calls of its clients, and which objects they may call.
@@ -259,6 +263,7 @@ where
         taker,
         crew,
         handed,
+        most_live,
     } = begin;
     let keeping = Keeping {
         entries: false,
@@ -269,6 +274,8 @@ where
         acceptor: first,
         own: OwnHand::new(),
         idle_tries: 0,
+        most_live,
+        short_rounds: 0,
     };
     let Halt { stop, lost } = host.run(scope, shared, crew, listener, ticks);
     host.acceptor.end_all(shared);
@@ -276,6 +283,8 @@ where
         acceptor,
         own,
         idle_tries: _idle_tries,
+        most_live: _most_live,
+        short_rounds: _short_rounds,
     } = host;
     let Acceptor {
         root,
@@ -432,15 +441,54 @@ impl<'s, R: Threads + Wait + Sync, G: Crew> Server<'s, R, G> {
         ensures all { (¬ Rose (L.listening listener.old).faults (L.listening listener.new).faults)
             → (result.stop ≡ Stop.All) ⊎ (result.stop ≡ Stop.OutOfMemory) }
     {
+        let AllJoined {
+            root,
+            taker,
+            stop,
+            lost,
+        } = self.serve_links(listener, &lock, begin, plan);
+        Served {
+            taker,
+            stop,
+            lost,
+            space: lock.close(root),
+        }
+    }
+
+    /// Serves links at a lock by threads of a scope, and gives what remains once all of these were joined.
+    fn serve_links<L: Listener, C: ReportTaker<LinkReport<L::In, L::Out, L::Ticks, G::Hand>>>(
+        &self,
+        listener: &mut L,
+        lock: &TurnLock,
+        begin: Begin<C>,
+        plan: &ServePlan,
+    ) -> AllJoined<L::In, L::Out, L::Ticks, C>
+        requires fresh { IsFresh lock.now begin.root }
+        requires few { plan.now.count ≤ MAX_LINKS }
+        requires host { length (utf plan.now.host) ≤ MAX_HOST_BYTES }
+        requires empty { IsEmpty (C.taken begin.taker) }
+        requires expects { ExpectsLinks
+            (IsLinkOf L.In.half L.Out.half L.Ticks.given G.Hand.shown G.Hand.may G.Hand.moves
+            self.now.book.now plan.now)
+            C.expects begin.taker }
+        ensures served { IsServed
+            (IsLinkOf L.In.half L.Out.half L.Ticks.given G.Hand.shown G.Hand.may G.Hand.moves
+            self.now.book.now plan.now)
+            (IsLostLink L.In.half L.Out.half L.Ticks.given)
+            C.taken lock.now plan.now.count
+            (L.listening listener.old).accepted (L.listening listener.new).accepted result }
+        ensures fault { result.stop ≡ Stop.AcceptFault → Rose (L.listening listener.old).faults (L.listening listener.new).faults }
+        ensures faults { (L.listening listener.old).faults ≤ (L.listening listener.new).faults }
+        ensures ports { (L.listening listener.new).ports ≡ (L.listening listener.old).ports }
+    {
         let (rt, alloc, crew, book) = (self.rt, self.alloc, self.crew, self.book);
-        let shared_lock = &lock;
         let noted = EndedLinks::new(alloc);
         let ended = &noted;
         let (left, outcome) = thread::scope(
             thread::scope_env(),
             rt,
             move |scope| -> (&mut L, AllJoined<L::In, L::Out, L::Ticks, C>)
-                requires { IsFresh shared_lock.now begin.root × (plan.now.count ≤ MAX_LINKS)
+                requires { IsFresh lock.now begin.root × (plan.now.count ≤ MAX_LINKS)
                     × (length (utf plan.now.host) ≤ MAX_HOST_BYTES)
                     × IsEmpty (C.taken begin.taker)
                     × ExpectsLinks
@@ -452,7 +500,7 @@ impl<'s, R: Threads + Wait + Sync, G: Crew> Server<'s, R, G> {
                     (IsLinkOf L.In.half L.Out.half L.Ticks.given G.Hand.shown G.Hand.may G.Hand.moves
                     book.entry.now plan.entry.now)
                     (IsLostLink L.In.half L.Out.half L.Ticks.given)
-                    C.taken shared_lock.entry.now plan.entry.now.count
+                    C.taken lock.entry.now plan.entry.now.count
                     (L.listening listener.entry.now).accepted (L.listening result.0.now).accepted result.1 }
                 ensures fault { result.1.stop ≡ Stop.AcceptFault → Rose (L.listening listener.entry.now).faults (L.listening result.0.now).faults }
                 ensures faults { (L.listening listener.entry.now).faults ≤ (L.listening result.0.now).faults }
@@ -461,7 +509,7 @@ impl<'s, R: Threads + Wait + Sync, G: Crew> Server<'s, R, G> {
                 let shared = Shared {
                     rt,
                     alloc,
-                    lock: shared_lock,
+                    lock,
                     book,
                     plan,
                     ended,
@@ -471,38 +519,33 @@ impl<'s, R: Threads + Wait + Sync, G: Crew> Server<'s, R, G> {
             },
         );
         let _ = left;
-        let AllJoined {
-            root,
-            taker,
-            stop,
-            lost,
-        } = outcome;
-        Served {
-            taker,
-            stop,
-            lost,
-            space: lock.close(root),
-        }
+        outcome
     }
 
     /// Serves links until the listener is told to stop, each as [`Server::serve`] does, and hands the report of each to a taker as the link has
-    /// ended. Links in all are at most the plan's count, and 8,192 are live at once: before another is accepted, one of them ends.
+    /// ended. Links in all are at most the plan's count, and at most `most_live` of the beginning are live at once.
     ///
     /// In each second without a link, threads of links that have ended are joined. Where a lease or a wait for an acknowledgement has ended at a
-    /// moment of `ticks`, a Tick is made as connection 0. The hand of number 0 is told of each object that it withdraws; it is made in the first such
-    /// second in which there is memory for it. A second in which there is no memory for that hand or for the Tick passes without one, and the result
+    /// moment of `ticks`, a Tick is made as connection 0. The hand of number 0 is told of each object that it withdraws; it is made at the first such
+    /// moment at which there is memory for it. Where there is no memory for that hand or for the Tick, the moment passes without one, and the result
     /// says so.
+    ///
+    /// While as many links are live as may be, none is accepted. Every 50 milliseconds, or as a link ends, the host then looks whether the listener was
+    /// told to stop, and does what it does in a second without a link. It does the same while the listener fails: it asks it again as long as a
+    /// link is live, and 60 times more, which takes three seconds.
     ///
     /// Where the beginning says so, the taker is given the events of the space after the opening's, in their order and in parts of at most 4,096.
     /// It is given those that there are each time that the listener answers, which is at least once a second, and the rest after the last link. Where
-    /// there is no memory to hand them out, they come with the next ones.
+    /// there is no memory to hand them out, they come with the next ones. Once the lock is crowded with events, they are handed on every 10
+    /// milliseconds, for a second at most; then the listener is asked again.
     ///
     /// Where no thread can be started for a link, the accepting thread serves it: until that link ends no events are handed on, and no stop is seen.
     ///
     /// The reports of links have the entries of their turns in proofs alone. So a link takes no more memory with each call.
     ///
-    /// The stop is Told where the listener was told to: the links that are live are served to their ends, and all threads are joined. It is All
-    /// where the plan's count of links was served, AcceptFault only where the listener's count of faults rose, and OutOfMemory as in `serve`.
+    /// The stop is Told where the listener was told to. It is All where the plan's count of links was served, AcceptFault only where the listener's count
+    /// of faults rose, and OutOfMemory as in `serve`. In each case the listener is closed (`Listener::close`), so that the system refuses new clients, and
+    /// live links end soon where the listener can tell them to. Links are served to their ends, and all threads are joined.
     ///
     /// Its conditions: those of `serve_with`, but for the count, which may be any, and a taker that was given no event yet.
     pub fn host<
@@ -526,9 +569,9 @@ impl<'s, R: Threads + Wait + Sync, G: Crew> Server<'s, R, G> {
             self.now.book.now plan.now)
             C.expects begin.taker }
 
-        // As `serve_with`, where the server's own turns are the Ticks before links and those of quiet seconds, at moments of `ticks`, whose hand was told
-        // what they withdrew. A quiet second passes without a Tick only where nothing had ended, or where the result says that a Tick was missed. The events
-        // that the taker was given are the first after the opening's, and all where the result says so.
+        // As `serve_with`, where the server's own turns are the Ticks before links and those at looks at `ticks`, whose hand was told what they withdrew. A
+        // look has a Tick only where something had ended. It has none only where nothing had ended, or where the result says that a Tick was missed.
+        // The events that the taker was given are the first after the opening's, and all where the result says so.
         ensures hosts { HostsLinks
             (IsLinkOf L.In.half L.Out.half L.Ticks.given G.Hand.shown G.Hand.may G.Hand.moves
             self.now.book.now plan.now)
@@ -547,19 +590,59 @@ impl<'s, R: Threads + Wait + Sync, G: Crew> Server<'s, R, G> {
         ensures all { (¬ Rose (L.listening listener.old).faults (L.listening listener.new).faults)
             → (result.stop ≡ Stop.Told) ⊎ ((result.stop ≡ Stop.All) ⊎ (result.stop ≡ Stop.OutOfMemory)) }
     {
-        let (rt, alloc, crew, book) = (self.rt, self.alloc, self.crew, self.book);
         let HostBegin {
             root,
             taker,
             record,
+            most_live,
         } = begin;
         let begun = HostStart {
             root,
             taker,
-            crew,
+            crew: self.crew,
             handed: first_place(&lock, record),
+            most_live,
         };
-        let shared_lock = &lock;
+        let joined = self.host_links(listener, ticks, &lock, begun, plan);
+        close_host(lock, joined, record)
+    }
+
+    /// Hosts links at a lock by threads of a scope, and gives what remains once all of these were joined.
+    fn host_links<
+        'c,
+        L: Listener,
+        Q: Clock,
+        C: ReportTaker<LinkReport<L::In, L::Out, L::Ticks, G::Hand>>,
+    >(
+        &self,
+        listener: &mut L,
+        ticks: &mut Q,
+        lock: &TurnLock,
+        begun: HostStart<'c, C, G>,
+        plan: &ServePlan,
+    ) -> HostJoined<L::In, L::Out, L::Ticks, C, G::Hand>
+        requires fresh { IsFresh lock.now begun.root }
+        requires host { length (utf plan.now.host) ≤ MAX_HOST_BYTES }
+        requires empty { IsEmpty (C.taken begun.taker) }
+        requires no_event { (C.taken begun.taker).events ≡ [] }
+        requires expects { ExpectsLinks
+            (IsLinkOf L.In.half L.Out.half L.Ticks.given G.Hand.shown G.Hand.may G.Hand.moves
+            self.now.book.now plan.now)
+            C.expects begun.taker }
+        requires handed { IfSome begun.handed (λ n. n ≡ length (opening_of lock.now).events) }
+        ensures keeps { Keeps C.holds C.stays begun.entry.taker result.taker }
+        ensures hosted { IsHosted
+            (IsLinkOf L.In.half L.Out.half L.Ticks.given G.Hand.shown G.Hand.may G.Hand.moves
+            self.now.book.now plan.now)
+            (IsLostLink L.In.half L.Out.half L.Ticks.given) G.Hand.shown G.Hand.moves
+            C.taken lock.now plan.now.count
+            (L.listening listener.old) (L.listening listener.new)
+            (Q.given ticks.old) (Q.given ticks.new) result }
+        ensures fault { result.stop ≡ Stop.AcceptFault → Rose (L.listening listener.old).faults (L.listening listener.new).faults }
+        ensures faults { (L.listening listener.old).faults ≤ (L.listening listener.new).faults }
+        ensures ports { (L.listening listener.new).ports ≡ (L.listening listener.old).ports }
+    {
+        let (rt, alloc, book) = (self.rt, self.alloc, self.book);
         let noted = EndedLinks::new(alloc);
         let ended = &noted;
         let (left, left_ticks, outcome) = thread::scope(
@@ -570,14 +653,14 @@ impl<'s, R: Threads + Wait + Sync, G: Crew> Server<'s, R, G> {
                 &mut Q,
                 HostJoined<L::In, L::Out, L::Ticks, C, G::Hand>,
             )
-                requires { IsFresh shared_lock.now begun.root × (length (utf plan.now.host) ≤ MAX_HOST_BYTES)
+                requires { IsFresh lock.now begun.root × (length (utf plan.now.host) ≤ MAX_HOST_BYTES)
                     × IsEmpty (C.taken begun.taker)
                     × ((C.taken begun.taker).events ≡ [])
                     × ExpectsLinks
                     (IsLinkOf L.In.half L.Out.half L.Ticks.given G.Hand.shown G.Hand.may G.Hand.moves
                     book.now plan.now)
                     C.expects begun.taker
-                    × IfSome begun.handed (λ n. n ≡ length (opening_of shared_lock.now).events) }
+                    × IfSome begun.handed (λ n. n ≡ length (opening_of lock.now).events) }
                 ensures left { (result.0.ghost_name ≡ listener.entry.ghost_name)
                     × (result.1.ghost_name ≡ ticks.entry.ghost_name) }
                 ensures keeps { Keeps C.holds C.stays begun.entry.taker result.2.taker }
@@ -585,7 +668,7 @@ impl<'s, R: Threads + Wait + Sync, G: Crew> Server<'s, R, G> {
                     (IsLinkOf L.In.half L.Out.half L.Ticks.given G.Hand.shown G.Hand.may G.Hand.moves
                     book.entry.now plan.entry.now)
                     (IsLostLink L.In.half L.Out.half L.Ticks.given) G.Hand.shown G.Hand.moves
-                    C.taken shared_lock.entry.now plan.entry.now.count
+                    C.taken lock.entry.now plan.entry.now.count
                     (L.listening listener.entry.now) (L.listening result.0.now)
                     (Q.given ticks.entry.now) (Q.given result.1.now) result.2 }
                 ensures fault { result.2.stop ≡ Stop.AcceptFault → Rose (L.listening listener.entry.now).faults (L.listening result.0.now).faults }
@@ -595,7 +678,7 @@ impl<'s, R: Threads + Wait + Sync, G: Crew> Server<'s, R, G> {
                 let shared = Shared {
                     rt,
                     alloc,
-                    lock: shared_lock,
+                    lock,
                     book,
                     plan,
                     ended,
@@ -606,6 +689,6 @@ impl<'s, R: Threads + Wait + Sync, G: Crew> Server<'s, R, G> {
         );
         let _ = left;
         let _ = left_ticks;
-        close_host(lock, outcome, record)
+        outcome
     }
 }

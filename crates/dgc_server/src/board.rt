@@ -47,7 +47,8 @@ impl Board {
     /// The clients of the chunk of this index.
     pub fn clients(&self, i: usize) -> &[ClientEntry]
         requires { i < length self.now.chunks.items }
-        ensures { (d : Chunk) → result.now ≡ (slice_index_or self.now.chunks.items i d).entries.items }
+        ensures { (d : Chunk)
+            → result.now ≡ (slice_index_or self.now.chunks.items i d).entries.items }
     {
         &self.chunks[i].entries
     }
@@ -73,7 +74,8 @@ impl Board {
     pub fn note_end(&mut self, at: usize)
         requires within { at < length self.old.chunks.items }
         requires long { length self.old.ends.items ≡ length self.old.chunks.items }
-        requires others { (d : Chunk) → slice_set self.old.ends.items at (slice_index_or self.old.chunks.items at d).least
+        requires others { (d : Chunk)
+            → slice_set self.old.ends.items at (slice_index_or self.old.chunks.items at d).least
             ≡ ends_of self.old.chunks.items }
         ensures chunks { self.new.chunks.items ≡ self.old.chunks.items }
         ensures ends { self.new.ends.items ≡ ends_of self.new.chunks.items }

@@ -72,7 +72,8 @@ impl Model for Clients {
 
     ghost Value = { ClientTable };
 
-    ghost view = { λ a. record { moment = a.moment; next = a.next; entries = all_of a.board.chunks.items } };
+    ghost view = { λ a.
+        record { moment = a.moment; next = a.next; entries = all_of a.board.chunks.items } };
 
     ghost invariant = { λ a. IsBoard a.moment a.next a.board };
 }
@@ -147,17 +148,26 @@ impl Clients {
         requires numbered { IsTrue (list_all (λ e. each_has_number e.objects) self.old.entries) }
         requires ordered { IsTrue (is_in_order self.old.entries) }
         requires once { IsTrue (list_all (λ e. each_once e.objects) self.old.entries) }
-        requires few { (w : Way) (o : ObjId) → length (filter (is_counted w self.old.moment o) self.old.entries) ≤ MAX_PAIRS }
-        requires has { (o : ObjId) → is_in o call.now.objects.now ≡ true → has_count counts.old o ≡ true }
-        requires counted { (w : Way) (o : ObjId) → counted_at w counts.old o ≡ length (filter (is_counted w self.old.moment o) self.old.entries) }
+        requires few { (w : Way) (o : ObjId)
+            → length (filter (is_counted w self.old.moment o) self.old.entries) ≤ MAX_PAIRS }
+        requires has { (o : ObjId) → is_in o call.now.objects.now ≡ true
+            → has_count counts.old o ≡ true }
+        requires counted { (w : Way) (o : ObjId)
+            → counted_at w counts.old o
+            ≡ length (filter (is_counted w self.old.moment o) self.old.entries) }
         ensures ok { OnOk result (self.new.entries ≡ with_entry
-            (entry_after lease call.now.kind call.now.number.now call.now.objects.now call.now.time (entry_of self.old.entries client.now)) self.old.entries) }
+            (entry_after lease call.now.kind call.now.number.now call.now.objects.now call.now.time
+            (entry_of self.old.entries client.now)) self.old.entries) }
         ensures moment { OnOk result (self.new.moment ≡ self.old.moment) }
-        ensures next { IfOk result (λ noted. self.new.next ≡ bound_of call.now.time self.old.next noted.until) }
-        ensures counted { OnOk result ((w : Way) (o : ObjId) →
-            counted_at w counts.new o ≡ length (filter (is_counted w self.old.moment o) self.new.entries)) }
+        ensures next { IfOk result
+            (λ noted. self.new.next ≡ bound_of call.now.time self.old.next noted.until) }
+        ensures counted { OnOk result ((w : Way) (o : ObjId)
+            → counted_at w counts.new o
+            ≡ length (filter (is_counted w self.old.moment o) self.new.entries)) }
         ensures noted { IfOk result (λ noted. let own = entry_of self.old.entries client.now in
-            IsNoted self.old.moment own (entry_after lease call.now.kind call.now.number.now call.now.objects.now call.now.time own) noted) }
+            IsNoted self.old.moment own
+            (entry_after lease call.now.kind call.now.number.now call.now.objects.now call.now.time
+            own) noted) }
         ensures err { OnErr result (self.new ≡ self.old) }
         ensures same { OnErr result (counts.new ≡ counts.old) }
     {
@@ -200,7 +210,9 @@ impl Clients {
     pub fn drop_object(&mut self, object: &ObjId, clients: u32, hint: ClientHint)
         requires kept { IsTrue (list_all (is_entry_kept self.old.moment) self.old.entries) }
         requires counted { clients ≡ length (filter (entry_names object.now) self.old.entries) }
-        ensures entries { self.new.entries ≡ filter (is_entry_kept self.old.moment) (map (entry_without object.now) self.old.entries) }
+        ensures entries { self.new.entries
+            ≡ filter (is_entry_kept self.old.moment)
+            (map (entry_without object.now) self.old.entries) }
         ensures moment { self.new.moment ≡ self.old.moment }
         ensures next { self.new.next ≡ self.old.next }
     {
@@ -216,8 +228,11 @@ impl Clients {
     /// client's end. Where no pair goes it looks at no client. It takes no memory.
     pub fn drop_objects(&mut self, counts: &Counts, pairs: u128, hint: ClientHint)
         requires kept { IsTrue (list_all (is_entry_kept self.old.moment) self.old.entries) }
-        requires pairs { pairs + objects_in (map (with_only (is_named counts.now)) self.old.entries) ≡ objects_in self.old.entries }
-        ensures entries { self.new.entries ≡ filter (is_entry_kept self.old.moment) (map (with_only (is_named counts.now)) self.old.entries) }
+        requires pairs { pairs + objects_in (map (with_only (is_named counts.now)) self.old.entries)
+            ≡ objects_in self.old.entries }
+        ensures entries { self.new.entries
+            ≡ filter (is_entry_kept self.old.moment)
+            (map (with_only (is_named counts.now)) self.old.entries) }
         ensures moment { self.new.moment ≡ self.old.moment }
         ensures next { self.new.next ≡ self.old.next }
     {
@@ -234,7 +249,9 @@ impl Clients {
 /// Returns whether a client comes before the first of a chunk.
 fn is_before(client: &Vmid, chunk: &Chunk) -> bool
     requires { IsTrue (is_filled chunk.now) }
-    ensures { (d : Entry) → result ≡ is_lt (client_cmp client.now (slice_index_or chunk.now.entries.items 0 d).client) }
+    ensures { (d : Entry)
+        → result ≡ is_lt
+        (client_cmp client.now (slice_index_or chunk.now.entries.items 0 d).client) }
 {
     match client.compare(chunk.entries[0].client()) {
         Ordering::Less => true,
@@ -249,7 +266,9 @@ fn chunk_of(chunks: &[Chunk], client: &Vmid) -> usize
     requires filled { IsTrue (list_all is_filled chunks.now) }
     ensures bound { result < length chunks.now }
     ensures place { IsChunkOf chunks.now client.now result }
-    ensures entry { (d : Chunk) → entry_of (all_of chunks.now) client.now ≡ entry_of (slice_index_or chunks.now result d).entries.items client.now }
+    ensures entry { (d : Chunk)
+        → entry_of (all_of chunks.now) client.now
+        ≡ entry_of (slice_index_or chunks.now result d).entries.items client.now }
 {
     let mut low: usize = 0;
     let mut high: usize = chunks.len();
@@ -325,7 +344,8 @@ fn split_full(alloc: Global, board: &mut Board, client: &Vmid) -> Result<(), All
     ensures same { all_of board.new.chunks.items ≡ all_of board.old.chunks.items }
     ensures some { 0 < length board.new.chunks.items }
     ensures filled { IsTrue (list_all is_filled board.new.chunks.items) }
-    ensures bounded { (m n : ℕ) → AllByRecursion (IsBounded m n) board.old.chunks.items → AllByRecursion (IsBounded m n) board.new.chunks.items }
+    ensures bounded { (m n : ℕ) → AllByRecursion (IsBounded m n) board.old.chunks.items
+        → AllByRecursion (IsBounded m n) board.new.chunks.items }
     ensures ends { board.new.ends.items ≡ ends_of board.new.chunks.items }
 {
     let at_chunk = chunk_of(&board.chunks, client);
@@ -356,24 +376,40 @@ fn note_call(
     requires early { call.now.time < END_OF_TIME }
     requires some { 1 ≤ lease }
     requires short { lease ≤ MAX_DURATION_MS }
-    requires numbered { IsTrue (list_all (λ e. each_has_number e.objects) (all_of board.old.chunks.items)) }
+    requires numbered { IsTrue
+        (list_all (λ e. each_has_number e.objects) (all_of board.old.chunks.items)) }
     requires ordered { IsTrue (is_in_order (all_of board.old.chunks.items)) }
     requires once { IsTrue (list_all (λ e. each_once e.objects) (all_of board.old.chunks.items)) }
-    requires few { (w : Way) (o : ObjId) → length (filter (is_counted w from o) (all_of board.old.chunks.items)) ≤ MAX_PAIRS }
-    requires has { (o : ObjId) → is_in o call.now.objects.now ≡ true → has_count counts.old o ≡ true }
-    requires counted { (w : Way) (o : ObjId) → counted_at w counts.old o ≡ length (filter (is_counted w from o) (all_of board.old.chunks.items)) }
+    requires few { (w : Way) (o : ObjId)
+        → length (filter (is_counted w from o) (all_of board.old.chunks.items)) ≤ MAX_PAIRS }
+    requires has { (o : ObjId) → is_in o call.now.objects.now ≡ true
+        → has_count counts.old o ≡ true }
+    requires counted { (w : Way) (o : ObjId)
+        → counted_at w counts.old o
+        ≡ length (filter (is_counted w from o) (all_of board.old.chunks.items)) }
     requires filled { IsTrue (list_all is_filled board.old.chunks.items) }
     requires ends { board.old.ends.items ≡ ends_of board.old.chunks.items }
     ensures ok { OnOk result (all_of board.new.chunks.items ≡ with_entry
-        (entry_after lease call.now.kind call.now.number.now call.now.objects.now call.now.time (entry_of (all_of board.old.chunks.items) client.now)) (all_of board.old.chunks.items)) }
-    ensures counted { OnOk result ((w : Way) (o : ObjId) → counted_at w counts.new o ≡ length (filter (is_counted w from o) (all_of board.new.chunks.items))) }
-    ensures noted { IfOk result (λ noted. let own = entry_of (all_of board.old.chunks.items) client.now in
-        IsNoted from own (entry_after lease call.now.kind call.now.number.now call.now.objects.now call.now.time own) noted) }
+        (entry_after lease call.now.kind call.now.number.now call.now.objects.now call.now.time
+        (entry_of (all_of board.old.chunks.items) client.now)) (all_of board.old.chunks.items)) }
+    ensures counted { OnOk result
+        ((w : Way) (o : ObjId)
+        → counted_at w counts.new o
+        ≡ length (filter (is_counted w from o) (all_of board.new.chunks.items))) }
+    ensures noted { IfOk result
+        (λ noted. let own = entry_of (all_of board.old.chunks.items) client.now in
+        IsNoted from own
+        (entry_after lease call.now.kind call.now.number.now call.now.objects.now call.now.time own)
+        noted) }
     ensures filled { IsTrue (list_all is_filled board.new.chunks.items) }
-    ensures bounded { IfOk result (λ noted. (n : ℕ) → n < 2 ^ 64 → AllByRecursion (IsBounded from n) board.old.chunks.items →
-        AllByRecursion (IsBounded from (bound_of call.now.time n noted.until)) board.new.chunks.items) }
+    ensures bounded { IfOk result
+        (λ noted. (n : ℕ) → n < 2 ^ 64 → AllByRecursion (IsBounded from n) board.old.chunks.items
+        → AllByRecursion (IsBounded from (bound_of call.now.time n noted.until))
+        board.new.chunks.items) }
     ensures err { OnErr result (all_of board.new.chunks.items ≡ all_of board.old.chunks.items) }
-    ensures still { OnErr result ((n : ℕ) → AllByRecursion (IsBounded from n) board.old.chunks.items → AllByRecursion (IsBounded from n) board.new.chunks.items) }
+    ensures still { OnErr result
+        ((n : ℕ) → AllByRecursion (IsBounded from n) board.old.chunks.items
+        → AllByRecursion (IsBounded from n) board.new.chunks.items) }
     ensures same { OnErr result (counts.new ≡ counts.old) }
     ensures ends { board.new.ends.items ≡ ends_of board.new.chunks.items }
 {
@@ -399,19 +435,30 @@ fn note_first(
     requires early { call.now.time < END_OF_TIME }
     requires some { 1 ≤ lease }
     requires short { lease ≤ MAX_DURATION_MS }
-    requires has { (o : ObjId) → is_in o call.now.objects.now ≡ true → has_count counts.old o ≡ true }
+    requires has { (o : ObjId) → is_in o call.now.objects.now ≡ true
+        → has_count counts.old o ≡ true }
     requires few { (w : Way) (o : ObjId) → counted_at w counts.old o + 1 < 2 ^ 31 }
     requires ends { board.old.ends.items ≡ ends_of board.old.chunks.items }
     ensures ok { OnOk result (all_of board.new.chunks.items ≡ with_entry
-        (entry_after lease call.now.kind call.now.number.now call.now.objects.now call.now.time (entry_of (all_of board.old.chunks.items) client.now)) (all_of board.old.chunks.items)) }
-    ensures counts { OnOk result ((w : Way) (o : ObjId) → let own = entry_of (all_of board.old.chunks.items) client.now in
+        (entry_after lease call.now.kind call.now.number.now call.now.objects.now call.now.time
+        (entry_of (all_of board.old.chunks.items) client.now)) (all_of board.old.chunks.items)) }
+    ensures counts { OnOk result
+        ((w : Way) (o : ObjId) → let own = entry_of (all_of board.old.chunks.items) client.now in
         counted_at w counts.new o + one_if (is_counted w from o own)
         ≡ counted_at w counts.old o
-        + one_if (is_counted w from o (entry_after lease call.now.kind call.now.number.now call.now.objects.now call.now.time own))) }
-    ensures noted { IfOk result (λ noted. let own = entry_of (all_of board.old.chunks.items) client.now in
-        IsNoted from own (entry_after lease call.now.kind call.now.number.now call.now.objects.now call.now.time own) noted) }
+        + one_if (is_counted w from o
+        (entry_after lease call.now.kind call.now.number.now call.now.objects.now call.now.time
+        own))) }
+    ensures noted { IfOk result
+        (λ noted. let own = entry_of (all_of board.old.chunks.items) client.now in
+        IsNoted from own
+        (entry_after lease call.now.kind call.now.number.now call.now.objects.now call.now.time own)
+        noted) }
     ensures filled { IsTrue (list_all is_filled board.new.chunks.items) }
-    ensures bounded { IfOk result (λ noted. (n : ℕ) → n < 2 ^ 64 → AllByRecursion (IsBounded from (bound_of call.now.time n noted.until)) board.new.chunks.items) }
+    ensures bounded { IfOk result
+        (λ noted. (n : ℕ) → n < 2 ^ 64
+        → AllByRecursion (IsBounded from (bound_of call.now.time n noted.until))
+        board.new.chunks.items) }
     ensures err { OnErr result (board.new.chunks.items ≡ board.old.chunks.items) }
     ensures same { OnErr result (counts.new ≡ counts.old) }
     ensures ends { board.new.ends.items ≡ ends_of board.new.chunks.items }
@@ -441,27 +488,42 @@ fn note_own(
     requires early { call.now.time < END_OF_TIME }
     requires some { 1 ≤ lease }
     requires short { lease ≤ MAX_DURATION_MS }
-    requires numbered { IsTrue (list_all (λ e. each_has_number e.objects) (all_of board.old.chunks.items)) }
+    requires numbered { IsTrue
+        (list_all (λ e. each_has_number e.objects) (all_of board.old.chunks.items)) }
     requires ordered { IsTrue (is_in_order (all_of board.old.chunks.items)) }
     requires once { IsTrue (list_all (λ e. each_once e.objects) (all_of board.old.chunks.items)) }
-    requires has { (o : ObjId) → is_in o call.now.objects.now ≡ true → has_count counts.old o ≡ true }
-    requires enough { (w : Way) (o : ObjId) → one_if (is_counted w from o (entry_of (all_of board.old.chunks.items) client.now)) ≤ counted_at w counts.old o }
+    requires has { (o : ObjId) → is_in o call.now.objects.now ≡ true
+        → has_count counts.old o ≡ true }
+    requires enough { (w : Way) (o : ObjId)
+        → one_if (is_counted w from o (entry_of (all_of board.old.chunks.items) client.now))
+        ≤ counted_at w counts.old o }
     requires few { (w : Way) (o : ObjId) → counted_at w counts.old o + 1 < 2 ^ 31 }
     requires filled { IsTrue (list_all is_filled board.old.chunks.items) }
     requires ends { board.old.ends.items ≡ ends_of board.old.chunks.items }
     ensures ok { OnOk result (all_of board.new.chunks.items ≡ with_entry
-        (entry_after lease call.now.kind call.now.number.now call.now.objects.now call.now.time (entry_of (all_of board.old.chunks.items) client.now)) (all_of board.old.chunks.items)) }
-    ensures counts { OnOk result ((w : Way) (o : ObjId) → let own = entry_of (all_of board.old.chunks.items) client.now in
+        (entry_after lease call.now.kind call.now.number.now call.now.objects.now call.now.time
+        (entry_of (all_of board.old.chunks.items) client.now)) (all_of board.old.chunks.items)) }
+    ensures counts { OnOk result
+        ((w : Way) (o : ObjId) → let own = entry_of (all_of board.old.chunks.items) client.now in
         counted_at w counts.new o + one_if (is_counted w from o own)
         ≡ counted_at w counts.old o
-        + one_if (is_counted w from o (entry_after lease call.now.kind call.now.number.now call.now.objects.now call.now.time own))) }
-    ensures noted { IfOk result (λ noted. let own = entry_of (all_of board.old.chunks.items) client.now in
-        IsNoted from own (entry_after lease call.now.kind call.now.number.now call.now.objects.now call.now.time own) noted) }
+        + one_if (is_counted w from o
+        (entry_after lease call.now.kind call.now.number.now call.now.objects.now call.now.time
+        own))) }
+    ensures noted { IfOk result
+        (λ noted. let own = entry_of (all_of board.old.chunks.items) client.now in
+        IsNoted from own
+        (entry_after lease call.now.kind call.now.number.now call.now.objects.now call.now.time own)
+        noted) }
     ensures filled { IsTrue (list_all is_filled board.new.chunks.items) }
-    ensures bounded { IfOk result (λ noted. (n : ℕ) → AllByRecursion (IsBounded from n) board.old.chunks.items →
-        AllByRecursion (IsBounded from (bound_of call.now.time n noted.until)) board.new.chunks.items) }
+    ensures bounded { IfOk result
+        (λ noted. (n : ℕ) → AllByRecursion (IsBounded from n) board.old.chunks.items
+        → AllByRecursion (IsBounded from (bound_of call.now.time n noted.until))
+        board.new.chunks.items) }
     ensures err { OnErr result (all_of board.new.chunks.items ≡ all_of board.old.chunks.items) }
-    ensures still { OnErr result ((n : ℕ) → AllByRecursion (IsBounded from n) board.old.chunks.items → AllByRecursion (IsBounded from n) board.new.chunks.items) }
+    ensures still { OnErr result
+        ((n : ℕ) → AllByRecursion (IsBounded from n) board.old.chunks.items
+        → AllByRecursion (IsBounded from n) board.new.chunks.items) }
     ensures same { OnErr result (counts.new ≡ counts.old) }
     ensures ends { board.new.ends.items ≡ ends_of board.new.chunks.items }
 {
@@ -498,18 +560,28 @@ fn note_in(
     requires numbered { IsTrue (list_all (λ e. each_has_number e.objects) chunk.old.entries.items) }
     requires ordered { IsTrue (is_in_order chunk.old.entries.items) }
     requires once { IsTrue (list_all (λ e. each_once e.objects) chunk.old.entries.items) }
-    requires has { (o : ObjId) → is_in o call.now.objects.now ≡ true → has_count counts.old o ≡ true }
-    requires enough { (w : Way) (o : ObjId) → one_if (is_counted w from o (entry_of chunk.old.entries.items client.now)) ≤ counted_at w counts.old o }
+    requires has { (o : ObjId) → is_in o call.now.objects.now ≡ true
+        → has_count counts.old o ≡ true }
+    requires enough { (w : Way) (o : ObjId)
+        → one_if (is_counted w from o (entry_of chunk.old.entries.items client.now))
+        ≤ counted_at w counts.old o }
     requires few { (w : Way) (o : ObjId) → counted_at w counts.old o + 1 < 2 ^ 31 }
     ensures ok { OnOk result (chunk.new.entries.items ≡ with_entry
-        (entry_after lease call.now.kind call.now.number.now call.now.objects.now call.now.time (entry_of chunk.old.entries.items client.now)) chunk.old.entries.items) }
-    ensures counts { OnOk result ((w : Way) (o : ObjId) → let own = entry_of chunk.old.entries.items client.now in
+        (entry_after lease call.now.kind call.now.number.now call.now.objects.now call.now.time
+        (entry_of chunk.old.entries.items client.now)) chunk.old.entries.items) }
+    ensures counts { OnOk result
+        ((w : Way) (o : ObjId) → let own = entry_of chunk.old.entries.items client.now in
         counted_at w counts.new o + one_if (is_counted w from o own)
         ≡ counted_at w counts.old o
-        + one_if (is_counted w from o (entry_after lease call.now.kind call.now.number.now call.now.objects.now call.now.time own))) }
+        + one_if (is_counted w from o
+        (entry_after lease call.now.kind call.now.number.now call.now.objects.now call.now.time
+        own))) }
     ensures noted { IfOk result (λ noted. let own = entry_of chunk.old.entries.items client.now in
-        IsNoted from own (entry_after lease call.now.kind call.now.number.now call.now.objects.now call.now.time own) noted) }
-    ensures least { IfOk result (λ noted. chunk.new.least ≡ bound_of call.now.time chunk.old.least noted.until) }
+        IsNoted from own
+        (entry_after lease call.now.kind call.now.number.now call.now.objects.now call.now.time own)
+        noted) }
+    ensures least { IfOk result
+        (λ noted. chunk.new.least ≡ bound_of call.now.time chunk.old.least noted.until) }
     ensures err { OnErr result (chunk.new.entries.items ≡ chunk.old.entries.items) }
     ensures still { OnErr result (chunk.new.least ≡ chunk.old.least) }
     ensures same { OnErr result (counts.new ≡ counts.old) }

@@ -14,9 +14,11 @@ use object_ids::ObjId;
 /// Keeps the clients of which something is left.
 fn keep(board: &mut Board, now: u64)
     requires { board.old.ends.items ≡ ends_of board.old.chunks.items }
-    ensures entries { all_of board.new.chunks.items ≡ filter (is_entry_kept now) (all_of board.old.chunks.items) }
+    ensures entries { all_of board.new.chunks.items
+        ≡ filter (is_entry_kept now) (all_of board.old.chunks.items) }
     ensures filled { IsTrue (list_all is_filled board.new.chunks.items) }
-    ensures bounded { (n : ℕ) → AllByRecursion (IsCalmChunk now n) board.old.chunks.items → AllByRecursion (IsBounded now n) board.new.chunks.items }
+    ensures bounded { (n : ℕ) → AllByRecursion (IsCalmChunk now n) board.old.chunks.items
+        → AllByRecursion (IsBounded now n) board.new.chunks.items }
     ensures ends { board.new.ends.items ≡ ends_of board.new.chunks.items }
 {
     keep_each(&mut board.chunks, now);
@@ -25,8 +27,10 @@ fn keep(board: &mut Board, now: u64)
 
 /// Keeps in each chunk the clients of which something is left.
 fn keep_each(chunks: &mut Vec<Chunk>, now: u64)
-    ensures entries { all_of chunks.new.items ≡ filter (is_entry_kept now) (all_of chunks.old.items) }
-    ensures bounded { (n : ℕ) → AllByRecursion (IsCalmChunk now n) chunks.old.items → AllByRecursion (IsBounded now n) chunks.new.items }
+    ensures entries { all_of chunks.new.items
+        ≡ filter (is_entry_kept now) (all_of chunks.old.items) }
+    ensures bounded { (n : ℕ) → AllByRecursion (IsCalmChunk now n) chunks.old.items
+        → AllByRecursion (IsBounded now n) chunks.new.items }
     ensures ends { ends_of chunks.new.items ≡ ends_of chunks.old.items }
 {
     let mut i: usize = 0;
@@ -40,11 +44,15 @@ fn keep_each(chunks: &mut Vec<Chunk>, now: u64)
 /// as a count notes it, and stops as soon as all that name the object were met. It takes no memory.
 pub fn drop_object(board: &mut Board, object: &ObjId, clients: u32, hint: ClientHint, time: u64)
     requires kept { IsTrue (list_all (is_entry_kept time) (all_of board.old.chunks.items)) }
-    requires counted { clients ≡ length (filter (entry_names object.now) (all_of board.old.chunks.items)) }
+    requires counted { clients
+        ≡ length (filter (entry_names object.now) (all_of board.old.chunks.items)) }
     requires ends { board.old.ends.items ≡ ends_of board.old.chunks.items }
-    ensures entries { all_of board.new.chunks.items ≡ filter (is_entry_kept time) (map (entry_without object.now) (all_of board.old.chunks.items)) }
+    ensures entries { all_of board.new.chunks.items
+        ≡ filter (is_entry_kept time)
+        (map (entry_without object.now) (all_of board.old.chunks.items)) }
     ensures filled { IsTrue (list_all is_filled board.new.chunks.items) }
-    ensures bounded { (n : ℕ) → AllByRecursion (IsBounded time n) board.old.chunks.items → AllByRecursion (IsBounded time n) board.new.chunks.items }
+    ensures bounded { (n : ℕ) → AllByRecursion (IsBounded time n) board.old.chunks.items
+        → AllByRecursion (IsBounded time n) board.new.chunks.items }
     ensures ends { board.new.ends.items ≡ ends_of board.new.chunks.items }
 {
     let chunk = hint.chunk as usize;
@@ -71,13 +79,16 @@ fn walk(
     time: u64,
 ) -> u32
     requires kept { IsTrue (list_all (is_entry_kept time) (all_of chunks.old.items)) }
-    requires counted { clients ≡ length (filter (entry_names object.now) (all_of chunks.old.items)) }
-    ensures same { filter (is_entry_kept time) (map (entry_without object.now) (all_of chunks.new.items))
+    requires counted { clients
+        ≡ length (filter (entry_names object.now) (all_of chunks.old.items)) }
+    ensures same { filter (is_entry_kept time)
+        (map (entry_without object.now) (all_of chunks.new.items))
         ≡ filter (is_entry_kept time) (map (entry_without object.now) (all_of chunks.old.items)) }
     ensures kept { IsTrue (list_all (is_entry_kept time) (all_of chunks.new.items)) }
     ensures counted { result ≡ length (filter (entry_names object.now) (all_of chunks.new.items)) }
     ensures all { chunk ≡ 0 → client ≡ 0 → result ≡ 0 }
-    ensures bounded { (n : ℕ) → AllByRecursion (IsBounded time n) chunks.old.items → AllByRecursion (IsBounded time n) chunks.new.items }
+    ensures bounded { (n : ℕ) → AllByRecursion (IsBounded time n) chunks.old.items
+        → AllByRecursion (IsBounded time n) chunks.new.items }
     ensures ends { ends_of chunks.new.items ≡ ends_of chunks.old.items }
 {
     let mut to_go = clients;
@@ -98,11 +109,16 @@ fn walk(
 /// all objects of the clients from this place on, as a count notes it, and then from the first on, until as many went, and then once at each
 /// client's end. It takes no memory.
 pub fn drop_objects(board: &mut Board, counts: &Counts, pairs: u128, hint: ClientHint, time: u64)
-    requires pairs { pairs + objects_in (map (with_only (is_named counts.now)) (all_of board.old.chunks.items)) ≡ objects_in (all_of board.old.chunks.items) }
+    requires pairs { pairs
+        + objects_in (map (with_only (is_named counts.now)) (all_of board.old.chunks.items))
+        ≡ objects_in (all_of board.old.chunks.items) }
     requires ends { board.old.ends.items ≡ ends_of board.old.chunks.items }
-    ensures entries { all_of board.new.chunks.items ≡ filter (is_entry_kept time) (map (with_only (is_named counts.now)) (all_of board.old.chunks.items)) }
+    ensures entries { all_of board.new.chunks.items
+        ≡ filter (is_entry_kept time)
+        (map (with_only (is_named counts.now)) (all_of board.old.chunks.items)) }
     ensures filled { IsTrue (list_all is_filled board.new.chunks.items) }
-    ensures bounded { (n : ℕ) → AllByRecursion (IsBounded time n) board.old.chunks.items → AllByRecursion (IsBounded time n) board.new.chunks.items }
+    ensures bounded { (n : ℕ) → AllByRecursion (IsBounded time n) board.old.chunks.items
+        → AllByRecursion (IsBounded time n) board.new.chunks.items }
     ensures ends { board.new.ends.items ≡ ends_of board.new.chunks.items }
 {
     let chunk = hint.chunk as usize;
@@ -120,11 +136,18 @@ fn keep_named(
     chunk: usize,
     client: usize,
 ) -> u128
-    requires { pairs + objects_in (map (with_only (is_named counts.now)) (all_of chunks.old.items)) ≡ objects_in (all_of chunks.old.items) }
-    ensures same { map (with_only (is_named counts.now)) (all_of chunks.new.items) ≡ map (with_only (is_named counts.now)) (all_of chunks.old.items) }
-    ensures to_go { result + objects_in (map (with_only (is_named counts.now)) (all_of chunks.new.items)) ≡ objects_in (all_of chunks.new.items) }
-    ensures all { chunk ≡ 0 → client ≡ 0 → all_of chunks.new.items ≡ map (with_only (is_named counts.now)) (all_of chunks.old.items) }
-    ensures calm { (m n : ℕ) → AllByRecursion (IsCalmChunk m n) chunks.old.items → AllByRecursion (IsCalmChunk m n) chunks.new.items }
+    requires { pairs + objects_in (map (with_only (is_named counts.now)) (all_of chunks.old.items))
+        ≡ objects_in (all_of chunks.old.items) }
+    ensures same { map (with_only (is_named counts.now)) (all_of chunks.new.items)
+        ≡ map (with_only (is_named counts.now)) (all_of chunks.old.items) }
+    ensures to_go { result
+        + objects_in (map (with_only (is_named counts.now)) (all_of chunks.new.items))
+        ≡ objects_in (all_of chunks.new.items) }
+    ensures all { chunk ≡ 0 → client ≡ 0
+        → all_of chunks.new.items
+        ≡ map (with_only (is_named counts.now)) (all_of chunks.old.items) }
+    ensures calm { (m n : ℕ) → AllByRecursion (IsCalmChunk m n) chunks.old.items
+        → AllByRecursion (IsCalmChunk m n) chunks.new.items }
     ensures ends { ends_of chunks.new.items ≡ ends_of chunks.old.items }
 {
     let mut to_go = pairs;

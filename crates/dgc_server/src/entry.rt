@@ -164,11 +164,17 @@ impl ClientEntry {
         requires some { 1 ≤ lease }
         requires short { lease ≤ MAX_DURATION_MS }
         requires once { IsTrue (each_once self.old.objects) }
-        requires has { (o : ObjId) → is_in o call.now.objects.now ≡ true → has_count counts.old o ≡ true }
-        requires enough { (w : Way) (o : ObjId) → one_if (is_counted w from o self.old) ≤ counted_at w counts.old o }
+        requires has { (o : ObjId) → is_in o call.now.objects.now ≡ true
+            → has_count counts.old o ≡ true }
+        requires enough { (w : Way) (o : ObjId)
+            → one_if (is_counted w from o self.old) ≤ counted_at w counts.old o }
         requires few { (w : Way) (o : ObjId) → counted_at w counts.old o + 1 < 2 ^ 31 }
-        ensures ok { OnOk result (self.new ≡ entry_after lease call.now.kind call.now.number.now call.now.objects.now call.now.time self.old) }
-        ensures counts { OnOk result ((w : Way) (o : ObjId) → counted_at w counts.new o + one_if (is_counted w from o self.old)
+        ensures ok { OnOk result
+            (self.new ≡ entry_after lease call.now.kind call.now.number.now call.now.objects.now
+            call.now.time self.old) }
+        ensures counts { OnOk result
+            ((w : Way) (o : ObjId)
+            → counted_at w counts.new o + one_if (is_counted w from o self.old)
             ≡ counted_at w counts.old o + one_if (is_counted w from o self.new)) }
         ensures err { OnErr result (self.new ≡ self.old) }
         ensures same { OnErr result (counts.new ≡ counts.old) }

@@ -58,8 +58,10 @@ pub fn remembered_for_good(marks: &[Mark]) -> usize
 /// Sets the numbers of an object that is there. It takes no room.
 pub fn replace(marks: &mut Vec<Mark>, object: &ObjId, numbers: Packed)
     requires { has_object (object_entries marks.old.items) object.now ≡ true }
-    ensures objects { object_entries marks.new.items ≡ with_numbers object.now numbers (object_entries marks.old.items) }
-    ensures room { vec_capacity marks.old - length marks.old.items ≤ vec_capacity marks.new - length marks.new.items }
+    ensures objects { object_entries marks.new.items
+        ≡ with_numbers object.now numbers (object_entries marks.old.items) }
+    ensures room { vec_capacity marks.old - length marks.old.items
+        ≤ vec_capacity marks.new - length marks.new.items }
 {
     let place = place_of(marks, object);
     marks[place] = (*object, numbers);
@@ -69,27 +71,33 @@ pub fn replace(marks: &mut Vec<Mark>, object: &ObjId, numbers: Packed)
 pub fn add(marks: &mut Vec<Mark>, object: &ObjId, numbers: Packed)
     requires absent { has_object (object_entries marks.old.items) object.now ≡ false }
     requires room { length marks.old.items < vec_capacity marks.old }
-    ensures objects { object_entries marks.new.items ≡ with_numbers object.now numbers (object_entries marks.old.items) }
-    ensures room { vec_capacity marks.old - length marks.old.items ≤ vec_capacity marks.new - length marks.new.items + 1 }
+    ensures objects { object_entries marks.new.items
+        ≡ with_numbers object.now numbers (object_entries marks.old.items) }
+    ensures room { vec_capacity marks.old - length marks.old.items
+        ≤ vec_capacity marks.new - length marks.new.items + 1 }
 {
     marks.push_reserved((*object, numbers));
 }
 
 /// Forgets the numbers of a tenure, and the objects that have no others.
 pub fn forget_tenure(marks: &mut Vec<Mark>)
-    ensures objects { object_entries marks.new.items ≡ tenure_forgotten (object_entries marks.old.items) }
-    ensures room { vec_capacity marks.old - length marks.old.items ≤ vec_capacity marks.new - length marks.new.items }
+    ensures objects { object_entries marks.new.items
+        ≡ tenure_forgotten (object_entries marks.old.items) }
+    ensures room { vec_capacity marks.old - length marks.old.items
+        ≤ vec_capacity marks.new - length marks.new.items }
 {
     marks.retain_mut(
         |mark: &mut Mark| -> bool
-            ensures { (result ≡ is_some mark.old.1.strong) × (mark.new ≡ (mark.old.0, strong_part mark.old.1)) }
+            ensures { (result ≡ is_some mark.old.1.strong)
+                × (mark.new ≡ (mark.old.0, strong_part mark.old.1)) }
         { mark.1.end_tenure() },
     );
 }
 
 /// Keeps the objects but this one.
 pub fn keep_others(marks: &mut Vec<Mark>, object: &ObjId)
-    ensures { object_entries marks.new.items ≡ filter (λ x. not (same_id x.object object.now)) (object_entries marks.old.items) }
+    ensures { object_entries marks.new.items
+        ≡ filter (λ x. not (same_id x.object object.now)) (object_entries marks.old.items) }
 {
     marks.retain(
         |mark: &Mark| -> bool
@@ -100,7 +108,8 @@ pub fn keep_others(marks: &mut Vec<Mark>, object: &ObjId)
 
 /// Keeps the objects that some client names, as the counts say.
 pub fn keep_named(marks: &mut Vec<Mark>, counts: &Counts)
-    ensures { object_entries marks.new.items ≡ filter (λ x. is_named counts.now x.object) (object_entries marks.old.items) }
+    ensures { object_entries marks.new.items
+        ≡ filter (λ x. is_named counts.now x.object) (object_entries marks.old.items) }
 {
     marks.retain(
         |mark: &Mark| -> bool

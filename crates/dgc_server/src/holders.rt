@@ -99,7 +99,8 @@ pub fn touch(counts: &mut Counts, object: &ObjId) -> Result<(), AllocError>
 /// Sets the count of an object that has one. It takes no memory.
 fn put(counts: &mut Counts, object: &ObjId, count: Count)
     requires { has_count counts.old object.now ≡ true }
-    ensures value { (o : ObjId) → count_at counts.new o ≡ (if same_id object.now o then count else count_at counts.old o) }
+    ensures value { (o : ObjId)
+        → count_at counts.new o ≡ (if same_id object.now o then count else count_at counts.old o) }
     ensures kept { (o : ObjId) → has_count counts.old o ≡ true → has_count counts.new o ≡ true }
 {
     match counts.insert(*object, count) {
@@ -162,8 +163,10 @@ fn is_any(share: Share) -> bool
 /// Takes a client's share out of the count of an object.
 pub fn lower(counts: &mut Counts, object: &ObjId, share: Share)
     requires { (w : Way) → one_if (share_by w share) ≤ counted_at w counts.old object.now }
-    ensures counts { (w : Way) (o : ObjId) →
-        counted_at w counts.new o + (if share_by w share then one_if (same_id object.now o) else 0) ≡ counted_at w counts.old o }
+    ensures counts { (w : Way) (o : ObjId)
+        → counted_at w counts.new o
+        + (if share_by w share then one_if (same_id object.now o) else 0)
+        ≡ counted_at w counts.old o }
     ensures kept { (o : ObjId) → has_count counts.old o ≡ true → has_count counts.new o ≡ true }
 {
     if is_any(share) {
@@ -177,8 +180,11 @@ pub fn shift(counts: &mut Counts, object: &ObjId, before: Share, after: Share, h
     requires has { has_count counts.old object.now ≡ true }
     requires enough { (w : Way) → one_if (share_by w before) ≤ counted_at w counts.old object.now }
     requires few { (w : Way) → counted_at w counts.old object.now ≤ 2 ^ 31 }
-    ensures counts { (w : Way) (o : ObjId) → counted_at w counts.new o + (if share_by w before then one_if (same_id object.now o) else 0)
-        ≡ counted_at w counts.old o + (if share_by w after then one_if (same_id object.now o) else 0) }
+    ensures counts { (w : Way) (o : ObjId)
+        → counted_at w counts.new o
+        + (if share_by w before then one_if (same_id object.now o) else 0)
+        ≡ counted_at w counts.old o
+        + (if share_by w after then one_if (same_id object.now o) else 0) }
     ensures kept { (o : ObjId) → has_count counts.old o ≡ true → has_count counts.new o ≡ true }
 {
     let count = count_of(counts, object);
@@ -199,8 +205,10 @@ fn lost_share(numbers: &Packed, held: bool) -> Share
 /// The tenure of a client that has these numbers of an object is forgotten.
 fn release_one(counts: &mut Counts, object: &ObjId, numbers: &Packed, held: bool)
     requires { (w : Way) → one_if (loses w held numbers.now) ≤ counted_at w counts.old object.now }
-    ensures counts { (w : Way) (o : ObjId) →
-        counted_at w counts.new o + (if loses w held numbers.now then one_if (same_id object.now o) else 0) ≡ counted_at w counts.old o }
+    ensures counts { (w : Way) (o : ObjId)
+        → counted_at w counts.new o
+        + (if loses w held numbers.now then one_if (same_id object.now o) else 0)
+        ≡ counted_at w counts.old o }
     ensures kept { (o : ObjId) → has_count counts.old o ≡ true → has_count counts.new o ≡ true }
 {
     lower(counts, object, lost_share(numbers, held));
@@ -209,9 +217,13 @@ fn release_one(counts: &mut Counts, object: &ObjId, numbers: &Packed, held: bool
 /// The tenure of a client of which these objects are kept is forgotten, and it was counted as a holder or not. It takes no memory.
 pub fn release(counts: &mut Counts, objects: &Marks, held: bool)
     requires once { IsTrue (each_once (object_entries objects.now.entries)) }
-    requires enough { (w : Way) (o : ObjId) → one_if (has_with (loses w held) (object_entries objects.now.entries) o) ≤ counted_at w counts.old o }
-    ensures counts { (w : Way) (o : ObjId) →
-        counted_at w counts.new o + one_if (has_with (loses w held) (object_entries objects.now.entries) o) ≡ counted_at w counts.old o }
+    requires enough { (w : Way) (o : ObjId)
+        → one_if (has_with (loses w held) (object_entries objects.now.entries) o)
+        ≤ counted_at w counts.old o }
+    ensures counts { (w : Way) (o : ObjId)
+        → counted_at w counts.new o
+        + one_if (has_with (loses w held) (object_entries objects.now.entries) o)
+        ≡ counted_at w counts.old o }
     ensures kept { (o : ObjId) → has_count counts.old o ≡ true → has_count counts.new o ≡ true }
 {
     for (object, numbers) in objects.iter() {
@@ -222,7 +234,8 @@ pub fn release(counts: &mut Counts, objects: &Marks, held: bool)
 /// Makes a place for the count of each of these objects. No count changes, also where there is no memory.
 pub fn touch_all(counts: &mut Counts, objects: &[ObjId]) -> Result<(), AllocError>
     ensures same { (w : Way) (o : ObjId) → counted_at w counts.new o ≡ counted_at w counts.old o }
-    ensures ok { OnOk result ((o : ObjId) → is_in o objects.now ≡ true → has_count counts.new o ≡ true) }
+    ensures ok { OnOk result
+        ((o : ObjId) → is_in o objects.now ≡ true → has_count counts.new o ≡ true) }
 {
     for object in objects {
         touch(counts, object)?;
@@ -234,8 +247,10 @@ pub fn touch_all(counts: &mut Counts, objects: &[ObjId]) -> Result<(), AllocErro
 fn release_over(counts: &mut Counts, entry: &ClientEntry, from: u64, to: u64)
     requires later { from ≤ to }
     requires once { IsTrue (each_once entry.now.objects) }
-    requires enough { (w : Way) (o : ObjId) → one_if (is_counted w from o entry.now) ≤ counted_at w counts.old o }
-    ensures counts { (w : Way) (o : ObjId) → counted_at w counts.new o + one_if (is_counted w from o entry.now)
+    requires enough { (w : Way) (o : ObjId)
+        → one_if (is_counted w from o entry.now) ≤ counted_at w counts.old o }
+    ensures counts { (w : Way) (o : ObjId)
+        → counted_at w counts.new o + one_if (is_counted w from o entry.now)
         ≡ counted_at w counts.old o + one_if (is_counted w to o (entry_after_lapse to entry.now)) }
     ensures kept { (o : ObjId) → has_count counts.old o ≡ true → has_count counts.new o ≡ true }
 {
@@ -259,15 +274,19 @@ pub fn end_tenure(
     requires later { from ≤ to }
     requires once { IsTrue (each_once entry.old.objects) }
     requires numbered { IsTrue (each_has_number entry.old.objects) }
-    requires enough { (w : Way) (o : ObjId) → one_if (is_counted w from o entry.old) ≤ counted_at w counts.old o }
+    requires enough { (w : Way) (o : ObjId)
+        → one_if (is_counted w from o entry.old) ≤ counted_at w counts.old o }
     requires leased { one_if (has_time_left from entry.old) ≤ sums.leased }
     requires pairs { remembered_of from entry.old ≤ sums.pairs }
     requires few { (sums.leased ≤ 2 ^ 17) × (sums.pairs ≤ 2 ^ 65) }
     ensures entry { entry.new ≡ entry_after_lapse to entry.old }
-    ensures counts { (w : Way) (o : ObjId) → counted_at w counts.new o + one_if (is_counted w from o entry.old)
+    ensures counts { (w : Way) (o : ObjId)
+        → counted_at w counts.new o + one_if (is_counted w from o entry.old)
         ≡ counted_at w counts.old o + one_if (is_counted w to o (entry_after_lapse to entry.old)) }
-    ensures leased { result.leased + one_if (has_time_left from entry.old) ≡ sums.leased + one_if (has_time_left to (entry_after_lapse to entry.old)) }
-    ensures pairs { result.pairs + remembered_of from entry.old ≡ sums.pairs + remembered_of to (entry_after_lapse to entry.old) }
+    ensures leased { result.leased + one_if (has_time_left from entry.old)
+        ≡ sums.leased + one_if (has_time_left to (entry_after_lapse to entry.old)) }
+    ensures pairs { result.pairs + remembered_of from entry.old
+        ≡ sums.pairs + remembered_of to (entry_after_lapse to entry.old) }
 {
     let before = table::sums_of(entry, from);
     release_over(counts, entry, from, to);
@@ -285,7 +304,9 @@ pub struct Gone {
 
 /// Nobody holds or names these objects any more. Answers how many pairs went. It takes no memory.
 pub fn forget_all(counts: &mut Counts, objects: &[ObjId]) -> Gone
-    ensures counts { (w : Way) (o : ObjId) → counted_at w counts.new o ≡ (if is_in o objects.now then 0 else counted_at w counts.old o) }
+    ensures counts { (w : Way) (o : ObjId)
+        → counted_at w counts.new o
+        ≡ (if is_in o objects.now then 0 else counted_at w counts.old o) }
     ensures pairs { result.pairs ≡ total_of (counted_at Naming counts.old) objects.now }
 {
     let mut pairs: u128 = 0;
@@ -305,7 +326,9 @@ fn first_hint(pairs: u128, hint: ClientHint, count: &Count) -> ClientHint {
 
 /// Nobody holds or names an object any more. Answers what was counted of it.
 fn take_out(counts: &mut Counts, object: &ObjId) -> Count
-    ensures counts { (w : Way) (o : ObjId) → counted_at w counts.new o ≡ (if same_id object.now o then 0 else counted_at w counts.old o) }
+    ensures counts { (w : Way) (o : ObjId)
+        → counted_at w counts.new o
+        ≡ (if same_id object.now o then 0 else counted_at w counts.old o) }
     ensures value { result ≡ count_at counts.old object.now }
 {
     let count = count_of(counts, object);
@@ -322,7 +345,9 @@ pub fn is_named(counts: &Counts, object: &ObjId) -> bool
 
 /// Nobody holds or names an object any more. It takes no memory.
 pub fn forget(counts: &mut Counts, object: &ObjId)
-    ensures { (w : Way) (o : ObjId) → counted_at w counts.new o ≡ (if same_id object.now o then 0 else counted_at w counts.old o) }
+    ensures { (w : Way) (o : ObjId)
+        → counted_at w counts.new o
+        ≡ (if same_id object.now o then 0 else counted_at w counts.old o) }
 {
     counts.swap_remove(object);
 }

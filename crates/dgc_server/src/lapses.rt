@@ -59,11 +59,14 @@ fn pass_entries(chunk: &mut Chunk, counts: &mut Counts, sums: Sums, from: u64, t
     requires early { to < END_OF_TIME }
     requires once { IsTrue (list_all (λ e. each_once e.objects) chunk.old.entries.items) }
     requires numbered { IsTrue (list_all (λ e. each_has_number e.objects) chunk.old.entries.items) }
-    requires enough { (k : Tally) → tally_in k from chunk.old.entries.items ≤ tally_at k counts.old sums }
+    requires enough { (k : Tally)
+        → tally_in k from chunk.old.entries.items ≤ tally_at k counts.old sums }
     requires few { (sums.leased ≤ 2 ^ 17) × (sums.pairs ≤ 2 ^ 65) }
     ensures entries { chunk.new.entries.items ≡ map (entry_after_lapse to) chunk.old.entries.items }
-    ensures tallies { (k : Tally) → tally_at k counts.new result.sums + tally_in k from chunk.old.entries.items
-        ≡ tally_at k counts.old sums + tally_in k to (map (entry_after_lapse to) chunk.old.entries.items) }
+    ensures tallies { (k : Tally)
+        → tally_at k counts.new result.sums + tally_in k from chunk.old.entries.items
+        ≡ tally_at k counts.old sums
+        + tally_in k to (map (entry_after_lapse to) chunk.old.entries.items) }
     ensures few { (result.sums.leased ≤ 2 ^ 17) × (result.sums.pairs ≤ 2 ^ 65) }
     ensures ends { IsTrue (list_all (ends_later to result.next) chunk.old.entries.items) }
     ensures later { to < result.next }
@@ -78,11 +81,14 @@ fn pass_chunk(chunk: &mut Chunk, counts: &mut Counts, sums: Sums, from: u64, to:
     requires early { to < END_OF_TIME }
     requires once { IsTrue (list_all (λ e. each_once e.objects) chunk.old.entries.items) }
     requires numbered { IsTrue (list_all (λ e. each_has_number e.objects) chunk.old.entries.items) }
-    requires enough { (k : Tally) → tally_in k from chunk.old.entries.items ≤ tally_at k counts.old sums }
+    requires enough { (k : Tally)
+        → tally_in k from chunk.old.entries.items ≤ tally_at k counts.old sums }
     requires few { (sums.leased ≤ 2 ^ 17) × (sums.pairs ≤ 2 ^ 65) }
     ensures entries { chunk.new.entries.items ≡ after_lapse to chunk.old.entries.items }
-    ensures tallies { (k : Tally) → tally_at k counts.new result + tally_in k from chunk.old.entries.items
-        ≡ tally_at k counts.old sums + tally_in k to (map (entry_after_lapse to) chunk.old.entries.items) }
+    ensures tallies { (k : Tally)
+        → tally_at k counts.new result + tally_in k from chunk.old.entries.items
+        ≡ tally_at k counts.old sums
+        + tally_in k to (map (entry_after_lapse to) chunk.old.entries.items) }
     ensures few { (result.leased ≤ 2 ^ 17) × (result.pairs ≤ 2 ^ 65) }
     ensures bounded { IsBounded to (to + 1) chunk.new }
 {
@@ -98,13 +104,18 @@ pub fn pass_all(board: &mut Board, counts: &mut Counts, sums: Sums, from: u64, t
     requires later { from ≤ to }
     requires early { to < END_OF_TIME }
     requires once { IsTrue (list_all (λ e. each_once e.objects) (all_of board.old.chunks.items)) }
-    requires numbered { IsTrue (list_all (λ e. each_has_number e.objects) (all_of board.old.chunks.items)) }
-    requires tallies { (k : Tally) → tally_at k counts.old sums ≡ tally_in k from (all_of board.old.chunks.items) }
+    requires numbered { IsTrue
+        (list_all (λ e. each_has_number e.objects) (all_of board.old.chunks.items)) }
+    requires tallies { (k : Tally)
+        → tally_at k counts.old sums ≡ tally_in k from (all_of board.old.chunks.items) }
     requires few { (sums.leased ≤ 2 ^ 17) × (sums.pairs ≤ 2 ^ 65) }
     requires bounded { AllByRecursion (IsBounded from 0) board.old.chunks.items }
     requires ends { board.old.ends.items ≡ ends_of board.old.chunks.items }
-    ensures entries { all_of board.new.chunks.items ≡ after_lapse to (all_of board.old.chunks.items) }
-    ensures tallies { (k : Tally) → tally_at k counts.new result.sums ≡ tally_in k to (map (entry_after_lapse to) (all_of board.old.chunks.items)) }
+    ensures entries { all_of board.new.chunks.items
+        ≡ after_lapse to (all_of board.old.chunks.items) }
+    ensures tallies { (k : Tally)
+        → tally_at k counts.new result.sums
+        ≡ tally_in k to (map (entry_after_lapse to) (all_of board.old.chunks.items)) }
     ensures later { to < result.next }
     ensures bounded { AllByRecursion (IsBounded to result.next) board.new.chunks.items }
     ensures ends { board.new.ends.items ≡ ends_of board.new.chunks.items }

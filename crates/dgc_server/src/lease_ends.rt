@@ -16,7 +16,9 @@ use std::alloc::{AllocError, Global};
 
 /// Appends an object, if by these numbers a client holds it.
 fn append_one(freed: &mut Vec<ObjId>, object: &ObjId, numbers: &Packed) -> Result<(), AllocError>
-    ensures { OnOk result (freed.new.items ≡ freed.old.items ++ (if is_dirty_highest numbers.now then object.now ∷ [] else [])) }
+    ensures { OnOk result
+        (freed.new.items
+        ≡ freed.old.items ++ (if is_dirty_highest numbers.now then object.now ∷ [] else [])) }
 {
     if numbers.is_dirty_highest() {
         freed.push(*object)?;
@@ -26,7 +28,8 @@ fn append_one(freed: &mut Vec<ObjId>, object: &ObjId, numbers: &Packed) -> Resul
 
 /// Appends those of a client's objects of which the highest call is a dirty.
 fn append_objects(freed: &mut Vec<ObjId>, objects: &Marks) -> Result<(), AllocError>
-    ensures { OnOk result (freed.new.items ≡ freed.old.items ++ dirty_objects (object_entries objects.now.entries)) }
+    ensures { OnOk result
+        (freed.new.items ≡ freed.old.items ++ dirty_objects (object_entries objects.now.entries)) }
 {
     for (object, numbers) in objects.iter() {
         append_one(freed, object, numbers)?;
@@ -56,7 +59,8 @@ fn append_all(
     from: u64,
     to: u64,
 ) -> Result<(), AllocError>
-    ensures { OnOk result (freed.new.items ≡ freed.old.items ++ flat_map (freed_of from to) entries.now) }
+    ensures { OnOk result
+        (freed.new.items ≡ freed.old.items ++ flat_map (freed_of from to) entries.now) }
 {
     for entry in entries {
         append_of(freed, entry, from, to)?;
@@ -68,7 +72,8 @@ fn append_all(
 /// which a lease may end by then; where nothing is due it looks at no client and takes no memory.
 pub fn freed_objects(alloc: Global, clients: &Clients, to: u64) -> Result<Vec<ObjId>, AllocError>
     requires { clients.now.moment ≤ to }
-    ensures { IfOk result (λ os. os.items ≡ flat_map (freed_of clients.now.moment to) clients.now.entries) }
+    ensures { IfOk result
+        (λ os. os.items ≡ flat_map (freed_of clients.now.moment to) clients.now.entries) }
 {
     freed_in(alloc, clients.board(), clients.next(), clients.moment(), to)
 }
@@ -83,7 +88,8 @@ fn freed_in(
 ) -> Result<Vec<ObjId>, AllocError>
     requires later { from ≤ to }
     requires board { IsBoard from next board.now }
-    ensures { IfOk result (λ os. os.items ≡ flat_map (freed_of from to) (all_of board.now.chunks.items)) }
+    ensures { IfOk result
+        (λ os. os.items ≡ flat_map (freed_of from to) (all_of board.now.chunks.items)) }
 {
     let mut freed = Vec::new(alloc);
     if to < next {

@@ -89,10 +89,13 @@ impl Model for Leases {
 
     ghost Value = { LeaseTable };
 
-    ghost view = { λ a. record { lease = a.lease; moment = a.clients.moment; entries = a.clients.entries } };
+    ghost view = { λ a.
+        record { lease = a.lease; moment = a.clients.moment; entries = a.clients.entries } };
 
-    ghost invariant = { λ a. IsSound a.lease a.clients.moment a.clients.entries × IsIndexed a.clients.moment a.clients.next a.counts a.clients.entries
-        × (a.sums ≡ sums_at a.clients.moment a.clients.entries) × (a.clients.moment < a.clients.next) };
+    ghost invariant = { λ a. IsSound a.lease a.clients.moment a.clients.entries
+        × IsIndexed a.clients.moment a.clients.next a.counts a.clients.entries
+        × (a.sums ≡ sums_at a.clients.moment a.clients.entries)
+        × (a.clients.moment < a.clients.next) };
 }
 
 impl Leases {
@@ -119,7 +122,8 @@ impl Leases {
     pub fn lapse(&mut self, now: u64)
         requires { now < END_OF_TIME }
         ensures freed { IsTrimmed self.new }
-        ensures stands { ForEachLog self.old (λ lease moment calls. StandsFor lease self.new (max now moment) calls) }
+        ensures stands { ForEachLog self.old
+            (λ lease moment calls. StandsFor lease self.new (max now moment) calls) }
     {
         let moment = self.clients.moment();
         let time = now.max(moment);
@@ -141,18 +145,23 @@ impl Leases {
         now: u64,
     ) -> Result<u64, LeaseFault>
         requires { now < END_OF_TIME }
-        ensures ok { OnOk result (ForEachLog self.old (λ lease moment calls. let time = max now moment in
-            StandsFor lease self.new time (dirty_call time client.now number asked objects.now ∷ calls))) }
+        ensures ok { OnOk result
+            (ForEachLog self.old (λ lease moment calls. let time = max now moment in
+            StandsFor lease self.new time
+            (dirty_call time client.now number asked objects.now ∷ calls))) }
         ensures freed { OnOk result (IsTrimmed self.new) }
-        ensures granted { IfOk result (λ granted. ForEachLog self.old (λ lease moment calls. granted ≡ grant lease asked)) }
+        ensures granted { IfOk result
+            (λ granted. ForEachLog self.old (λ lease moment calls. granted ≡ grant lease asked)) }
 
         // Clients is tested first.
         ensures clients { ForEachLog self.old (λ lease moment calls.
-            (result ≡ Err LeaseFault.Clients) ↔ (MAX_CLIENTS < clients_with_call lease (max now moment) calls client.now)) }
+            (result ≡ Err LeaseFault.Clients)
+            ↔ (MAX_CLIENTS < clients_with_call lease (max now moment) calls client.now)) }
         ensures pairs { ForEachLog self.old (λ lease moment calls.
             let x = dirty_call (max now moment) client.now number asked objects.now in
             (result ≡ Err LeaseFault.Pairs)
-            ↔ ((clients_with_call lease (max now moment) calls client.now ≤ MAX_CLIENTS) × (MAX_PAIRS < pairs_with_call lease calls x))) }
+            ↔ ((clients_with_call lease (max now moment) calls client.now ≤ MAX_CLIENTS)
+            × (MAX_PAIRS < pairs_with_call lease calls x))) }
         ensures err { OnErr result (self.new ≡ self.old) }
     {
         let granted = grant(self.lease, asked);
@@ -176,8 +185,10 @@ impl Leases {
         now: u64,
     ) -> Result<(), LeaseFault>
         requires { now < END_OF_TIME }
-        ensures ok { OnOk result (ForEachLog self.old (λ lease moment calls. let time = max now moment in
-            StandsFor lease self.new time (clean_call time client.now number objects.now strong ∷ calls))) }
+        ensures ok { OnOk result
+            (ForEachLog self.old (λ lease moment calls. let time = max now moment in
+            StandsFor lease self.new time
+            (clean_call time client.now number objects.now strong ∷ calls))) }
         ensures freed { OnOk result (IsTrimmed self.new) }
         ensures clients { result ≢ Err LeaseFault.Clients }
         ensures pairs { ForEachLog self.old (λ lease moment calls.
@@ -194,7 +205,8 @@ impl Leases {
     /// True where some client holds an object at this moment. A moment before the greatest one is read as the
     /// greatest.
     pub fn is_held(&self, object: ObjId, now: u64) -> bool
-        ensures { ForEachLog self.now (λ lease moment calls. result ≡ is_held lease (max now moment) calls object) }
+        ensures { ForEachLog self.now
+            (λ lease moment calls. result ≡ is_held lease (max now moment) calls object) }
     {
         let time = self.time(now);
         if time < self.clients.next() {
@@ -207,9 +219,14 @@ impl Leases {
     /// Objects that clients hold at the greatest moment so far: at least those that none holds any more once time has passed to `now`, in no order.
     /// Where no lease ends by then it looks at no client and takes no memory.
     pub fn freed_objects(&self, alloc: Global, now: u64) -> Result<Vec<ObjId>, AllocError>
-        ensures whole { IfOk result (λ os. ForEachLog self.now (λ lease moment calls. (o : ObjId) → is_held lease moment calls o ≡ true
-            → is_held lease (max now moment) calls o ≡ false → list_any (same_id o) os.items ≡ true)) }
-        ensures held { IfOk result (λ os. ForEachLog self.now (λ lease moment calls. (o : ObjId) → list_any (same_id o) os.items ≡ true
+        ensures whole { IfOk result
+            (λ os. ForEachLog self.now
+            (λ lease moment calls. (o : ObjId) → is_held lease moment calls o ≡ true
+            → is_held lease (max now moment) calls o ≡ false
+            → list_any (same_id o) os.items ≡ true)) }
+        ensures held { IfOk result
+            (λ os. ForEachLog self.now
+            (λ lease moment calls. (o : ObjId) → list_any (same_id o) os.items ≡ true
             → is_held lease moment calls o ≡ true)) }
     {
         lease_ends::freed_objects(alloc, &self.clients, self.time(now))
@@ -218,7 +235,9 @@ impl Leases {
     /// True where a lease may end as time passes to `now`. Where none may, each object that a client holds at the greatest moment so far is held then, too.
     /// It looks at no client and takes no memory.
     pub fn is_due(&self, now: u64) -> bool
-        ensures { result ≡ false → ForEachLog self.now (λ lease moment calls. (o : ObjId) → is_held lease moment calls o ≡ true
+        ensures { result ≡ false
+            → ForEachLog self.now
+            (λ lease moment calls. (o : ObjId) → is_held lease moment calls o ≡ true
             → is_held lease (max now moment) calls o ≡ true) }
     {
         let time = self.time(now);

@@ -101,8 +101,10 @@ fn append(map: &mut MarkMap, marks: &[Mark])
 /// Sets the numbers of an object, for which there is room.
 pub fn put(marks: &mut MarkMap, object: &ObjId, numbers: Packed)
     requires { 0 < spare marks.old }
-    ensures entries { marks.new.entries ≡ insert_entry same_key marks.old.entries object.now numbers }
-    ensures objects { object_entries marks.new.entries ≡ with_numbers object.now numbers (object_entries marks.old.entries) }
+    ensures entries { marks.new.entries
+        ≡ insert_entry same_key marks.old.entries object.now numbers }
+    ensures objects { object_entries marks.new.entries
+        ≡ with_numbers object.now numbers (object_entries marks.old.entries) }
     ensures room { spare marks.old ≤ spare marks.new + 1 }
 {
     match marks.insert(*object, numbers) {
@@ -114,7 +116,8 @@ pub fn put(marks: &mut MarkMap, object: &ObjId, numbers: Packed)
 /// Sets the numbers of an object that is there. It takes no room.
 pub fn replace(marks: &mut MarkMap, object: &ObjId, numbers: Packed)
     requires { has_object (object_entries marks.old.entries) object.now ≡ true }
-    ensures objects { object_entries marks.new.entries ≡ with_numbers object.now numbers (object_entries marks.old.entries) }
+    ensures objects { object_entries marks.new.entries
+        ≡ with_numbers object.now numbers (object_entries marks.old.entries) }
     ensures room { spare marks.old ≤ spare marks.new }
 {
     if let Some(kept) = marks.get_mut(object) {
@@ -124,12 +127,14 @@ pub fn replace(marks: &mut MarkMap, object: &ObjId, numbers: Packed)
 
 /// Forgets the numbers of a tenure, and the objects that have no others.
 pub fn forget_tenure(marks: &mut MarkMap)
-    ensures objects { object_entries marks.new.entries ≡ tenure_forgotten (object_entries marks.old.entries) }
+    ensures objects { object_entries marks.new.entries
+        ≡ tenure_forgotten (object_entries marks.old.entries) }
     ensures room { spare marks.old ≤ spare marks.new }
 {
     marks.retain(
         |_object: &ObjId, numbers: &mut Packed| -> bool
-            ensures { (result ≡ is_some numbers.old.strong) × (numbers.new ≡ strong_part numbers.old) }
+            ensures { (result ≡ is_some numbers.old.strong)
+                × (numbers.new ≡ strong_part numbers.old) }
         { numbers.end_tenure() },
     );
 }
@@ -137,18 +142,21 @@ pub fn forget_tenure(marks: &mut MarkMap)
 /// Forgets the numbers of an object, which is looked up. Those behind it move to the front by one place, and the map's table notes the new
 /// place of each where it keeps the old one: none of them is looked up.
 pub fn forget_object(marks: &mut MarkMap, object: &ObjId)
-    ensures { object_entries marks.new.entries ≡ filter (λ x. not (same_id x.object object.now)) (object_entries marks.old.entries) }
+    ensures { object_entries marks.new.entries
+        ≡ filter (λ x. not (same_id x.object object.now)) (object_entries marks.old.entries) }
 {
     marks.shift_remove(object);
 }
 
 /// Keeps the objects that some client names, as the counts say.
 pub fn keep_named(marks: &mut MarkMap, counts: &Counts)
-    ensures { object_entries marks.new.entries ≡ filter (λ x. is_named counts.now x.object) (object_entries marks.old.entries) }
+    ensures { object_entries marks.new.entries
+        ≡ filter (λ x. is_named counts.now x.object) (object_entries marks.old.entries) }
 {
     marks.retain(
         |object: &ObjId, numbers: &mut Packed| -> bool
-            ensures { (result ≡ is_named counts.entry.now object.now) × (numbers.new ≡ numbers.old) }
+            ensures { (result ≡ is_named counts.entry.now object.now)
+                × (numbers.new ≡ numbers.old) }
         { holders::is_named(counts, object) },
     );
 }

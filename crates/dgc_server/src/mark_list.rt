@@ -107,7 +107,9 @@ impl Marks {
 
     /// The number of objects that make a remembered pair without time left.
     pub fn remembered_for_good(&self) -> usize
-        ensures { result ≡ length (filter (λ x. is_remembered false x.numbers) (object_entries self.now.entries)) }
+        ensures { result
+            ≡ length (filter (λ x. is_remembered false x.numbers)
+            (object_entries self.now.entries)) }
     {
         match &self.held {
             Held::Few(list) => few_marks::remembered_for_good(list),
@@ -165,7 +167,8 @@ impl Marks {
     /// Sets the numbers of an object that is there. It takes no room.
     pub fn replace(&mut self, object: &ObjId, numbers: &Numbers)
         requires { has_object (object_entries self.old.entries) object.now ≡ true }
-        ensures objects { object_entries self.new.entries ≡ with_numbers object.now numbers.now (object_entries self.old.entries) }
+        ensures objects { object_entries self.new.entries
+            ≡ with_numbers object.now numbers.now (object_entries self.old.entries) }
         ensures room { self.old.room ≤ self.new.room }
     {
         let packed = Packed::of(numbers);
@@ -179,7 +182,8 @@ impl Marks {
     pub fn add(&mut self, object: &ObjId, numbers: &Numbers)
         requires absent { has_object (object_entries self.old.entries) object.now ≡ false }
         requires room { 0 < self.old.room }
-        ensures objects { object_entries self.new.entries ≡ with_numbers object.now numbers.now (object_entries self.old.entries) }
+        ensures objects { object_entries self.new.entries
+            ≡ with_numbers object.now numbers.now (object_entries self.old.entries) }
         ensures room { self.old.room ≤ self.new.room + 1 }
     {
         let packed = Packed::of(numbers);
@@ -191,7 +195,8 @@ impl Marks {
 
     /// Forgets the numbers of a tenure, and the objects that have no others. It takes no memory.
     pub fn forget_tenure(&mut self)
-        ensures objects { object_entries self.new.entries ≡ tenure_forgotten (object_entries self.old.entries) }
+        ensures objects { object_entries self.new.entries
+            ≡ tenure_forgotten (object_entries self.old.entries) }
         ensures room { self.old.room ≤ self.new.room }
     {
         match &mut self.held {
@@ -202,7 +207,8 @@ impl Marks {
 
     /// Forgets the numbers of an object. It takes no memory.
     pub fn forget_object(&mut self, object: &ObjId)
-        ensures { object_entries self.new.entries ≡ filter (λ x. not (same_id x.object object.now)) (object_entries self.old.entries) }
+        ensures { object_entries self.new.entries
+            ≡ filter (λ x. not (same_id x.object object.now)) (object_entries self.old.entries) }
     {
         match &mut self.held {
             Held::Few(list) => few_marks::keep_others(list, object),
@@ -212,7 +218,8 @@ impl Marks {
 
     /// Keeps the objects that some client names, as the counts say. It takes no memory.
     pub fn keep_named(&mut self, counts: &Counts)
-        ensures { object_entries self.new.entries ≡ filter (λ x. is_named counts.now x.object) (object_entries self.old.entries) }
+        ensures { object_entries self.new.entries
+            ≡ filter (λ x. is_named counts.now x.object) (object_entries self.old.entries) }
     {
         match &mut self.held {
             Held::Few(list) => few_marks::keep_named(list, counts),

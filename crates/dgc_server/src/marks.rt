@@ -23,7 +23,8 @@ const MAX_COUNTED_WITHOUT_MEMORY: usize = 16;
 /// The number of objects that make a remembered pair, where the client has time left or has not: if it has, all.
 pub fn remembered_in(objects: &Marks, left: bool) -> usize
     requires { IsTrue (each_has_number (object_entries objects.now.entries)) }
-    ensures { result ≡ length (filter (λ x. is_remembered left x.numbers) (object_entries objects.now.entries)) }
+    ensures { result
+        ≡ length (filter (λ x. is_remembered left x.numbers) (object_entries objects.now.entries)) }
 {
     if left {
         objects.len()
@@ -83,7 +84,8 @@ fn fresh_with_memory(
     named: &[ObjId],
     left: bool,
 ) -> Result<usize, AllocError>
-    ensures { IfOk result (λ count. count ≡ fresh_in left (object_entries objects.now.entries) named.now) }
+    ensures { IfOk result
+        (λ count. count ≡ fresh_in left (object_entries objects.now.entries) named.now) }
 {
     let mut seen = IndexSet::new(alloc);
     let mut count = 0;
@@ -105,8 +107,11 @@ fn is_first(
     left: bool,
 ) -> Result<bool, AllocError>
     ensures value { let numbers = numbers_of (object_entries objects.now.entries) object.now in
-        IfOk result (λ first. first ≡ (not (contains same_key seen.old object.now) && not (is_remembered left numbers))) }
-    ensures seen { OnOk result ((o : ObjId) → contains same_key seen.new o ≡ cond (same_key object.now o) true (contains same_key seen.old o)) }
+        IfOk result (λ first. first
+        ≡ (not (contains same_key seen.old object.now) && not (is_remembered left numbers))) }
+    ensures seen { OnOk result
+        ((o : ObjId) → contains same_key seen.new o
+        ≡ cond (same_key object.now o) true (contains same_key seen.old o)) }
 {
     let is_new = seen.insert(*object)?;
     Ok(is_new && !objects.numbers_of(object).is_remembered(left))
@@ -114,7 +119,9 @@ fn is_first(
 
 /// Forgets the numbers of a tenure that is over, if this is so. It takes no memory.
 pub fn lapse(objects: &mut Marks, is_over: bool)
-    ensures { object_entries objects.new.entries ≡ (if is_over then tenure_forgotten (object_entries objects.old.entries) else object_entries objects.old.entries) }
+    ensures { object_entries objects.new.entries
+        ≡ (if is_over then tenure_forgotten (object_entries objects.old.entries)
+        else object_entries objects.old.entries) }
 {
     if is_over {
         objects.forget_tenure();
@@ -123,8 +130,10 @@ pub fn lapse(objects: &mut Marks, is_over: bool)
 
 /// Keeps the objects that some client names, as the counts say, and answers how many went. It takes no memory.
 pub fn keep_named(objects: &mut Marks, counts: &Counts) -> usize
-    ensures objects { object_entries objects.new.entries ≡ filter (λ x. is_named counts.now x.object) (object_entries objects.old.entries) }
-    ensures gone { result + length (object_entries objects.new.entries) ≡ length (object_entries objects.old.entries) }
+    ensures objects { object_entries objects.new.entries
+        ≡ filter (λ x. is_named counts.now x.object) (object_entries objects.old.entries) }
+    ensures gone { result + length (object_entries objects.new.entries)
+        ≡ length (object_entries objects.old.entries) }
 {
     let before = objects.len();
     objects.keep_named(counts);
@@ -137,9 +146,12 @@ pub fn keep_named(objects: &mut Marks, counts: &Counts) -> usize
 pub fn make_room(objects: &mut Marks, named: &[ObjId], left: bool) -> Result<(), AllocError>
     requires { IsTrue (each_once (object_entries objects.old.entries)) }
     ensures entries { objects.new.entries ≡ objects.old.entries }
-    ensures room { OnOk result (room_for left (object_entries objects.new.entries) named.now ≤ objects.new.room) }
-    ensures fits { room_for left (object_entries objects.old.entries) named.now ≤ objects.old.room → IsOk result }
-    ensures same { room_for left (object_entries objects.old.entries) named.now ≤ objects.old.room → objects.new ≡ objects.old }
+    ensures room { OnOk result
+        (room_for left (object_entries objects.new.entries) named.now ≤ objects.new.room) }
+    ensures fits { room_for left (object_entries objects.old.entries) named.now ≤ objects.old.room
+        → IsOk result }
+    ensures same { room_for left (object_entries objects.old.entries) named.now ≤ objects.old.room
+        → objects.new ≡ objects.old }
 {
     if named.len() <= objects.room() {
         return Ok(());
@@ -179,15 +191,22 @@ pub fn note(
     held: bool,
     hint: ClientHint,
 )
-    requires room { room_for left (object_entries objects.old.entries) named.now ≤ objects.old.room }
+    requires room { room_for left (object_entries objects.old.entries) named.now
+        ≤ objects.old.room }
     requires once { IsTrue (each_once (object_entries objects.old.entries)) }
     requires has { (o : ObjId) → is_in o named.now ≡ true → has_count counts.old o ≡ true }
-    requires enough { (w : Way) (o : ObjId) → one_if (counts_in w held (object_entries objects.old.entries) o) ≤ counted_at w counts.old o }
+    requires enough { (w : Way) (o : ObjId)
+        → one_if (counts_in w held (object_entries objects.old.entries) o)
+        ≤ counted_at w counts.old o }
     requires few { (w : Way) (o : ObjId) → counted_at w counts.old o + 1 < 2 ^ 31 }
     requires leased { left ≡ true → held ≡ true }
-    ensures objects { object_entries objects.new.entries ≡ objects_after left kind number.now named.now (object_entries objects.old.entries) }
-    ensures counts { (w : Way) (o : ObjId) → counted_at w counts.new o + one_if (counts_in w held (object_entries objects.old.entries) o)
-        ≡ counted_at w counts.old o + one_if (counts_in w true (object_entries objects.new.entries) o) }
+    ensures objects { object_entries objects.new.entries
+        ≡ objects_after left kind number.now named.now (object_entries objects.old.entries) }
+    ensures counts { (w : Way) (o : ObjId)
+        → counted_at w counts.new o
+        + one_if (counts_in w held (object_entries objects.old.entries) o)
+        ≡ counted_at w counts.old o
+        + one_if (counts_in w true (object_entries objects.new.entries) o) }
 {
     settle(objects, counts, left, held);
     if counts_for(kind, left) {
@@ -209,11 +228,18 @@ pub fn counts_for(kind: CallKind, left: bool) -> bool
 /// Where the client has no time left, forgets the tenure and counts the client as a holder no more.
 fn settle(objects: &mut Marks, counts: &mut Counts, left: bool, held: bool)
     requires once { IsTrue (each_once (object_entries objects.old.entries)) }
-    requires enough { (w : Way) (o : ObjId) → one_if (counts_in w held (object_entries objects.old.entries) o) ≤ counted_at w counts.old o }
+    requires enough { (w : Way) (o : ObjId)
+        → one_if (counts_in w held (object_entries objects.old.entries) o)
+        ≤ counted_at w counts.old o }
     requires leased { left ≡ true → held ≡ true }
-    ensures objects { object_entries objects.new.entries ≡ (if left then object_entries objects.old.entries else tenure_forgotten (object_entries objects.old.entries)) }
-    ensures counts { (w : Way) (o : ObjId) → counted_at w counts.new o + one_if (counts_in w held (object_entries objects.old.entries) o)
-        ≡ counted_at w counts.old o + one_if (counts_in w true (object_entries objects.new.entries) o) }
+    ensures objects { object_entries objects.new.entries
+        ≡ (if left then object_entries objects.old.entries
+        else tenure_forgotten (object_entries objects.old.entries)) }
+    ensures counts { (w : Way) (o : ObjId)
+        → counted_at w counts.new o
+        + one_if (counts_in w held (object_entries objects.old.entries) o)
+        ≡ counted_at w counts.old o
+        + one_if (counts_in w true (object_entries objects.new.entries) o) }
     ensures kept { (o : ObjId) → has_count counts.old o ≡ true → has_count counts.new o ≡ true }
     ensures room { objects.old.room ≤ objects.new.room }
 {
@@ -234,11 +260,17 @@ fn note_all(
 )
     requires room { absent_in (object_entries objects.old.entries) named.now ≤ objects.old.room }
     requires has { (o : ObjId) → is_in o named.now ≡ true → has_count counts.old o ≡ true }
-    requires enough { (w : Way) (o : ObjId) → one_if (counts_in w true (object_entries objects.old.entries) o) ≤ counted_at w counts.old o }
+    requires enough { (w : Way) (o : ObjId)
+        → one_if (counts_in w true (object_entries objects.old.entries) o)
+        ≤ counted_at w counts.old o }
     requires few { (w : Way) (o : ObjId) → counted_at w counts.old o < 2 ^ 31 }
-    ensures objects { object_entries objects.new.entries ≡ objects_noted kind number.now named.now (object_entries objects.old.entries) }
-    ensures counts { (w : Way) (o : ObjId) → counted_at w counts.new o + one_if (counts_in w true (object_entries objects.old.entries) o)
-        ≡ counted_at w counts.old o + one_if (counts_in w true (object_entries objects.new.entries) o) }
+    ensures objects { object_entries objects.new.entries
+        ≡ objects_noted kind number.now named.now (object_entries objects.old.entries) }
+    ensures counts { (w : Way) (o : ObjId)
+        → counted_at w counts.new o
+        + one_if (counts_in w true (object_entries objects.old.entries) o)
+        ≡ counted_at w counts.old o
+        + one_if (counts_in w true (object_entries objects.new.entries) o) }
 {
     for object in named {
         note_one(objects, counts, object, kind, number, hint);
@@ -254,15 +286,24 @@ fn note_one(
     number: &i64,
     hint: ClientHint,
 )
-    requires room { has_object (object_entries objects.old.entries) object.now ≡ false → 0 < objects.old.room }
+    requires room { has_object (object_entries objects.old.entries) object.now ≡ false
+        → 0 < objects.old.room }
     requires has { has_count counts.old object.now ≡ true }
-    requires enough { (w : Way) → one_if (counts_in w true (object_entries objects.old.entries) object.now) ≤ counted_at w counts.old object.now }
+    requires enough { (w : Way)
+        → one_if (counts_in w true (object_entries objects.old.entries) object.now)
+        ≤ counted_at w counts.old object.now }
     requires few { (w : Way) → counted_at w counts.old object.now ≤ 2 ^ 31 }
-    ensures objects { object_entries objects.new.entries ≡ object_noted kind number.now object.now (object_entries objects.old.entries) }
-    ensures counts { (w : Way) (o : ObjId) → counted_at w counts.new o + one_if (counts_in w true (object_entries objects.old.entries) o)
-        ≡ counted_at w counts.old o + one_if (counts_in w true (object_entries objects.new.entries) o) }
+    ensures objects { object_entries objects.new.entries
+        ≡ object_noted kind number.now object.now (object_entries objects.old.entries) }
+    ensures counts { (w : Way) (o : ObjId)
+        → counted_at w counts.new o
+        + one_if (counts_in w true (object_entries objects.old.entries) o)
+        ≡ counted_at w counts.old o
+        + one_if (counts_in w true (object_entries objects.new.entries) o) }
     ensures kept { (o : ObjId) → has_count counts.old o ≡ true → has_count counts.new o ≡ true }
-    ensures room { objects.old.room ≤ objects.new.room + (if has_object (object_entries objects.old.entries) object.now then 0 else 1) }
+    ensures room { objects.old.room
+        ≤ objects.new.room
+        + (if has_object (object_entries objects.old.entries) object.now then 0 else 1) }
 {
     let names = objects.names(object);
     let before = objects.numbers_of(object);
@@ -283,7 +324,8 @@ fn note_one(
 fn put(objects: &mut Marks, object: &ObjId, numbers: &Numbers, is_there: bool)
     requires there { is_there ≡ has_object (object_entries objects.old.entries) object.now }
     requires room { is_there ≡ false → 0 < objects.old.room }
-    ensures objects { object_entries objects.new.entries ≡ with_numbers object.now numbers.now (object_entries objects.old.entries) }
+    ensures objects { object_entries objects.new.entries
+        ≡ with_numbers object.now numbers.now (object_entries objects.old.entries) }
     ensures room { objects.old.room ≤ objects.new.room + (if is_there then 0 else 1) }
 {
     if is_there {

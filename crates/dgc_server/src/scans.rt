@@ -75,7 +75,8 @@ pub fn sums_by(clients: &Clients, sums: Sums, time: u64) -> Sums
 /// The sums over the clients of these chunks at the moment `to`, where `sums` are those at `from`. It passes over chunks in which nothing is due.
 fn sums_in(board: &Board, sums: Sums, next: u64, from: u64, to: u64) -> Sums
     requires later { from ≤ to }
-    requires numbered { IsTrue (list_all (λ e. each_has_number e.objects) (all_of board.now.chunks.items)) }
+    requires numbered { IsTrue
+        (list_all (λ e. each_has_number e.objects) (all_of board.now.chunks.items)) }
     requires sums { sums ≡ sums_at from (all_of board.now.chunks.items) }
     requires board { IsBoard from next board.now }
     ensures { result ≡ sums_at to (all_of board.now.chunks.items) }
@@ -94,7 +95,8 @@ fn sums_in(board: &Board, sums: Sums, next: u64, from: u64, to: u64) -> Sums
 
 /// The clients with time left, in order, with the ends of their leases.
 pub fn rows(alloc: Global, clients: &Clients, time: u64) -> Result<LeaseList, AllocError>
-    ensures { IfOk result (λ rows. rows ≡ map row_of (filter (has_time_left time) clients.now.entries)) }
+    ensures { IfOk result
+        (λ rows. rows ≡ map row_of (filter (has_time_left time) clients.now.entries)) }
 {
     let chunks = clients.chunks();
     let mut rows = LeaseList::new(alloc);
@@ -197,7 +199,8 @@ pub fn is_past_pairs(
     requires ordered { IsTrue (is_in_order clients.now.entries) }
     requires counted { remembered ≡ remembered_at time clients.now.entries }
     requires few { remembered ≤ MAX_PAIRS }
-    ensures { IsTrue result ↔ (MAX_PAIRS < pairs_after time clients.now.entries client.now kind named.now) }
+    ensures { IsTrue result
+        ↔ (MAX_PAIRS < pairs_after time clients.now.entries client.now kind named.now) }
 {
     let most = MAX_PAIRS as u128;
     remembered + named.len() as u128 > most

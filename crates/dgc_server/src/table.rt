@@ -48,7 +48,8 @@ fn place_of(entries: &[ClientEntry], client: &Vmid) -> Result<usize, usize>
     requires { IsTrue (is_in_order entries.now) }
     ensures bound { MatchResult result (λ i. i < length entries.now) (λ i. i ≤ length entries.now) }
     ensures place { IsPlaceOf entries.now client.now result }
-    ensures entry { MatchResult result (λ i. (d : Entry) → entry_of entries.now client.now ≡ slice_index_or entries.now i d)
+    ensures entry { MatchResult result
+        (λ i. (d : Entry) → entry_of entries.now client.now ≡ slice_index_or entries.now i d)
         (λ i. entry_of entries.now client.now ≡ no_entry client.now) }
 {
     let mut low: usize = 0;
@@ -83,17 +84,26 @@ pub fn note(
     requires numbered { IsTrue (list_all (λ e. each_has_number e.objects) entries.old.items) }
     requires ordered { IsTrue (is_in_order entries.old.items) }
     requires once { IsTrue (list_all (λ e. each_once e.objects) entries.old.items) }
-    requires has { (o : ObjId) → is_in o call.now.objects.now ≡ true → has_count counts.old o ≡ true }
-    requires enough { (w : Way) (o : ObjId) → one_if (is_counted w from o (entry_of entries.old.items client.now)) ≤ counted_at w counts.old o }
+    requires has { (o : ObjId) → is_in o call.now.objects.now ≡ true
+        → has_count counts.old o ≡ true }
+    requires enough { (w : Way) (o : ObjId)
+        → one_if (is_counted w from o (entry_of entries.old.items client.now))
+        ≤ counted_at w counts.old o }
     requires few { (w : Way) (o : ObjId) → counted_at w counts.old o + 1 < 2 ^ 31 }
     ensures ok { OnOk result (entries.new.items ≡ with_entry
-        (entry_after lease call.now.kind call.now.number.now call.now.objects.now call.now.time (entry_of entries.old.items client.now)) entries.old.items) }
-    ensures counts { OnOk result ((w : Way) (o : ObjId) → let own = entry_of entries.old.items client.now in
+        (entry_after lease call.now.kind call.now.number.now call.now.objects.now call.now.time
+        (entry_of entries.old.items client.now)) entries.old.items) }
+    ensures counts { OnOk result
+        ((w : Way) (o : ObjId) → let own = entry_of entries.old.items client.now in
         counted_at w counts.new o + one_if (is_counted w from o own)
         ≡ counted_at w counts.old o
-        + one_if (is_counted w from o (entry_after lease call.now.kind call.now.number.now call.now.objects.now call.now.time own))) }
+        + one_if (is_counted w from o
+        (entry_after lease call.now.kind call.now.number.now call.now.objects.now call.now.time
+        own))) }
     ensures noted { IfOk result (λ noted. let own = entry_of entries.old.items client.now in
-        IsNoted from own (entry_after lease call.now.kind call.now.number.now call.now.objects.now call.now.time own) noted) }
+        IsNoted from own
+        (entry_after lease call.now.kind call.now.number.now call.now.objects.now call.now.time own)
+        noted) }
     ensures err { OnErr result (entries.new.items ≡ entries.old.items) }
     ensures same { OnErr result (counts.new ≡ counts.old) }
 {
@@ -138,11 +148,16 @@ fn note_entry(
     requires short { lease ≤ MAX_DURATION_MS }
     requires numbered { IsTrue (each_has_number entry.old.objects) }
     requires once { IsTrue (each_once entry.old.objects) }
-    requires has { (o : ObjId) → is_in o call.now.objects.now ≡ true → has_count counts.old o ≡ true }
-    requires enough { (w : Way) (o : ObjId) → one_if (is_counted w from o entry.old) ≤ counted_at w counts.old o }
+    requires has { (o : ObjId) → is_in o call.now.objects.now ≡ true
+        → has_count counts.old o ≡ true }
+    requires enough { (w : Way) (o : ObjId)
+        → one_if (is_counted w from o entry.old) ≤ counted_at w counts.old o }
     requires few { (w : Way) (o : ObjId) → counted_at w counts.old o + 1 < 2 ^ 31 }
-    ensures ok { OnOk result (entry.new ≡ entry_after lease call.now.kind call.now.number.now call.now.objects.now call.now.time entry.old) }
-    ensures counts { OnOk result ((w : Way) (o : ObjId) → counted_at w counts.new o + one_if (is_counted w from o entry.old)
+    ensures ok { OnOk result
+        (entry.new ≡ entry_after lease call.now.kind call.now.number.now call.now.objects.now
+        call.now.time entry.old) }
+    ensures counts { OnOk result
+        ((w : Way) (o : ObjId) → counted_at w counts.new o + one_if (is_counted w from o entry.old)
         ≡ counted_at w counts.old o + one_if (is_counted w from o entry.new)) }
     ensures noted { IfOk result (λ noted. IsNoted from entry.old entry.new noted) }
     ensures err { OnErr result (entry.new ≡ entry.old) }
@@ -193,7 +208,8 @@ pub fn walk(
     ensures counted { result + length (filter (entry_names object.now) entries.old.items)
         ≡ clients + length (filter (entry_names object.now) entries.new.items) }
     ensures all { first ≡ 0 → length (filter (entry_names object.now) entries.new.items) ≡ 0 }
-    ensures settled { (n : ℕ) → AllByRecursion (IsSettled time n) entries.old.items → AllByRecursion (IsSettled time n) entries.new.items }
+    ensures settled { (n : ℕ) → AllByRecursion (IsSettled time n) entries.old.items
+        → AllByRecursion (IsSettled time n) entries.new.items }
 {
     let mut to_go = clients;
     let mut i = first;
@@ -219,11 +235,15 @@ pub fn keep_named(
     pairs: u128,
     first: usize,
 ) -> u128
-    requires { objects_in entries.old.items ≤ pairs + objects_in (map (with_only (is_named counts.now)) entries.old.items) }
-    ensures same { map (with_only (is_named counts.now)) entries.new.items ≡ map (with_only (is_named counts.now)) entries.old.items }
+    requires { objects_in entries.old.items
+        ≤ pairs + objects_in (map (with_only (is_named counts.now)) entries.old.items) }
+    ensures same { map (with_only (is_named counts.now)) entries.new.items
+        ≡ map (with_only (is_named counts.now)) entries.old.items }
     ensures to_go { result + objects_in entries.old.items ≡ pairs + objects_in entries.new.items }
-    ensures all { first ≡ 0 → entries.new.items ≡ map (with_only (is_named counts.now)) entries.old.items }
-    ensures calm { (m n : ℕ) → AllByRecursion (IsCalm m n) entries.old.items → AllByRecursion (IsCalm m n) entries.new.items }
+    ensures all { first ≡ 0
+        → entries.new.items ≡ map (with_only (is_named counts.now)) entries.old.items }
+    ensures calm { (m n : ℕ) → AllByRecursion (IsCalm m n) entries.old.items
+        → AllByRecursion (IsCalm m n) entries.new.items }
 {
     let mut to_go = pairs;
     let mut i = first;
@@ -240,8 +260,13 @@ pub fn keep_named(
 /// Keeps of one client the objects that are named, and answers how many went.
 fn keep_at(entries: &mut Vec<ClientEntry>, counts: &Counts, i: usize) -> u128
     requires { i < vec_len entries.old }
-    ensures entries { (d : Entry) → entries.new.items ≡ slice_set entries.old.items i (with_only (is_named counts.now) (slice_index_or entries.old.items i d)) }
-    ensures gone { (d : Entry) → result + object_count (with_only (is_named counts.now) (slice_index_or entries.old.items i d))
+    ensures entries { (d : Entry)
+        → entries.new.items
+        ≡ slice_set entries.old.items i
+        (with_only (is_named counts.now) (slice_index_or entries.old.items i d)) }
+    ensures gone { (d : Entry)
+        → result + object_count
+        (with_only (is_named counts.now) (slice_index_or entries.old.items i d))
         ≡ object_count (slice_index_or entries.old.items i d) }
 {
     entries[i].keep_named(counts) as u128
@@ -250,8 +275,11 @@ fn keep_at(entries: &mut Vec<ClientEntry>, counts: &Counts, i: usize) -> u128
 /// Forgets what is kept of an object at one client, and the client, if nothing is left of it.
 fn drop_at(entries: &mut Vec<ClientEntry>, object: &ObjId, i: usize, time: u64)
     requires { i < vec_len entries.old }
-    ensures { (d : Entry) → let next = entry_without object.now (slice_index_or entries.old.items i d) in
-        entries.new.items ≡ (if is_entry_kept time next then slice_set entries.old.items i next else remove entries.old.items i) }
+    ensures { (d : Entry)
+        → let next = entry_without object.now (slice_index_or entries.old.items i d) in
+        entries.new.items
+        ≡ (if is_entry_kept time next then slice_set entries.old.items i next
+        else remove entries.old.items i) }
 {
     entries[i].drop_object(object);
     if !entries[i].is_entry_kept(time) {
@@ -341,8 +369,10 @@ pub fn sums_after(sums: Sums, entries: &[ClientEntry], from: u64, to: u64) -> Su
     requires numbered { IsTrue (list_all (λ e. each_has_number e.objects) entries.now) }
     requires leased { length (filter (has_time_left from) entries.now) ≤ sums.leased }
     requires pairs { remembered_count from entries.now ≤ sums.pairs }
-    ensures leased { result.leased + length (filter (has_time_left from) entries.now) ≡ sums.leased + length (filter (has_time_left to) entries.now) }
-    ensures pairs { result.pairs + remembered_count from entries.now ≡ sums.pairs + remembered_count to entries.now }
+    ensures leased { result.leased + length (filter (has_time_left from) entries.now)
+        ≡ sums.leased + length (filter (has_time_left to) entries.now) }
+    ensures pairs { result.pairs + remembered_count from entries.now
+        ≡ sums.pairs + remembered_count to entries.now }
 {
     let before = with_time_left(entries, from);
     let leased = with_time_left(entries, to);
@@ -373,7 +403,8 @@ pub fn append_rows(
     entries: &[ClientEntry],
     time: u64,
 ) -> Result<(), AllocError>
-    ensures { OnOk result (rows.new ≡ rows.old ++ map row_of (filter (has_time_left time) entries.now)) }
+    ensures { OnOk result
+        (rows.new ≡ rows.old ++ map row_of (filter (has_time_left time) entries.now)) }
 {
     for entry in entries {
         if entry.has_time_left(time) {

@@ -18,7 +18,7 @@ use Rattle.ser_values.specs.declared.node.Node.{Node}
 use Rattle.ser_values.specs.declared.node.Node.TheVariants.{Text, Object, Proxy}
 use Rattle.ser_values.specs.declared.node.SlotPlace.TheVariants as places
 use Rattle.ser_values.specs.Node.{is_desc, is_text, admits, admits_null, item_wants, value_wants, part_wants, field_wants, before, after}
-use Rattle.ser_values.specs.Shape.{are_short, joined_from, are_typed, fit_values, fits_chain, is_shaped, sizes_in, notes_in, parts_in}
+use Rattle.ser_values.specs.Shape.{are_short, joined_from, are_typed, fit_values, fits_chain, is_shaped, sizes_in, notes_in, own_of, parts_in}
 use Rattle.ser_values.specs.Ranges.{ItemFits, NodeFits, UnitsFitIn, PartFits, ValueFits, NameFits, TextFits}
 use Rattle.ser_values.specs.Numbered.{a_null, fresh, Numbered, IsGraph}
 use Rattle.java_shapes.specs.Fault.{class_node, reference, empty_part}
@@ -68,6 +68,13 @@ names_short : (alone : Bool) (t : List ℕ) → nat_lt (length (utf t)) 65536 �
 unfolding are_short
 names_short true t short = rw short refl
 names_short false t short = rw short refl
+
+names_few : (alone : Bool) (t : List ℕ) → length (names alone t) ≤ 2
+names_few true t = omega arith
+names_few false t = omega arith
+
+proxy_parts : (t : List ℕ) → own_of (Proxy (proxy_with t (slots.Node 1))) ≤ 2
+proxy_parts t = names_few (same_text t (codes "java.rmi.Remote")) t
 
 shaped_proxy : (t b : List ℕ) → nat_lt (length (utf t)) 65536 ≡ true → is_shaped (N t b) (Proxy (proxy_with t (slots.Node 1))) ≡ true
 unfolding is_shaped joined_from
@@ -173,7 +180,7 @@ is_graph t b short filled fits bytes =
       numbered = (7, num_own t b 195 [] below filled, refl);
       joined = refl;
       few_nodes = omega arith;
-      few_parts = omega arith;
+      few_parts = omega (arith, proxy_parts t);
       numbers = numbers_fit t b bytes;
       units = units_fit t b fits;
       bytes = all_of ItemFits ref_items (tt, tt);

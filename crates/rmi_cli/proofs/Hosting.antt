@@ -23,7 +23,7 @@ use Rattle.sample_app.specs.declared.crew.SampleHand.{SampleHand}
 use Rattle.conn_server.specs.Accepts.{ticks_of}
 use Rattle.conn_server.specs.Taken.{Taken}
 use Rattle.conn_server.specs.Hosts.{HostsLinks}
-use Rattle.conn_server.specs.Quiet.{MayPass, TicksQuietly}
+use Rattle.conn_server.specs.Quiet.{TicksQuietly}
 use Rattle.conn_server.specs.Reports.{AreTurnsOf, IsLinkOf, IsReportOf, events_after}
 use Rattle.conn_server.specs.Rows.{Paired}
 use Rattle.conn_server.specs.Stops.{AreGivenBack, HostStopped, IsLostLink}
@@ -44,11 +44,11 @@ use Rattle.rmi_cli.specs.Line.{status_of_run}
 use Rattle.rmi_cli.specs.LinkLine.{listening_line}
 use Rattle.rmi_cli.specs.Opening.{hosted_opening}
 use Rattle.rmi_cli.specs.ServedLinks.{Printed, end_after}
-use Rattle.rmi_cli.specs.Hosted.{ArePartsOf, AreReady, HostEnds, HostPrinted, HostServed, HostSide, Hosting, Hosts, HostsFrom, HostsTelling, IsClosed, TellsHost, end_of_record, first_text, hand_shown, host_lines, host_plan, host_side, journal_lines}
+use Rattle.rmi_cli.specs.Hosted.{AreHostTimed, ArePartsOf, AreReady, HostEnds, HostPrinted, HostServed, HostSide, Hosting, Hosts, HostsFrom, HostsTelling, IsClosed, TellsHost, after_ticks, end_of_record, first_text, hand_shown, host_lines, host_plan, host_side, journal_lines}
 use Rattle.rmi_cli.specs.Sinks.{Goes, Wrote, WroteBefore, WroteLess, joined}
 use Rattle.rmi_cli.specs.Told.{Reported, TellsEnd, TellsExactly, Took, told_line, told_of_halves}
 use Rattle.rmi_cli.specs.declared.end.RunEnd.{RunEnd}
-use Rattle.rmi_cli.specs.declared.end.RunEnd.TheVariants.{Done, ListenFault, WriteFault, OutOfMemory}
+use Rattle.rmi_cli.specs.declared.end.RunEnd.TheVariants.{Usage, Answered, Talked, Done, BadLine, Refused, TooLarge, NotShown, ListenFault, AcceptFault, ReadFault, WriteFault, OutOfMemory}
 use Rattle.rmi_cli.specs.declared.host_desk.Given.{Given}
 use Rattle.rmi_cli.specs.declared.host_parts.HostParts.{HostParts}
 use Rattle.rmi_cli.specs.declared.sink_state.SinkState.{SinkState}
@@ -82,6 +82,29 @@ host_printed : {I O T R : Type 0} (recording : Record) (opening : SpaceHistory) 
 host_printed Silent opening old new served printed p = printed_so old.held new.held old.faults new.faults _ printed p
 host_printed Journal opening old new served printed p =
     recorded_so old.held new.held old.faults new.faults (journal_lines opening.configuration (opening.events ++ served.taker.events)) p.0 served.whole printed p.1 p.2
+
+-- The same where a missed Tick is told, too.
+ticks_printed : (faults faults2 : ℕ) (missed : Bool) (printed : RunEnd) → IsPrinted faults faults2 printed → IsPrinted faults faults2 (after_ticks missed printed)
+ticks_printed faults faults2 false printed p = p
+ticks_printed faults faults2 true printed (inl done) = inr (inr (ap (after_ticks true) done))
+ticks_printed faults faults2 true printed (inr (inl fault)) = inr (inl (ap (after_ticks true) fault.0, fault.1))
+ticks_printed faults faults2 true printed (inr (inr memory)) = inr (inr (ap (after_ticks true) memory))
+
+-- A missed Tick changes no end but Done.
+pub ticks_told : (printed : RunEnd) → (printed ≡ Done → ⊥) → after_ticks true printed ≡ printed
+ticks_told Done not = absurd (not refl)
+ticks_told Usage not = refl
+ticks_told (Answered end) not = refl
+ticks_told (Talked end) not = refl
+ticks_told (BadLine line) not = refl
+ticks_told Refused not = refl
+ticks_told (TooLarge limit) not = refl
+ticks_told (NotShown fault) not = refl
+ticks_told ListenFault not = refl
+ticks_told AcceptFault not = refl
+ticks_told ReadFault not = refl
+ticks_told WriteFault not = refl
+ticks_told OutOfMemory not = refl
 
 -- What the status of a run says, by its stop and by how printing ended.
 settled : (faults faults2 : ℕ) (stop : Stop) (printed end : RunEnd) → IsPrinted faults faults2 printed → end ≡ end_after stop printed → IsServed (status_of_run end)
@@ -137,7 +160,7 @@ lines_of_journal config events = ap (λ (text : List ℕ). with_line_end (config
 journal_more : (config : SpaceConfig) (events more : List Event) → journal_lines config events ++ map (event_line config.uid) more ≡ journal_lines config (events ++ more)
 journal_more config events more = ap (λ (lines : List (List ℕ)). with_line_end (config_text config) ∷ lines) (sym (map-append (event_line config.uid) events more))
 
--- A sink that was given nothing holds what it held, and failed no less often.
+-- A sink that was given nothing holds what it held, and failed as often.
 less_of_nothing : (held held2 : Option (List ℕ)) → WroteLess held held2 [] → ⊥
 less_of_nothing held held2 w = omega (arith, w.1)
 
@@ -145,19 +168,22 @@ none_lost : (written rest : List (List ℕ)) (lost : List ℕ) → [] ≡ writte
 none_lost [] rest lost is = cc
 none_lost (x ∷ written) rest lost is = cc
 
-goes_still : (a b : WriteHalf) (first state : SinkState) → Goes a b [] first state → (b.held ≡ a.held) × (a.faults ≤ b.faults)
-goes_still a b Whole Whole g = (g.0 ∙ with_end-nothing a.held, g.1)
+goes_still : (a b : WriteHalf) (first state : SinkState) → Goes a b [] first state → (b.held ≡ a.held) × (b.faults ≡ a.faults)
+goes_still a b Whole Whole g = (g.0.0 ∙ with_end-nothing a.held, g.0.1)
 goes_still a b Whole Failed g = absurd (less_of_nothing a.held b.held g.0.0)
-goes_still a b Whole Lost g = absurd (none_lost g.0.written g.0.rest g.0.lost g.0.pieces_are)
-goes_still a b Failed state g = (ap (λ h. h.held) g.0, goes_count a b [] Failed state g)
-goes_still a b Lost state g = (ap (λ h. h.held) g.0, goes_count a b [] Lost state g)
+goes_still a b Whole Lost g = absurd (none_lost g.0.0.written g.0.0.rest g.0.0.lost g.0.0.pieces_are)
+goes_still a b Failed state g = (ap (λ h. h.held) g.0, ap (λ h. h.faults) g.0)
+goes_still a b Lost state g = (ap (λ h. h.held) g.0, ap (λ h. h.faults) g.0)
 
-print_late : (a b c : WriteHalf) (text : List ℕ) (printed : RunEnd) → b.held ≡ a.held → a.faults ≤ b.faults → Printed b.held c.held b.faults c.faults text printed
+print_late : (a b c : WriteHalf) (text : List ℕ) (printed : RunEnd) → b.held ≡ a.held → b.faults ≡ a.faults → Printed b.held c.held b.faults c.faults text printed
     → Printed a.held c.held a.faults c.faults text printed
-print_late a b c text printed held count (inl whole) = inl (whole.0, whole.1 ∙ ap (λ h. with_end h text) held)
-print_late a b c text printed held count (inr (inl less)) =
-    inr (inl (less.0, (less.1.0, less.1.1, less.1.2 ∙ ap (λ h. with_end h (take less.1.0 text)) held), rose_late a.faults b.faults c.faults count less.2))
-print_late a b c text printed held count (inr (inr none)) = inr (inr (none.0, none.1 ∙ held))
+print_late a b c text printed held count (inl whole) = inl (whole.0, whole.1 ∙ ap (λ h. with_end h text) held, whole.2 ∙ count)
+print_late a b c text printed held count (inr (inl less)) = inr (inl (
+  less.0,
+  (less.1.0, less.1.1, less.1.2 ∙ ap (λ h. with_end h (take less.1.0 text)) held),
+  rose_late a.faults b.faults c.faults (omega (arith, count)) less.2,
+))
+print_late a b c text printed held count (inr (inr none)) = inr (inr (none.0, none.1 ∙ held, none.2 ∙ count))
 
 late_printed : (a b c : ℕ) (printed : RunEnd) → a ≤ b → IsPrinted b c printed → IsPrinted a c printed
 late_printed a b c printed more (inl done) = inl done
@@ -177,22 +203,30 @@ pub closed_printed : {I O T C H : Type 0} (recording : Record) (first : List ℕ
     → (printed : RunEnd) × IsPrinted old.faults new.faults printed × (end ≡ end_after served.stop printed)
 closed_printed Silent first pieces old mid mid2 new state state2 served end begins goes closed =
     let one = goes_count old mid (first ∷ []) Whole state (one_text old mid first state begins) in
-    let two = goes_count mid mid2 pieces state state2 goes in
-    (closed.0, late_printed old.faults mid2.faults new.faults closed.0 (omega (arith, one, two)) (printed_so mid2.held new.held mid2.faults new.faults _ closed.0 closed.1), closed.2)
+    let two = goes_count mid mid2 pieces state state2 goes in (
+      after_ticks served.tick_missed closed.0,
+      ticks_printed old.faults new.faults served.tick_missed closed.0
+          (late_printed old.faults mid2.faults new.faults closed.0 (omega (arith, one, two)) (printed_so mid2.held new.held mid2.faults new.faults _ closed.0 closed.1)),
+      closed.2,
+    )
 closed_printed Journal first pieces old mid mid2 new state state2 served end begins goes closed =
     let all = goes_on old mid mid2 (first ∷ []) pieces Whole state state2 (one_text old mid first state begins) goes in
-    let whole : Goes old new (first ∷ pieces) Whole state2 = subst (λ (h : WriteHalf). Goes old h (first ∷ pieces) Whole state2) (sym closed.0) all in
-    (end_of_record state2 served.whole, recorded_so old.held new.held old.faults new.faults (first ∷ pieces) state2 served.whole _ whole.0 refl, closed.1)
+    let whole : Goes old new (first ∷ pieces) Whole state2 = subst (λ (h : WriteHalf). Goes old h (first ∷ pieces) Whole state2) (sym closed.0) all in (
+      after_ticks served.tick_missed (end_of_record state2 served.whole),
+      ticks_printed old.faults new.faults served.tick_missed (end_of_record state2 served.whole)
+          (recorded_so old.held new.held old.faults new.faults (first ∷ pieces) state2 served.whole _ whole.0 refl),
+      closed.1,
+    )
 
 -- What was printed first, then of the events, and then at the end.
 pub prints_all : {I O T R : Type 0} (recording recording2 : Record) (opening : SpaceHistory) (space : Uid) (first : List ℕ) (old mid mid2 new : WriteHalf) (state state2 : SinkState) (served : HostServed I O T R) (end : RunEnd)
     → recording ≡ recording2 → space ≡ opening.configuration.uid → first ≡ first_text recording2 opening
     → TextGoes old mid first state → Goes mid mid2 (recorded_lines recording space served.taker.events) state state2 → IsClosed recording mid2 new state2 served end
-    → (printed : RunEnd) × HostPrinted recording2 opening old new served printed × (end ≡ end_after served.stop printed)
+    → (printed : RunEnd) × HostPrinted recording2 opening old new served printed × (end ≡ end_after served.stop (after_ticks served.tick_missed printed))
 prints_all Silent Silent opening space first old mid mid2 new state state2 served end is is_uid is_first begins goes closed =
     let one = goes_still old mid Whole state (begins [] is_first) in
     let two = goes_still mid mid2 state state2 goes in
-    (closed.0, print_late old mid2 new _ closed.0 (two.0 ∙ one.0) (omega (arith, one.1, two.1)) closed.1, closed.2)
+    (closed.0, print_late old mid2 new _ closed.0 (two.0 ∙ one.0) (two.1 ∙ one.1) closed.1, closed.2)
 prints_all Journal Journal opening space first old mid mid2 new state state2 served end is is_uid is_first begins goes closed =
     let lines = journal_lines opening.configuration opening.events in
     let begun = begins lines (is_first ∙ sym (lines_of_journal opening.configuration opening.events)) in
@@ -219,14 +253,14 @@ took_behind first mid final status text bytes held count (inr front) =
 -- The end is told behind all lines.
 pub tells_behind : (first mid final : WriteHalf) (status : ℕ) (lines : List (List ℕ)) (end : RunEnd) (state : SinkState) → state ≡ Whole → Goes first mid lines Whole state
     → TellsEnd (told_of_halves mid final status) end → TellsHost (told_of_halves first final status) lines end
-tells_behind first mid final status lines end Whole is g (inl tells) = inl (tells.0, took_behind first mid final status (joined lines) (told_line end) g.0 g.1 tells.1)
+tells_behind first mid final status lines end Whole is g (inl tells) = inl (tells.0, took_behind first mid final status (joined lines) (told_line end) g.0.0 g.1 tells.1)
 tells_behind first mid final status lines end Whole is g (inr tells) = inr (
     record {
       status = tells.1.0;
       written = lines;
       lost = [];
       lines_are = sym (append-nil lines);
-      took = took_behind first mid final status (joined lines) (told_line OutOfMemory) g.0 g.1 tells.1.1;
+      took = took_behind first mid final status (joined lines) (told_line OutOfMemory) g.0.0 g.1 tells.1.1;
       cause = inl tells.0;
     }
     )
@@ -247,10 +281,10 @@ pub tells_lost : (first mid final : WriteHalf) (status : ℕ) (lines : List (Lis
 tells_lost first mid final status lines end Lost is g tells = inr (
     record {
       status = tells.0;
-      written = g.0.written;
-      lost = g.0.lost ∷ g.0.rest;
-      lines_are = g.0.pieces_are;
-      took = took_behind first mid final status (joined g.0.written) (told_line OutOfMemory) g.0.held_is g.1 tells.1;
+      written = g.0.0.written;
+      lost = g.0.0.lost ∷ g.0.0.rest;
+      lines_are = g.0.0.pieces_are;
+      took = took_behind first mid final status (joined g.0.0.written) (told_line OutOfMemory) g.0.0.held_is g.1 tells.1;
       cause = inr (λ same. cc);
     }
     )
@@ -271,7 +305,7 @@ host_told told lines end (inr tells) served unread unwritten = inr tells.status
 module _ {I O T : Type 0} (R : Type 0) (read_half : I → ReadHalf) (write_half : O → WriteHalf) (given : T → Option (List ℕ)) (seed : List ℕ) where
   -- Nothing was served.
   pub hosts_none : (host : HostWords) (side : HostSide) (end : RunEnd) → (end ≡ ListenFault) ⊎ (end ≡ OutOfMemory) → Hosts R read_half write_half given seed host side side end
-  hosts_none host side end is = record { served = None; alone = (inl refl, refl); links = tt; ends = (is, refl) }
+  hosts_none host side end is = record { served = None; alone = (inl refl, refl); links = tt; times = tt; ends = (is, refl) }
 
   pub telling_none : (host : HostWords) (side : HostSide) (errors : WriteHalf) (end : RunEnd) → (end ≡ ListenFault) ⊎ (end ≡ OutOfMemory)
       → HostsTelling R read_half write_half given seed host side side errors errors Whole end
@@ -301,7 +335,8 @@ module _ {I O T : Type 0} (R : Type 0) (read_half : I → ReadHalf) (write_half 
   ended host opening old new None end (inl fault, held) = inr (inl (ap status_of_run fault))
   ended host opening old new None end (inr memory, held) = inr (inr (inr (ap status_of_run memory)))
   ended host opening old new (Some served) end ends =
-      settled old.faults new.faults served.stop ends.0 end (host_printed host.output opening old new served ends.0 ends.1) ends.2
+      settled old.faults new.faults served.stop (after_ticks served.tick_missed ends.0) end
+      (ticks_printed old.faults new.faults served.tick_missed ends.0 (host_printed host.output opening old new served ends.0 ends.1)) ends.2
 
   -- Where neither the listener nor the output failed, all went well, or memory lacked.
   pub hosting_settles : (host : HostWords) (old new : HostSide) (told : Reported) → Hosting R read_half write_half given seed host old new told
@@ -318,7 +353,7 @@ module _ {I O T : Type 0} (R : Type 0) (read_half : I → ReadHalf) (write_half 
   hosts_given taken IsLink opening count before after gave_first gave_last h served same rest x =
       let IsLost = IsLostLink read_half write_half given in
       let Quiet : Bool → SpaceHistory → List Asked → Option (SampleHand R) → Type 0 = λ missed s ticks hand.
-      TicksQuietly hand_shown Moves (MayPass opening s.events missed) gave_first gave_last (ticks_of x.served) ticks hand in
+      TicksQuietly hand_shown Moves opening s.events missed gave_first gave_last (ticks_of x.served) ticks hand in
       let space = sym rest.2 in record {
         config = subst (λ (s : SpaceHistory). s.configuration ≡ opening.configuration) space x.config;
         legal = subst (λ (s : SpaceHistory). IsLegal s.configuration s.events) space x.legal;
@@ -364,17 +399,19 @@ module _ {I O T : Type 0} (R : Type 0) (read_half : I → ReadHalf) (write_half 
   -- Links were served once the listener listened, and all was told.
   pub hosts_heard : (host : HostWords) (address : List ℕ) (port : ℕ) (old heard new : Listening) (given_old given_new : Option (List ℕ)) (output output2 : WriteHalf) (served : HostServed I O T R) (end : RunEnd)
       (errors errors_mid errors2 : WriteHalf) (told told2 : SinkState)
-      → address ≡ host.address → port ≡ host.port → heard.accepted ≡ old.accepted → new.ports ≡ with_next old.ports (address, port)
+      → address ≡ host.address → port ≡ host.port → heard.accepted ≡ old.accepted → heard.told ≡ old.told → new.ports ≡ with_next old.ports (address, port)
       → HostsFrom read_half write_half given seed host heard new given_old given_new served
+      → AreHostTimed given served
       → HostEnds host.output (hosted_opening seed host.options) output output2 (Some served) end
       → Goes errors errors_mid (listening_line address port ∷ []) Whole told → Goes errors_mid errors2 (told_lines served.taker.reports) told told2
       → HostsTelling R read_half write_half given seed host (host_side old given_old output) (host_side new given_new output2) errors errors2 told2 end
-  hosts_heard host address port old heard new given_old given_new output output2 served end errors errors_mid errors2 told told2 is_address is_port same ports links ends line lines =
+  hosts_heard host address port old heard new given_old given_new output output2 served end errors errors_mid errors2 told told2 is_address is_port same same_told ports links times ends line lines =
       let at = ap₂ (λ (a : List ℕ) (n : ℕ). listening_line a n) is_address is_port in (
         record {
           served = Some served;
           alone = ports ∙ ap₂ (λ (a : List ℕ) (n : ℕ). with_next old.ports (a, n)) is_address is_port;
-          links = (heard, same, links);
+          links = (heard, same, same_told, links);
+          times = times;
           ends = ends;
         },
         goes_on errors errors_mid errors2 (listening_line host.address host.port ∷ []) (told_lines served.taker.reports) Whole told told2
@@ -385,4 +422,4 @@ module _ {I O T : Type 0} (R : Type 0) (read_half : I → ReadHalf) (write_half 
   pub hosts_deaf : (host : HostWords) (old heard : Listening) (given_old : Option (List ℕ)) (output errors : WriteHalf) → heard.ports ≡ old.ports → heard.accepted ≡ old.accepted
       → HostsTelling R read_half write_half given seed host (host_side old given_old output) (host_side heard given_old output) errors errors Whole ListenFault
   hosts_deaf host old heard given_old output errors ports same =
-      (record { served = None; alone = (inl ports, same); links = tt; ends = (inl refl, refl) }, goes_nothing errors Whole)
+      (record { served = None; alone = (inl ports, same); links = tt; times = tt; ends = (inl refl, refl) }, goes_nothing errors Whole)

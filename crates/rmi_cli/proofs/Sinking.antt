@@ -68,33 +68,36 @@ rose_late a b c more rose = (omega (arith, more, rose.0), omega (arith, more, ro
 
 -- A sink that is given nothing.
 pub goes_nothing : (half : WriteHalf) (state : SinkState) → Goes half half [] state state
-goes_nothing half Whole = (sym (with_end-nothing half.held), omega arith, refl)
+goes_nothing half Whole = ((sym (with_end-nothing half.held), refl), omega arith, refl)
 goes_nothing half Failed = (refl, refl)
 goes_nothing half Lost = (refl, refl)
 
-then_whole : (a b c : WriteHalf) (pieces more : List (List ℕ)) (state : SinkState) → b.held ≡ with_end a.held (joined pieces) → a.faults ≤ b.faults → b.shut ≡ a.shut
+then_whole : (a b c : WriteHalf) (pieces more : List (List ℕ)) (state : SinkState) → b.held ≡ with_end a.held (joined pieces) → b.faults ≡ a.faults → b.shut ≡ a.shut
     → Goes b c more Whole state → Goes a c (pieces ++ more) Whole state
 then_whole a b c pieces more Whole held count shut g = (
-  g.0 ∙ ap (λ h. with_end h (joined more)) held ∙ with_end-with_end a.held (joined pieces) (joined more) ∙ ap (λ t. with_end a.held t) (sym (joined-append pieces more)),
+  (
+    g.0.0 ∙ ap (λ h. with_end h (joined more)) held ∙ with_end-with_end a.held (joined pieces) (joined more) ∙ ap (λ t. with_end a.held t) (sym (joined-append pieces more)),
+    g.0.1 ∙ count,
+  ),
   omega (arith, count, g.1),
   g.2 ∙ shut,
 )
 then_whole a b c pieces more Failed held count shut g = (
   (
     subst (λ (t : List ℕ). WroteLess a.held c.held t) (sym (joined-append pieces more)) (less_behind a.held b.held c.held (joined pieces) (joined more) held g.0.0),
-    rose_late a.faults b.faults c.faults count g.0.1,
+    rose_late a.faults b.faults c.faults (omega (arith, count)) g.0.1,
   ),
   omega (arith, count, g.1),
   g.2 ∙ shut,
 )
-then_whole a b c pieces more Lost held count shut g = (before_behind a.held b.held c.held pieces more held g.0, omega (arith, count, g.1), g.2 ∙ shut)
+then_whole a b c pieces more Lost held count shut g = ((before_behind a.held b.held c.held pieces more held g.0.0, g.0.1 ∙ count), omega (arith, count, g.1), g.2 ∙ shut)
 
 -- Nothing is written behind pieces that were not all written.
 extended : (a b : WriteHalf) (pieces more : List (List ℕ)) (state : SinkState) → Goes a b pieces Whole state → (state ≡ Whole → ⊥) → Goes a b (pieces ++ more) Whole state
 extended a b pieces more Whole g not = absurd (not refl)
 extended a b pieces more Failed g not =
     ((subst (λ (t : List ℕ). WroteLess a.held b.held t) (sym (joined-append pieces more)) (less_longer a.held b.held (joined pieces) (joined more) g.0.0), g.0.1), g.1, g.2)
-extended a b pieces more Lost g not = (before_longer a.held b.held pieces more g.0, g.1, g.2)
+extended a b pieces more Lost g not = ((before_longer a.held b.held pieces more g.0.0, g.0.1), g.1, g.2)
 
 -- Pieces after pieces.
 pub goes_on : (a b c : WriteHalf) (pieces more : List (List ℕ)) (first mid final : SinkState) → Goes a b pieces first mid → Goes b c more mid final → Goes a c (pieces ++ more) first final
@@ -102,7 +105,7 @@ goes_on a b c pieces more Failed mid final g h =
     let still : Goes b c more Failed final = subst (λ s. Goes b c more s final) g.1 h in (still.0 ∙ g.0, still.1)
 goes_on a b c pieces more Lost mid final g h =
     let still : Goes b c more Lost final = subst (λ s. Goes b c more s final) g.1 h in (still.0 ∙ g.0, still.1)
-goes_on a b c pieces more Whole Whole final g h = then_whole a b c pieces more final g.0 g.1 g.2 h
+goes_on a b c pieces more Whole Whole final g h = then_whole a b c pieces more final g.0.0 g.0.1 g.2 h
 goes_on a b c pieces more Whole Failed final g h =
     subst (λ s. Goes a c (pieces ++ more) Whole s) (sym h.1) (subst (λ x. Goes a x (pieces ++ more) Whole Failed) (sym h.0) (extended a b pieces more Failed g (λ same. cc)))
 goes_on a b c pieces more Whole Lost final g h =
@@ -111,8 +114,8 @@ goes_on a b c pieces more Whole Lost final g h =
 -- ---- one write
 
 -- The sink took all of a text.
-pub goes_whole : (a b : WriteHalf) (text : List ℕ) (pieces : List (List ℕ)) → text ≡ joined pieces → b.held ≡ with_end a.held text → a.faults ≤ b.faults → b.shut ≡ a.shut → Goes a b pieces Whole Whole
-goes_whole a b text pieces is held count shut = (held ∙ ap (λ t. with_end a.held t) is, count, shut)
+pub goes_whole : (a b : WriteHalf) (text : List ℕ) (pieces : List (List ℕ)) → text ≡ joined pieces → b.held ≡ with_end a.held text → b.faults ≡ a.faults → b.shut ≡ a.shut → Goes a b pieces Whole Whole
+goes_whole a b text pieces is held count shut = ((held ∙ ap (λ t. with_end a.held t) is, count), omega (arith, count), shut)
 
 -- It failed after a front.
 pub goes_failed : (a b : WriteHalf) (text : List ℕ) (pieces : List (List ℕ)) (sent : ℕ) → text ≡ joined pieces → sent < length text → b.held ≡ with_end a.held (take sent text)
@@ -121,7 +124,7 @@ goes_failed a b text pieces sent is less held rose count shut = ((subst (λ (t :
 
 -- There was no memory for a piece.
 pub goes_lost : (half : WriteHalf) (piece : List ℕ) (more : List (List ℕ)) → Goes half half (piece ∷ more) Whole Lost
-goes_lost half piece more = (record { written = []; lost = piece; rest = more; pieces_are = refl; held_is = sym (with_end-nothing half.held) }, omega arith, refl)
+goes_lost half piece more = ((record { written = []; lost = piece; rest = more; pieces_are = refl; held_is = sym (with_end-nothing half.held) }, refl), omega arith, refl)
 
 -- A text of one piece.
 pub one_piece : {E : Type 0} (made : Result (List ℕ) E) (piece : List ℕ) → IfOk made (λ text. text ≡ piece) → IfOk made (λ text. text ≡ joined (piece ∷ []))

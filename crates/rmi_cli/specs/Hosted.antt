@@ -1,5 +1,6 @@
 -- What `rmi host` does.
 use Rattle.std.specs.Prelude.{◌≡◌, ◌≢◌, ◌≤◌, ℕ, Bool, true, false, pos, ◌⊎◌, List, [], ◌∷◌, ◌++◌, length, map, Option, Some, None, IfSome}
+use Rattle.std.specs.List.{AllByRecursion}
 use Rattle.mod_utf.specs.Utf.{utf}
 use Rattle.wire_io.specs.Links.{Listening}
 use Rattle.wire_io.specs.Wire.{ReadHalf, WriteHalf}
@@ -20,7 +21,7 @@ use Rattle.conn_server.specs.declared.link_task.LinkReport.{LinkReport}
 use Rattle.conn_server.specs.declared.plan.TheConstants.{LAST_NUMBER}
 use Rattle.conn_server.specs.declared.plan.ServePlan.{ServePlan}
 use Rattle.conn_server.specs.declared.server.Hosted.{Hosted}
-use Rattle.rmi_cli.specs.Desk.{taken_of, told_lines}
+use Rattle.rmi_cli.specs.Desk.{IsTimed, taken_of, told_lines}
 use Rattle.rmi_cli.specs.Line.{status_of_run}
 use Rattle.rmi_cli.specs.LinkLine.{listening_line}
 use Rattle.rmi_cli.specs.Opening.{hosted_opening, hosted_space}
@@ -90,9 +91,10 @@ HostsFrom read_half write_half given seed host before after gave_first gave_last
     HostsLinks (IsSampleLink read_half write_half given (host_plan seed host)) (IsLostLink read_half write_half given) hand_shown Moves taken_of
     (hosted_opening seed host.options) LAST_NUMBER before after gave_first gave_last served
 
--- The same from one side to the other, after the listener listened: it had given the same links then.
+-- The same from one side to the other, after the listener listened: it had given the same links then, and was told to stop where it was before.
 abbrev pub HostsSample : {I O T R : Type 0} → (I → ReadHalf) → (O → WriteHalf) → (T → Option (List ℕ)) → List ℕ → HostWords → HostSide → HostSide → HostServed I O T R → Type 0
-HostsSample read_half write_half given seed host old new served = (heard : Listening) × (heard.accepted ≡ old.listening.accepted)
+HostsSample read_half write_half given seed host old new served =
+    (heard : Listening) × (heard.accepted ≡ old.listening.accepted) × (heard.told ≡ old.listening.told)
     × HostsFrom read_half write_half given seed host heard new.listening old.given new.given served
 
 -- The lines of a journal. Together they are `journal_text` (`lines_of_journal` in proofs/Hosting.antt).
@@ -106,6 +108,11 @@ end_of_record Whole false = OutOfMemory
 end_of_record Failed whole = WriteFault
 end_of_record Lost whole = OutOfMemory
 
+-- How the run ends by how its output does: where all was printed, and the server missed a Tick for want of memory, that want is told.
+abbrev pub after_ticks : Bool → RunEnd → RunEnd
+after_ticks true Done = OutOfMemory
+after_ticks _ printed = printed
+
 -- What was printed. Where events aren't recorded, it is what stands of the space that is left. Else it is the journal of the opening and of the events
 -- that were handed on, which are all events of the one history where the server says so. Where the output failed, it is a front of that journal. Where
 -- memory lacked, it is the lines before one.
@@ -118,31 +125,37 @@ HostPrinted Journal opening old new served printed =
     × (printed ≡ end_of_record state served.whole)
 
 -- How the run ends by what was served: where nothing was, the port could not be listened on, or there was no memory; nothing was written then.
--- Else it ends as printing and the stop say.
+-- Else it ends as printing, missed Ticks and the stop say.
 abbrev pub HostEnds : {I O T R : Type 0} → Record → SpaceHistory → WriteHalf → WriteHalf → Option (HostServed I O T R) → RunEnd → Type 0
 HostEnds recording opening old new None end = ((end ≡ ListenFault) ⊎ (end ≡ OutOfMemory)) × (new.held ≡ old.held)
 HostEnds recording opening old new (Some served) end =
-    (printed : RunEnd) × HostPrinted recording opening old new served printed × (end ≡ end_after served.stop printed)
+    (printed : RunEnd) × HostPrinted recording opening old new served printed × (end ≡ end_after served.stop (after_ticks served.tick_missed printed))
 
--- How the output is closed that is in this state: where events aren't recorded, what stands is printed; else nothing more is. The run ends as that and
--- the stop say.
+-- How the output is closed that is in this state: where events aren't recorded, what stands is printed; else nothing more is. The run ends as that,
+-- missed Ticks and the stop say.
 abbrev pub IsClosed : {I O T C H : Type 0} → Record → WriteHalf → WriteHalf → SinkState → Hosted I O T C H → RunEnd → Type 0
 IsClosed Silent old new state served end =
     (printed : RunEnd) × Printed old.held new.held old.faults new.faults (standing served.space.configuration served.space.events) printed
-    × (end ≡ end_after served.stop printed)
-IsClosed Journal old new state served end = (new ≡ old) × (end ≡ end_after served.stop (end_of_record state served.whole))
+    × (end ≡ end_after served.stop (after_ticks served.tick_missed printed))
+IsClosed Journal old new state served end =
+    (new ≡ old) × (end ≡ end_after served.stop (after_ticks served.tick_missed (end_of_record state served.whole)))
+
+-- The time of each link that has ended is one between two moments.
+abbrev pub AreHostTimed : {I O T R : Type 0} → (T → Option (List ℕ)) → HostServed I O T R → Type 0
+AreHostTimed given served = AllByRecursion (IsTimed given served.taker.ticks) served.taker.reports
 
 -- A run of `host` by its seed and words, from one side to the other, by what its links' sources, sinks and clocks show.
 pub record Hosts {I O T : Type 0} (R : Type 0) (read_half : I → ReadHalf) (write_half : O → WriteHalf) (given : T → Option (List ℕ)) (seed : List ℕ) (host : HostWords) (old new : HostSide) (end : RunEnd) : Type 0 where
   pub served : Option (HostServed I O T R)
   pub alone : ListensAt host.address host.port old.listening new.listening served
   pub links : IfSome served (HostsSample read_half write_half given seed host old new)
+  pub times : IfSome served (AreHostTimed given)
   pub ends : HostEnds host.output (hosted_opening seed host.options) old.output new.output served end
 
 -- ---- what is told
 
 -- The lines before the end's: where the port was listened on, that it was, and a line for each link that has ended, in the order in which the desk was
--- given their reports. A line says what the link's report says, and a number of milliseconds, of which no clause says more.
+-- given their reports. A line says what the link's report says, and how many milliseconds the link took.
 abbrev pub host_lines : {I O T R : Type 0} → HostWords → Option (HostServed I O T R) → List (List ℕ)
 host_lines host None = []
 host_lines host (Some served) = listening_line host.address host.port ∷ told_lines served.taker.reports

@@ -32,12 +32,12 @@ abbrev pub IsSampleLink : {I O T R : Type 0} → (I → ReadHalf) → (O → Wri
 IsSampleLink read_half write_half given plan = IsLinkOf read_half write_half given (λ hand. record { calls = hand.calls; seen = None; state = None; number = hand.by }) May Moves sample_kinds plan
 
 -- How printing this text ends, by what the output holds and how often it failed: all was written; or less, for the output failed; or nothing, for
--- there was no memory for the text.
+-- there was no memory for the text. It counts a fault only where the output failed.
 abbrev pub Printed : Option (List ℕ) → Option (List ℕ) → ℕ → ℕ → List ℕ → RunEnd → Type 0
 Printed held held_after faults faults_after text end =
-    ((end ≡ Done) × (held_after ≡ with_end held text))
+    ((end ≡ Done) × (held_after ≡ with_end held text) × (faults_after ≡ faults))
     ⊎ (((end ≡ WriteFault) × WroteLess held held_after text × Rose faults faults_after)
-    ⊎ ((end ≡ OutOfMemory) × (held_after ≡ held)))
+    ⊎ ((end ≡ OutOfMemory) × (held_after ≡ held) × (faults_after ≡ faults)))
 
 -- How the run ends where the accepting stopped so and printing ended so.
 abbrev pub end_after : Stop → RunEnd → RunEnd

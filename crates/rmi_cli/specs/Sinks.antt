@@ -21,11 +21,12 @@ pub record WroteBefore (held held_after : Option (List ℕ)) (pieces : List (Lis
   pub pieces_are : pieces ≡ written ++ lost ∷ rest
   pub held_is : held_after ≡ with_end held (joined written)
 
--- All pieces were written. Or less than their text was, since the sink failed. Or those before one were, for which there was no memory.
+-- All pieces were written, and the sink counted no fault. Or less than their text was, since the sink failed. Or those before one were, for which
+-- there was no memory; the sink counted no fault then.
 abbrev pub Wrote : Option (List ℕ) → Option (List ℕ) → ℕ → ℕ → List (List ℕ) → SinkState → Type 0
-Wrote held held_after faults faults_after pieces Whole = held_after ≡ with_end held (joined pieces)
+Wrote held held_after faults faults_after pieces Whole = (held_after ≡ with_end held (joined pieces)) × (faults_after ≡ faults)
 Wrote held held_after faults faults_after pieces Failed = WroteLess held held_after (joined pieces) × Rose faults faults_after
-Wrote held held_after faults faults_after pieces Lost = WroteBefore held held_after pieces
+Wrote held held_after faults faults_after pieces Lost = WroteBefore held held_after pieces × (faults_after ≡ faults)
 
 -- The sink was given these pieces in the one state, and is in the other: where it took all before them, they were written on; else nothing was.
 abbrev pub Goes : WriteHalf → WriteHalf → List (List ℕ) → SinkState → SinkState → Type 0

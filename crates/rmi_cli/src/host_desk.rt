@@ -1,6 +1,7 @@
 //! The desk of `host`: it is given events and the reports of links, and writes their lines.
-ghost use Rattle.std.specs.Prelude.{◌≡◌, ◌++◌, []};
-ghost use Rattle.rmi_cli.specs.Desk.{ended_link};
+ghost use Rattle.std.specs.Prelude.{◌≡◌, ◌⊎◌, ◌∷◌, ◌++◌, [], None};
+ghost use Rattle.wire_io.specs.Wire.{Gave};
+ghost use Rattle.rmi_cli.specs.Desk.{TakesStart, ended_link, link_with, milliseconds};
 
 use crate::event_lines::write_events;
 use crate::link_line::EndedLink;
@@ -25,13 +26,16 @@ pub struct LinkStart {
     pub moment: u64,
 }
 
-/// The report of a link that has ended, and the time that the link took.
+/// The report of a link that has ended, and the moments between which the link took its time.
 #[derive(Drop)]
 pub struct TimedReport<R> {
-    // The report as it was given. It takes no memory and exists in proofs alone.
+    // The report as it was given, and as it was once its clock had given the last moment. They take no memory and exist in proofs alone.
     pub report: Snapshot<R>,
-    /// The time from the turn before its start to this report, in milliseconds.
-    pub milliseconds: u64,
+    pub left: Snapshot<R>,
+    /// The moment of the server's own turn before its start. None where there was no memory to keep it.
+    pub begun: Option<u64>,
+    /// The moment that its clock gave when the report came, which is up to a second after its end.
+    pub ended: u64,
 }
 
 /// The reports, the entries and the events that a desk was given. They take no memory and exist in proofs alone.
@@ -72,8 +76,8 @@ pub struct HostDesk<'s, K, E, R, S> {
     pub recording: Record,
     /// The identifier of the space of which events are recorded.
     pub space: Uid,
-    /// The moment of the last turn of the server's own.
-    pub last: u64,
+    /// The moment of the last turn of the server's own, once there was one.
+    pub last: Option<u64>,
     pub starts: S,
     pub given: Given<R>,
     // The sinks and their states when the desk was made.
@@ -124,6 +128,7 @@ impl<'s, K, E> DeskSinks<'s, K, E> {
         ensures told { (result.told ≡ self.entry.states.told) × (result.first_told ≡ self.entry.states.told) }
         ensures words { (result.recording ≡ recording) × (result.space ≡ space) }
         ensures nothing { (result.given.reports ≡ []) × (result.given.ticks ≡ []) × (result.given.events ≡ []) }
+        ensures times { (result.last ≡ None) × (result.starts.items ≡ []) }
     {
         let DeskSinks {
             output,
@@ -142,7 +147,7 @@ impl<'s, K, E> DeskSinks<'s, K, E> {
             alloc,
             recording,
             space,
-            last: 0,
+            last: None,
             starts: Vec::new(alloc),
             given: Given::nothing(),
         }
@@ -184,7 +189,7 @@ impl<'s, K, E, R, S: Drop> HostDesk<'s, K, E, R, S> {
 impl<'s, K: Sink, E: Sink, I: Drop, O: Drop, T: Clock + Drop, H: Drop> ReportTaker<
     LinkReport<I, O, T, H>,
 > for HostDesk<'s, K, E, LinkReport<I, O, T, H>, Vec<LinkStart>> {
-    ghost use Rattle.rmi_cli.specs.Desk.{DeskStays, taken_of, recorded_lines, told_lines};
+    ghost use Rattle.rmi_cli.specs.Desk.{AreTimed, DeskStays, taken_of, recorded_lines, told_lines};
     ghost use Rattle.rmi_cli.specs.Sinks.{Goes};
 
     ghost taken = { λ d. taken_of d.given };
@@ -195,7 +200,8 @@ impl<'s, K: Sink, E: Sink, I: Drop, O: Drop, T: Clock + Drop, H: Drop> ReportTak
         Goes (K.half d.first_output.value) (K.half d.output.now)
         (recorded_lines d.recording d.space d.given.events) d.first_printed d.printed
         × Goes (E.half d.first_errors.value) (E.half d.errors.now)
-        (told_lines d.given.reports) d.first_told d.told };
+        (told_lines d.given.reports) d.first_told d.told
+        × AreTimed T.given d.last d.starts.items d.given.ticks d.given.reports };
 
     ghost Stays = { DeskStays };
 
@@ -215,27 +221,20 @@ impl<'s, K: Sink, E: Sink, I: Drop, O: Drop, T: Clock + Drop, H: Drop> ReportTak
     }
 
     fn began(&mut self, by: u32) {
-        let start = LinkStart {
-            number: by,
-            moment: self.last,
-        };
-        let _ = self.starts.push(start);
+        if let Some(moment) = self.last {
+            note_start(&mut self.starts, LinkStart { number: by, moment });
+        }
     }
 
     fn ended(&mut self, report: LinkReport<I, O, T, H>) {
-        let given = Snapshot::of(&report);
         let begun = take_start(&mut self.starts, report.by);
-        let link = time_link(report, begun);
-        let timed = TimedReport {
-            report: given,
-            milliseconds: link.milliseconds,
-        };
+        let (link, timed) = time_link(report, begun);
         self.given.reports.push(&timed);
         self.told = write_made(self.errors, self.told, link.line(self.alloc));
     }
 
     fn ticked(&mut self, entry: Asked) {
-        self.last = entry.moment;
+        self.last = Some(entry.moment);
         self.given.ticks.push(&entry);
         drop(entry);
     }
@@ -266,19 +265,60 @@ fn note_events(noted: &mut Past<Event>, events: &[Event])
     }
 }
 
+/// Appends the start of a link, where there is memory for it.
+fn note_start(starts: &mut Vec<LinkStart>, start: LinkStart)
+    ensures { (starts.new.items ≡ starts.old.items ++ start ∷ []) ⊎ (starts.new.items ≡ starts.old.items) }
+{
+    let _ = starts.push(start);
+}
+
 /// Takes the start of a link out of the list, and returns its moment. None where it is not there, for want of memory.
-fn take_start(starts: &mut Vec<LinkStart>, number: u32) -> Option<u64> {
+fn take_start(starts: &mut Vec<LinkStart>, number: u32) -> Option<u64>
+    ensures { TakesStart starts.old.items result starts.new.items }
+{
     let place = starts.iter().position(|start| start.number == number)?;
     Some(starts.swap_remove(place).moment)
 }
 
-/// Returns what is told of a link that has ended, which began at this moment. Its own clock gives the present moment, which is up to a second after its
-/// end. Where it is not known when the link began, or the clock went back, it took 0 milliseconds.
+/// Reads the clock of a link that has ended once more. Returns what is told of the link, and its report with the moments of its time.
 fn time_link<I: Drop, O: Drop, T: Clock + Drop, H: Drop>(
     report: LinkReport<I, O, T, H>,
     begun: Option<u64>,
+) -> (EndedLink, TimedReport<LinkReport<I, O, T, H>>)
+    ensures link { result.0 ≡ ended_link result.1 }
+    ensures report { result.1.report.value ≡ report }
+    ensures begun { result.1.begun ≡ begun }
+    ensures gave { Gave (T.given report.clock) (T.given result.1.left.value.clock)
+        (result.1.ended ∷ []) }
+{
+    let given = Snapshot::of(&report);
+    let mut report = report;
+    let ended = report.clock.now();
+    let timed = TimedReport {
+        report: given,
+        left: Snapshot::of(&report),
+        begun,
+        ended,
+    };
+    (into_ended(report, milliseconds(begun, ended)), timed)
+}
+
+/// Returns the milliseconds from one moment to another. They are 0 where the first is not known, or is the later one.
+fn milliseconds(begun: Option<u64>, ended: u64) -> u64
+    ensures { result ≡ milliseconds begun ended }
+{
+    match begun {
+        Some(begun) => ended.saturating_sub(begun),
+        None => 0,
+    }
+}
+
+/// Returns what is told of a link that has ended and took so many milliseconds.
+fn into_ended<I: Drop, O: Drop, T: Drop, H: Drop>(
+    report: LinkReport<I, O, T, H>,
+    milliseconds: u64,
 ) -> EndedLink
-    ensures { result ≡ ended_link report result.milliseconds }
+    ensures { result ≡ link_with report milliseconds }
 {
     let LinkReport {
         by,
@@ -288,11 +328,10 @@ fn time_link<I: Drop, O: Drop, T: Clock + Drop, H: Drop>(
         end,
         source,
         sink,
-        mut clock,
+        clock,
         asked,
         hand,
     } = report;
-    let now = clock.now();
     drop(source);
     drop(sink);
     drop(clock);
@@ -304,6 +343,6 @@ fn time_link<I: Drop, O: Drop, T: Clock + Drop, H: Drop>(
         port: peer_port,
         end,
         calls,
-        milliseconds: now.saturating_sub(begun.unwrap_or(now)),
+        milliseconds,
     }
 }

@@ -3,7 +3,7 @@ ghost use Rattle.std.specs.Prelude.{◌≡◌, ◌≢◌, ◌≤◌, ◌∷◌, 
 ghost use Rattle.wire_io.specs.Wire.{Rose};
 ghost use Rattle.space.specs.Standing.{standing};
 ghost use Rattle.rmi_cli.specs.Desk.{recorded_lines, told_lines};
-ghost use Rattle.rmi_cli.specs.Hosted.{ArePartsOf, AreReady, HostsFrom, HostsTelling, IsClosed, end_of_record, host_side};
+ghost use Rattle.rmi_cli.specs.Hosted.{AreHostTimed, ArePartsOf, AreReady, HostsFrom, HostsTelling, IsClosed, after_ticks, end_of_record, host_side};
 ghost use Rattle.rmi_cli.specs.Line.{status_of_run};
 ghost use Rattle.rmi_cli.specs.LinkLine.{listening_line};
 ghost use Rattle.rmi_cli.specs.ServedLinks.{Printed, end_after};
@@ -17,7 +17,7 @@ use crate::host_parts::HostParts;
 use crate::link_line::listening_line;
 use crate::serve_input::end_after;
 use crate::sink_state::{SinkState, write_made, write_text};
-use conn_server::{HostBegin, Hosted, LinkReport, Server, Stop};
+use conn_server::{HostBegin, Hosted, LinkReport, MAX_LIVE, Server, Stop};
 use rmi_words::{HostWords, Record};
 use sample_app::SampleHand;
 use space::{Space, standing};
@@ -205,6 +205,7 @@ fn host_links<
         first.printed result.states.printed }
     ensures told { Goes (E.half host.old.errors) (E.half host.new.errors)
         (told_lines result.hosted.taker.reports) first.told result.states.told }
+    ensures times { AreHostTimed L.Ticks.given result.hosted }
     ensures ports { (L.listening host.new.listener).ports ≡ (L.listening host.old.listener).ports }
     ensures fault { result.hosted.stop ≡ Stop.AcceptFault
         → Rose (L.listening host.old.listener).faults (L.listening host.new.listener).faults }
@@ -251,6 +252,7 @@ fn serve_at_desk<'s, 't, R: Threads + Wait + Sync, K: Sink, E: Sink, T: Clock, L
         → HostsFrom L.In.half L.Out.half L.Ticks.given seed asked
         (L.listening listener.old) (L.listening listener.new)
         (T.given ticks.old) (T.given ticks.new) result.2.hosted }
+    ensures times { AreHostTimed L.Ticks.given result.2.hosted }
     ensures ports { (L.listening listener.new).ports ≡ (L.listening listener.old).ports }
     ensures fault { result.2.hosted.stop ≡ Stop.AcceptFault
         → Rose (L.listening listener.old).faults (L.listening listener.new).faults }
@@ -291,6 +293,7 @@ fn serve_at_desk<'s, 't, R: Threads + Wait + Sync, K: Sink, E: Sink, T: Clock, L
         root,
         taker: sinks.into_desk(alloc, recording, space),
         record: recording == Record::Journal,
+        most_live: MAX_LIVE,
     };
     let served = server.host(listener, ticks, lock, begin, &plan);
     take_apart(served)
@@ -350,9 +353,19 @@ fn close_output<K: Sink, I: Drop, O: Drop, T: Drop, G, H: Drop>(
         Record::Journal => end_of_record(states.printed, hosted.whole),
     };
     HostEnd {
-        end: end_after(hosted.stop, printed),
+        end: end_after(hosted.stop, after_ticks(hosted.tick_missed, printed)),
         told: states.told,
     }
+}
+
+/// Returns the end of a run by how its output ends: where all was printed, and the server missed a Tick for want of memory, that want is told.
+fn after_ticks(missed: bool, printed: RunEnd) -> RunEnd
+    ensures { result ≡ after_ticks missed printed }
+{
+    if missed && printed.is_silent() {
+        return RunEnd::OutOfMemory;
+    }
+    printed
 }
 
 /// Returns the end of a run whose output has this state, where all events were recorded or not.

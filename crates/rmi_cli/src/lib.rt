@@ -31,7 +31,10 @@
 //!   `HostsLinks`). With `silent`, what is exported at the end was written; with `journal`, the
 //!   first line and a line for each event. The errors' sink took a line when it listened and one
 //!   for each ended link. If memory lacked for one of these lines, those before it were written,
-//!   and the status is 5. The host's own input is not read (`host_unread`).
+//!   and the status is 5. The milliseconds of a link run from the moment of one of the server's own
+//!   turns to the moment that the link's clock gave next (`IsTimed`). If memory lacked for a Tick
+//!   that was due (`tick_missed`), the status is 5 at the end, unless the output or the listener
+//!   failed. The host's own input is not read (`host_unread`).
 //! - `list`, `lookup`, `bind`, `unbind`: one talk by the command's script, the only one if the link
 //!   tells its bytes. The answer was printed if the talk ended well, and nothing otherwise. The
 //!   halves are left in `talked`, shut (`asks`).
@@ -56,6 +59,12 @@
 //! - At `answer`, that the worker was given nothing besides. At `serve`, where a real listener
 //!   listens, and how often a failing one was asked. At `host`, that links give no more bytes after
 //!   the stop.
+//! - At `serve` and `host`, which calls a link's hand was given: a hand shows how many, and not the
+//!   calls or the counters, which all hands share. The test `connections_count_together` looks at
+//!   the answers.
+//! - At `host`, that a link's time begins at the turn before that link, and not at another of the
+//!   server's own turns: `ReportTaker` is told which link begins by no clause. The test
+//!   `a_link_takes_the_time_of_its_own_clock` shows it.
 //!
 //! Limits are constants that clauses cite. That they are what the documents say is proved (`prove!`
 //! in `src/limits.rt`).

@@ -22,9 +22,8 @@
 //!
 //! # What is not
 //!
-//! That no memory is taken for a length whose bytes never come; that is tested. More than 2^20
-//! entries of lists are answered `OutOfMemory`: items, elements of reference arrays, field values,
-//! annotations, described fields, interface names.
+//! That no memory is taken for a length whose bytes never come, and that a message of 16 MB takes
+//! at most 97 MB in all. Both are tested.
 //!
 //! # Cost
 //!

@@ -11,7 +11,8 @@ use std::alloc::{AllocError, Global};
 
 /// A copy of some events; None where one of them is too late.
 fn early(alloc: Global, events: &[Event]) -> Result<Option<Vec<Event>>, AllocError>
-    ensures { IfOk result (λ found. IfSome found (λ list. AllByRecursion (λ e. e.moment < END_OF_TIME) list.items)) }
+    ensures { IfOk result
+        (λ found. IfSome found (λ list. AllByRecursion (λ e. e.moment < END_OF_TIME) list.items)) }
 {
     match events {
         [] => Ok(Some(Vec::new(alloc))),

@@ -39,6 +39,10 @@ impl Listener for Deaf {
         self.faults = self.faults.saturating_add(1);
         Err(Failed)
     }
+
+    fn is_told(&mut self) -> bool {
+        false
+    }
 }
 
 /// Runs a server where the program can't listen: nothing is served or printed, and no connection is waited for.

@@ -20,7 +20,7 @@ const LOOKS: u32 = 10_000_000;
 const TOLD: u64 = 1_000_000;
 
 /// The number of halves of links that were shut: two of each link that was served to its end. Many more count as shut once the listener was
-/// told to stop.
+/// told to stop or closed.
 pub(crate) type Ended = Arc<AtomicU64, Global>;
 
 /// Waits until so many halves are shut, and returns whether they were.
@@ -248,5 +248,18 @@ impl Listener for Gated {
                 Err(Failed)
             }
         }
+    }
+
+    fn is_told(&mut self) -> bool {
+        if !self.links.is_told() {
+            return false;
+        }
+        let _before = self.ended.fetch_add(TOLD, Ordering::SeqCst);
+        true
+    }
+
+    /// All links go on from then.
+    fn close(&mut self) {
+        let _before = self.ended.fetch_add(TOLD, Ordering::SeqCst);
     }
 }

@@ -61,6 +61,23 @@ impl Crew for Holding {
     }
 }
 
+/// Has such a hand for the first connection, and no memory for further ones.
+#[derive(Drop)]
+pub(crate) struct First {
+    pub(crate) crew: Holding,
+}
+
+impl Crew for First {
+    type Hand = HoldingHand;
+
+    fn hand(&self, by: u32) -> Result<HoldingHand, AllocError> {
+        if by > 1 {
+            return Err(AllocError);
+        }
+        self.crew.hand(by)
+    }
+}
+
 /// Two clients that each call a counter, as in `rows`.
 const CALLING: &str =
     "0 | 1234 | 0 | | opening add_one ping | ack number +5 first 00000000 +0 pong | Ended

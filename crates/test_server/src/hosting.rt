@@ -2,13 +2,15 @@
 ghost use Rattle.std.specs.Prelude.{◌≡◌};
 
 use crate::gates::{Gated, GatedSink, GatedSource};
-use crate::holding::{Holding, HoldingHand};
+use crate::holding::{First, Holding, HoldingHand};
 use crate::recording::Noting;
 use crate::servers::{CONFIG, Cases, check_all, is_short, plan_of};
 use crate::telling::{MADE, Recorders, space_with_made};
-use crate::texts::{moments_of, must, this_host};
+use crate::texts::{cut, moments_of, must, this_host};
 use call_dispatch::{Crew, Recorded};
-use conn_server::{DropsReports, HostBegin, Hosted, KeepsReports, LinkReport, Server, Stop};
+use conn_server::{
+    DropsReports, HostBegin, Hosted, KeepsReports, LinkReport, MAX_LIVE, Server, Stop,
+};
 use sample_app::{sample_book, sample_space};
 use sequence::Kinds;
 use space::{Space, journal};
@@ -28,14 +30,22 @@ type HostedBy<H> = Hosted<GatedSource, GatedSink, MemClock, Kept<H>, H>;
 /// The moments of the quiet seconds.
 const SECONDS: &str = "299999 300000 300001";
 
+/// The space that a host begins with, and the most links that are live at once.
+#[derive(Drop)]
+struct Begin {
+    space: Space,
+    most_live: usize,
+}
+
 /// Serves the links over a space until the listener is told to stop; None where there is no memory.
 fn host_over<R: Threads + Wait + Abort + Sync, G: Crew>(
     rt: &R,
     alloc: Global,
     listener: &mut Gated,
     crew: &G,
-    space: Space,
+    begin: Begin,
 ) -> Option<HostedBy<G::Hand>> {
+    let Begin { space, most_live } = begin;
     let plan = plan_of(rt, alloc, 100_000, 1099);
     if !is_short(&plan.host) {
         return None;
@@ -55,6 +65,7 @@ fn host_over<R: Threads + Wait + Abort + Sync, G: Crew>(
                 root,
                 taker: Noting::new(alloc, KeepsReports::new(alloc), ended),
                 record: true,
+                most_live,
             };
             Some(server.host(listener, &mut ticks, lock, begin, &plan))
         }
@@ -68,8 +79,12 @@ const LIVE: &str = "0 | 1234 | 0 | | opening add_one | ack number +5 first 00000
 500 | 1234 | 0 | |  |  | Truncated { at: 0 }
 500 | 1234 | 0 | | opening 50 ACED0005 | ack | Truncated { at: 18 }";
 
-/// Hosts the three clients, and looks at what each got; None where there is no memory.
-fn check_live<R: Threads + Wait + Abort + Sync>(rt: &R, alloc: Global) -> Option<()> {
+/// Hosts the three clients, where so many may be live at once, and looks at what each got; None where there is no memory.
+fn check_live<R: Threads + Wait + Abort + Sync>(
+    rt: &R,
+    alloc: Global,
+    most_live: usize,
+) -> Option<()> {
     let mut cases = Cases::new(alloc);
     for line in LIVE.split('\n') {
         cases.add(rt, alloc, line);
@@ -79,7 +94,8 @@ fn check_live<R: Threads + Wait + Abort + Sync>(rt: &R, alloc: Global) -> Option
         ended: listener.ended()?,
     };
     let space = sample_space(alloc, &CONFIG).ok()?;
-    let hosted = host_over(rt, alloc, &mut listener, &crew, space)?;
+    let begin = Begin { space, most_live };
+    let hosted = host_over(rt, alloc, &mut listener, &crew, begin)?;
     must(rt, hosted.stop == Stop::Told, "stop");
     check_noted(rt, alloc, &hosted, &sample_space(alloc, &CONFIG).ok()?);
     let links = hosted.taker.links.as_slice();
@@ -131,7 +147,53 @@ fn check_noted<H>(rt: &impl Abort, alloc: Global, hosted: &HostedBy<H>, opening:
 
 #[test]
 fn live_links_are_served_to_their_ends(rt: HostRuntime) {
-    must(&rt, check_live(&rt, rt.alloc()).is_some(), "memory");
+    must(
+        &rt,
+        check_live(&rt, rt.alloc(), MAX_LIVE).is_some(),
+        "memory",
+    );
+}
+
+#[test]
+fn a_host_with_as_many_links_as_it_may_have_sees_its_stop(rt: HostRuntime) {
+    must(&rt, check_live(&rt, rt.alloc(), 3).is_some(), "memory");
+}
+
+/// A client that waits until the listener is closed, and one for whose hand there is no memory.
+const LOST: &str = "500 | 1234 | 0 | | opening ping | ack pong | Ended
+0 | 1234 | 0 | | opening ping | | Ended";
+
+/// Hosts the two clients. The listener is closed once there is no memory for the second, and so the first one ends. None where there is no memory.
+fn check_lost<R: Threads + Wait + Abort + Sync>(rt: &R, alloc: Global) -> Option<()> {
+    let mut cases = Cases::new(alloc);
+    for line in LOST.split('\n') {
+        cases.add(rt, alloc, line);
+    }
+    let mut listener = cases.hosted(alloc, Kinds::new(alloc), 100)?;
+    let crew = First {
+        crew: Holding {
+            ended: listener.ended()?,
+        },
+    };
+    let space = sample_space(alloc, &CONFIG).ok()?;
+    let begin = Begin {
+        space,
+        most_live: MAX_LIVE,
+    };
+    let hosted = host_over(rt, alloc, &mut listener, &crew, begin)?;
+    must(rt, hosted.stop == Stop::OutOfMemory, "stop");
+    must(rt, hosted.lost.is_some(), "a lost link");
+    let taker = hosted.taker;
+    let inner = taker.inner;
+    let (links, _ticks) = inner.in_order();
+    let (first, _rest) = cut(LOST, '\n');
+    check_all(rt, alloc, links.as_slice(), first);
+    Some(())
+}
+
+#[test]
+fn a_host_without_memory_for_a_link_closes_its_port(rt: HostRuntime) {
+    must(&rt, check_lost(&rt, rt.alloc()).is_some(), "memory");
 }
 
 /// Hosts no client for three seconds, over a space in which a counter was made that awaits its acknowledgement until the moment 300,000. So a Tick is made
@@ -142,8 +204,11 @@ fn check_quiet<R: Threads + Wait + Abort + Sync>(rt: &R, alloc: Global) -> Optio
     quiet.push(1).ok()?;
     quiet.push(2).ok()?;
     let mut listener = Cases::new(alloc).hosted(alloc, quiet, 3)?;
-    let space = space_with_made(alloc)?;
-    let hosted = host_over(rt, alloc, &mut listener, &Recorders { alloc }, space)?;
+    let begin = Begin {
+        space: space_with_made(alloc)?,
+        most_live: MAX_LIVE,
+    };
+    let hosted = host_over(rt, alloc, &mut listener, &Recorders { alloc }, begin)?;
     must(rt, hosted.stop == Stop::Told, "stop");
     check_noted(rt, alloc, &hosted, &space_with_made(alloc)?);
     must(
@@ -178,8 +243,11 @@ fn a_lease_ends_in_a_quiet_second(rt: HostRuntime) {
 /// Hosts no client until the listener is told to stop at once: no event is handed on. None where there is no memory.
 fn check_idle<R: Threads + Wait + Abort + Sync>(rt: &R, alloc: Global) -> Option<()> {
     let mut listener = Cases::new(alloc).hosted(alloc, Kinds::new(alloc), 0)?;
-    let space = sample_space(alloc, &CONFIG).ok()?;
-    let hosted = host_over(rt, alloc, &mut listener, &Recorders { alloc }, space)?;
+    let begin = Begin {
+        space: sample_space(alloc, &CONFIG).ok()?,
+        most_live: MAX_LIVE,
+    };
+    let hosted = host_over(rt, alloc, &mut listener, &Recorders { alloc }, begin)?;
     must(rt, hosted.stop == Stop::Told, "stop");
     must(rt, hosted.taker.text.is_empty(), "no event");
     check_noted(rt, alloc, &hosted, &sample_space(alloc, &CONFIG).ok()?);
@@ -214,6 +282,7 @@ fn check_none<R: Threads + Wait + Abort + Sync>(rt: &R, alloc: Global) -> Option
                 root,
                 taker: DropsReports::new(),
                 record: false,
+                most_live: MAX_LIVE,
             };
             let hosted = server.host(&mut listener, &mut ticks, lock, begin, &plan);
             must(rt, hosted.stop == Stop::Told, "stop");

@@ -189,6 +189,10 @@ impl Listener for Noting {
             Err(failed) => Err(failed),
         }
     }
+
+    fn is_told(&mut self) -> bool {
+        false
+    }
 }
 
 /// A report of all links.

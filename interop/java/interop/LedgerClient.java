@@ -17,7 +17,8 @@ public final class LedgerClient {
     private static void add(Ledger ledger) throws Exception {
         Account one = ledger.open();
         Account other = ledger.open();
-        equal(5L, one.add(5));
+        long balance = one.add(5);
+        equal(5L, balance);
         equal(-2L, one.add(-7));
         equal(3L, other.add(3));
         equal(1L, ledger.total());

@@ -6,7 +6,8 @@ use Rattle.call_dispatch.proofs.Going.{leads_nothing, tells_nothing}
 use Rattle.call_dispatch.specs.Acts.{Call, TellsMore, LeadsStates}
 use Rattle.turn_lock.specs.Handles.{view_of}
 use Rattle.turn_lock.specs.PassPorts.{PassWent}
-use Rattle.conn_server.proofs.Quiet.{tick_there}
+use Rattle.conn_server.proofs.Quiet.{needed_then, tick_there}
+use Rattle.conn_server.specs.Quiet.{NeededThen}
 use Rattle.conn_server.proofs.Ticks.{end_there, entry_there, told_there}
 use Rattle.conn_server.proofs.quiet_second.tick_if_ended.Goals as goal
 
@@ -44,3 +45,10 @@ returns-in-None-clause-seen g c = tells_nothing (g.H.Worker.shown c.args.hand.no
 
 pub returns-in-None-clause-state : goal.returns-in-None-clause-state
 returns-in-None-clause-state g c = leads_nothing g.H.Worker.moves (g.H.Worker.shown c.args.hand.now).state
+
+pub returns-in-Some-clause-needed : goal.returns-in-Some-clause-needed
+returns-in-Some-clause-needed g c =
+    let v = view_of c.args.root.now.pass in
+    let w = view_of c.tick_if_ended.new.self.pass in
+    let moment = c.now-moment.result in
+    entry_there (λ e. NeededThen v e.moment w) moment Tick c.in-Some.made.0 c.tick_entry.result c.tick_entry.ensures (needed_then v w c.args.root.now.pass.number moment c.in-Some.made.0 c.in-Some.ensures.needed)

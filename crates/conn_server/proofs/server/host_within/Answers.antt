@@ -4,12 +4,11 @@ use Rattle.turn_lock.specs.Handles.{IsFresh, opening_of, view_of}
 use Rattle.turn_lock.specs.declared.handles.Root.{Root}
 use Rattle.conn_server.specs.Accepts.{links_of, reports_of, shown_all, ticks_of, with_all}
 use Rattle.conn_server.specs.Made.{shown_admitted}
-use Rattle.conn_server.specs.Quiet.{MayPass}
 use Rattle.conn_server.specs.Reports.{IsLinkOf}
 use Rattle.conn_server.specs.Stops.{HostStopped}
 use Rattle.conn_server.proofs.Closing.{all_closed, count_closed}
 use Rattle.conn_server.proofs.Linking.{link_of}
-use Rattle.conn_server.proofs.Quiet.{passes_on, quiet_later, quiet_same}
+use Rattle.conn_server.proofs.Quiet.{quiet_later, quiet_same}
 use Rattle.conn_server.proofs.Taking.{first_accepting}
 use Rattle.conn_server.proofs.server.host_within.Goals as goal
 
@@ -53,8 +52,8 @@ returns-clause-hosted g c =
       missed = e.missed;
       joined = all_closed IsLink shared.lock.now read_half write_half given _ _ shown link _ _ shared.book.now end is j.ensures.none;
       handed_on = is.handed_on (j.ensures.follows.1 ∙ e.hosts);
-      quiet = quiet_later shown moves (MayPass opening seen missed) (MayPass opening seen_after missed) _ _ _ _ a.new.self.own.hand (passes_on opening seen seen_after missed missed j.ensures.follows.0 (λ is. is))
-          (quiet_same shown moves (MayPass opening seen missed) _ _ _ _ _ _ a.new.self.own.hand e.quiet j.ensures.ticks (ap (λ l. ticks_of l) same));
+      quiet = quiet_later shown moves opening seen seen_after missed _ _ _ _ a.new.self.own.hand j.ensures.follows.0
+          (quiet_same shown moves opening seen missed _ _ _ _ _ _ a.new.self.own.hand e.quiet j.ensures.ticks (ap (λ l. ticks_of l) same));
       reports = is.given;
       told_links = e.links ∙ ap (λ l. with_all told (links_of l ++ e.missed)) (sym same);
       stopped = subst (λ (n : ℕ). HostStopped a.result.stop (g.L.Listener.listening a.new.listener).told shared.plan.now.count n e.missed) number e.stopped;

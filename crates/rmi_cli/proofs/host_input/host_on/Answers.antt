@@ -16,9 +16,9 @@ returns-clause-hosts g c seed asked are =
     let heard = g.L.Listener.listening c.listen.new.self in
     let port = c.args.parts.port in
     let listens = added before heard _ _ _ (sym c.is_err.ensures.value ∙ c.if-is_err.false) c.listen.ensures.listens in
-    hosts_heard _ _ _ _ seed asked c.args.parts.address port before heard _ _ _ _ _ c.host_links-hosted.result.hosted _ _ _ _ _ _ are.address are.port c.listen.ensures.accepted
+    hosts_heard _ _ _ _ seed asked c.args.parts.address port before heard _ _ _ _ _ c.host_links-hosted.result.hosted _ _ _ _ _ _ are.address are.port c.listen.ensures.accepted c.listen.ensures.told
     (c.host_links-hosted.ensures.ports ∙ listens ∙ ap (λ (a : List ℕ). with_next before.ports (a, port)) c.as_str.ensures)
-    (c.host_links-hosted.ensures.links seed asked are)
+    (c.host_links-hosted.ensures.links seed asked are) c.host_links-hosted.ensures.times
     (prints_all c.args.parts.recording asked.output _ c.args.parts.space c.args.parts.first _ _ _ _ _ _ c.host_links-hosted.result.hosted _ are.recording are.space are.first
     c.open_sinks-first.ensures.printed c.host_links-hosted.ensures.printed c.close_output.ensures.ends)
     c.open_sinks-first.ensures.told

@@ -1,7 +1,8 @@
-use Rattle.std.proofs.Common.{◌∙◌, ap, sym}
-use Rattle.rmi_cli.specs.Desk.{DeskStays, taken_of}
+use Rattle.std.proofs.Common.{◌∙◌, ap, sym, subst}
+use Rattle.std.specs.List.{AllByRecursion}
+use Rattle.rmi_cli.specs.Desk.{DeskStays, IsTimed, taken_of}
 use Rattle.rmi_cli.proofs.Hosting.{hosts_from, hosts_given}
-use Rattle.rmi_cli.proofs.Recording.{desk_starts, desk_told, desk_untold, desk_wrote}
+use Rattle.rmi_cli.proofs.Recording.{desk_starts, desk_told, desk_untold, desk_wrote, times_start}
 use Rattle.rmi_cli.proofs.host_input.serve_at_desk.Goals as goal
 
 pub returns-clause-links : goal.returns-clause-links
@@ -19,6 +20,7 @@ returns-clause-printed g c =
           (ap g.K.Sink.half (made.ensures.sinks.0 ∙ sym made.ensures.first.0)) made.ensures.nothing.2 (made.ensures.printed.0 ∙ sym made.ensures.printed.1),
       desk_untold (g.E.Sink.half made.result.first_errors.value) (g.E.Sink.half made.result.errors.now) made.result.given.reports made.result.first_told made.result.told
           (ap g.E.Sink.half (made.ensures.sinks.1 ∙ sym made.ensures.first.1)) made.ensures.nothing.0 (made.ensures.told.0 ∙ sym made.ensures.told.1),
+      times_start _ _ _ _ _ made.ensures.times.0 made.ensures.times.1 made.ensures.nothing.0,
     ) in
     desk_wrote _ _ _ _ _ _ _ _ _ _ _ _ _ _ (ap (λ (s : DeskStays). s.first_output) kept.1 ∙ ap g.K.Sink.half made.ensures.first.0) (ap g.K.Sink.half (sym left.ensures.output))
     (ap (λ (s : DeskStays). s.recording) kept.1 ∙ made.ensures.words.0) (ap (λ (s : DeskStays). s.space) kept.1 ∙ made.ensures.words.1) (ap (λ d. d.events) (sym left.ensures.given))
@@ -34,6 +36,21 @@ returns-clause-told g c =
           (ap g.K.Sink.half (made.ensures.sinks.0 ∙ sym made.ensures.first.0)) made.ensures.nothing.2 (made.ensures.printed.0 ∙ sym made.ensures.printed.1),
       desk_untold (g.E.Sink.half made.result.first_errors.value) (g.E.Sink.half made.result.errors.now) made.result.given.reports made.result.first_told made.result.told
           (ap g.E.Sink.half (made.ensures.sinks.1 ∙ sym made.ensures.first.1)) made.ensures.nothing.0 (made.ensures.told.0 ∙ sym made.ensures.told.1),
+      times_start _ _ _ _ _ made.ensures.times.0 made.ensures.times.1 made.ensures.nothing.0,
     ) in
     desk_told _ _ _ _ _ _ _ _ _ _ (ap (λ (s : DeskStays). s.first_errors) kept.1 ∙ ap g.E.Sink.half made.ensures.first.1) (ap g.E.Sink.half (sym left.ensures.errors))
     (ap (λ d. d.reports) (sym left.ensures.given)) (ap (λ (s : DeskStays). s.first_told) kept.1 ∙ made.ensures.told.1) (sym left.ensures.told) held.1
+
+pub returns-clause-times : goal.returns-clause-times
+returns-clause-times g c =
+    let made = c.into_desk in
+    let left = c.take_apart in
+    let kept = c.host-served.ensures.keeps in
+    let held = kept.0 (
+      desk_starts (g.K.Sink.half made.result.first_output.value) (g.K.Sink.half made.result.output.now) made.result.recording made.result.space made.result.given.events made.result.first_printed made.result.printed
+          (ap g.K.Sink.half (made.ensures.sinks.0 ∙ sym made.ensures.first.0)) made.ensures.nothing.2 (made.ensures.printed.0 ∙ sym made.ensures.printed.1),
+      desk_untold (g.E.Sink.half made.result.first_errors.value) (g.E.Sink.half made.result.errors.now) made.result.given.reports made.result.first_told made.result.told
+          (ap g.E.Sink.half (made.ensures.sinks.1 ∙ sym made.ensures.first.1)) made.ensures.nothing.0 (made.ensures.told.0 ∙ sym made.ensures.told.1),
+      times_start _ _ _ _ _ made.ensures.times.0 made.ensures.times.1 made.ensures.nothing.0,
+    ) in
+    subst (λ d. AllByRecursion (IsTimed g.L.Ticks.Clock.given d.ticks) d.reports) (sym left.ensures.given) held.2.reports_are

@@ -1,7 +1,6 @@
-use Rattle.std.proofs.Common.{inl, refl}
+use Rattle.std.proofs.Common.{◌∙◌, refl}
 use Rattle.turn_lock.specs.Handles.{opening_of, view_of}
-use Rattle.conn_server.specs.Quiet.{MayPass}
-use Rattle.conn_server.proofs.Quiet.{once_later, passes_on, quiet_later, quiet_missed, quiet_on, quiet_same}
+use Rattle.conn_server.proofs.Quiet.{quiet_missed, quiet_on, quiet_same}
 use Rattle.conn_server.proofs.Taking.{follows_on, follows_same, same_accepting}
 use Rattle.conn_server.proofs.admission.Acceptor.tick_quietly.Goals as goal
 
@@ -26,23 +25,21 @@ returns-clause-follows g c = follows_on c.args.self.now c.with_tick_room.new.sel
 -- There was no memory: any moment may pass.
 pub returns-then-not-with_tick_room-clause-quiet : goal.returns-then-not-with_tick_room-clause-quiet
 returns-then-not-with_tick_room-clause-quiet g c gave_first before_links t =
-    quiet_missed g.H.Worker.shown g.H.Worker.moves _ _ gave_first _ before_links _ _ _ _ (λ m. inl refl) c.with_tick_room.ensures.same.ticks refl t
+    let missed = c.miss.ensures in
+    quiet_missed g.H.Worker.shown g.H.Worker.moves _ _ _ _ _ gave_first _ _ missed.look.0 before_links _ _ _ _ (follows_same _ _ _ _ c.with_tick_room.ensures.same).0 missed.missed missed.look.1 c.with_tick_room.ensures.same.ticks missed.hand t
 
 pub returns-in_default-clause-quiet : goal.returns-in_default-clause-quiet
 returns-in_default-clause-quiet g c gave_first before_links t =
-    quiet_missed g.H.Worker.shown g.H.Worker.moves _ _ gave_first _ before_links _ _ _ _ (λ m. inl refl) c.with_tick_room.ensures.same.ticks (rw c.in_default.is at c.own_hand.ensures.none) t
+    let missed = c.miss-in_default.ensures in
+    quiet_missed g.H.Worker.shown g.H.Worker.moves _ _ _ _ _ gave_first _ _ missed.look.0 before_links _ _ _ _ (follows_same _ _ _ _ c.with_tick_room.ensures.same).0 missed.missed missed.look.1 c.with_tick_room.ensures.same.ticks
+    (missed.hand ∙ rw c.in_default.is at c.own_hand.ensures.none) t
 
 pub returns-clause-quiet : goal.returns-clause-quiet
 returns-clause-quiet g c gave_first before_links t =
+    let begins = (follows_on c.args.self.now c.with_tick_room.new.self c.tick_once-missed.new.self (follows_same _ _ _ _ c.with_tick_room.ensures.same) c.tick_once-missed.ensures.follows).0 in
     let opening = opening_of c.args.shared.now.lock.now in
     let seen = (view_of c.args.self.now.root.pass).seen in
-    let seen_after = (view_of c.tick_once-missed.new.self.root.pass).seen in
-    let missed = c.is_either-own.result in
-    let begins = (follows_on c.args.self.now c.with_tick_room.new.self c.tick_once-missed.new.self (follows_same _ _ _ _ c.with_tick_room.ensures.same) c.tick_once-missed.ensures.follows).0 in
-    quiet_on g.H.Worker.shown g.H.Worker.moves (MayPass opening seen_after missed) gave_first _ _ before_links _ _ _ c.in-Some.hand c.tick_once-missed.new.hand
-    (quiet_later g.H.Worker.shown g.H.Worker.moves (MayPass opening seen c.args.own.now.missed) (MayPass opening seen_after missed) gave_first _ before_links _ _
-    (passes_on opening seen seen_after c.args.own.now.missed missed begins c.is_either-own.ensures.first)
-    (quiet_same g.H.Worker.shown g.H.Worker.moves _ gave_first _ before_links before_links _ _ _ t c.with_tick_room.ensures.same.ticks refl))
-    c.in-Some.ensures.has
-    (once_later g.H.Worker.shown g.H.Worker.moves (MayPass opening seen_after c.tick_once-missed.result) (MayPass opening seen_after missed) _ _ _ _ _ _
-    (passes_on opening seen_after seen_after c.tick_once-missed.result missed (λ front is. is) c.is_either-own.ensures.second) c.tick_once-missed.ensures.once)
+    quiet_on g.H.Worker.shown g.H.Worker.moves opening seen _ c.args.own.now.missed c.tick_once-missed.result c.is_either-own.result gave_first _ _ before_links _ _ c.args.own.now.hand c.in-Some.hand c.tick_once-missed.new.hand begins
+    c.is_either-own.ensures.first c.is_either-own.ensures.second c.is_either-own.ensures.either
+    (quiet_same g.H.Worker.shown g.H.Worker.moves opening seen c.args.own.now.missed gave_first _ before_links before_links _ _ c.args.own.now.hand t c.with_tick_room.ensures.same.ticks refl)
+    c.in-Some.ensures.has c.tick_once-missed.ensures.once

@@ -1,13 +1,13 @@
 use Rattle.std.proofs.Common.{refl}
 use Rattle.conn_server.proofs.Hosting.{hosting_first}
 use Rattle.conn_server.proofs.Keeping.{keeps_on}
-use Rattle.conn_server.proofs.host_loop.Host.run.Goals as goal
+use Rattle.conn_server.proofs.host_loop.HostLoop.run.Goals as goal
 
 pub loop-init : goal.loop-init
 loop-init g c =
     let shared = c.args.shared.now in
     record {
-      is = hosting_first _ _ _ _ _ _ _ _ shared.lock.now shared.book.now shared.plan.now _ _ _ _ c.requires.accepting c.requires.fresh.0 c.requires.fresh.1 c.requires.handless c.requires.hosts;
+      is = hosting_first _ _ _ _ _ _ _ _ shared.lock.now shared.book.now shared.plan.now _ _ _ _ c.requires.accepting c.requires.fresh.0 c.requires.fresh.1 c.requires.unused.0 c.requires.unused.1 c.requires.hosts;
       keeps = (λ held. held, refl);
     }
 
@@ -19,4 +19,4 @@ loop-preserved g c = record {
 
 pub returns-in-Some-step-clause-halted : goal.returns-in-Some-step-clause-halted
 returns-in-Some-step-clause-halted g c =
-    rw c.in-Some-step.is at (c.step.ensures.goes_on (g.L.Listener.listening c.args.listener.now) (g.Q.Clock.given c.args.ticks.now) c.loop.invariant.is)
+    rw c.close.ensures (rw c.in-Some-step.is at (c.step.ensures.goes_on (g.L.Listener.listening c.args.listener.now) (g.Q.Clock.given c.args.ticks.now) c.loop.invariant.is))

@@ -1,6 +1,6 @@
 use Rattle.conn_server.specs.Taken.{Keeps}
 use Rattle.conn_server.specs.Hosts.{IsHosting}
-use Rattle.conn_server.proofs.host_loop.Host.run.Given as goal
+use Rattle.conn_server.proofs.host_loop.HostLoop.run.Given as goal
 
 abbrev pub invariant-loop : goal.invariant-loop
 invariant-loop g l = record {

@@ -1,7 +1,8 @@
 use Rattle.std.proofs.Common.{arith, refl}
 use Rattle.conn_server.specs.declared.accept_loop.Stop.TheVariants.{AcceptFault}
-use Rattle.conn_server.proofs.Hosting.{halted_none, hosting_joined}
-use Rattle.conn_server.proofs.host_loop.Host.step.Goals as goal
+use Rattle.conn_server.proofs.Hosting.{halted_none, halted_told}
+use Rattle.conn_server.proofs.Listening.{like_looked}
+use Rattle.conn_server.proofs.host_loop.HostLoop.step.Goals as goal
 
 pub returns-in-Ok : goal.returns-in-Ok
 returns-in-Ok g c = record {
@@ -9,35 +10,43 @@ returns-in-Ok g c = record {
   goes_on = λ l0 gave_first h. c.take_waited.ensures.goes_on l0 (g.L.Listener.listening c.args.listener.now) (g.L.Listener.listening c.wait.new.self) gave_first h c.in-Ok.ensures.waits c.in-Ok.ensures.ports;
 }
 
-pub returns-then-len-ge-MAX_LIVE-clause-goes_on : goal.returns-then-len-ge-MAX_LIVE-clause-goes_on
-returns-then-len-ge-MAX_LIVE-clause-goes_on g c l0 gave_first h =
-    let joined = c.catch_up.ensures in
+pub returns-then-is_told-clause-goes_on : goal.returns-then-is_told-clause-goes_on
+returns-then-is_told-clause-goes_on g c l0 gave_first h =
+    let looks = c.is_told.ensures.looks in
+    let same = looks.2 in
     let l = g.L.Listener.listening c.args.listener.now in
-    hosting_joined _ _ _ _ _ _ _ _ _ _ _ l0 gave_first l l _ _ _ _ h joined.accepting joined.follows joined.ticks joined.links joined.begun refl (omega arith) refl refl
+    let l2 = g.L.Listener.listening c.is_told.new.self in
+    halted_told _ _ _ _ _ _ _ _ _ _ _ l0 gave_first l l2 _ _ _ _ h h.is (λ front begins. begins, refl) refl refl refl looks.1 (omega (arith, same)) (looks.3 ∙ c.if-is_told.true) looks.0
+
+pub returns-else-is_told-clause-goes_on : goal.returns-else-is_told-clause-goes_on
+returns-else-is_told-clause-goes_on g c l0 gave_first h =
+    let l = g.L.Listener.listening c.args.listener.now in
+    let l2 = g.L.Listener.listening c.is_told.new.self in
+    c.pass_time.ensures.goes_on l0 l l2 gave_first h (like_looked l l2 c.is_told.result c.is_told.ensures.looks c.if-is_told.false)
 
 pub returns-then-gives_up-clause-goes_on : goal.returns-then-gives_up-clause-goes_on
 returns-then-gives_up-clause-goes_on g c l0 gave_first h =
-    let joined = c.catch_up-in-Err.ensures in
+    let passed = c.pass_time-in-Err.ensures in
     let failed = c.in-Err.ensures.waits in
     let rose = failed.1.0 in
     let most = failed.1.1 in
     let faults = h.faults in
     let test = c.if-self-count_of.false in
     let count = c.count_of.ensures in
-    let begun = joined.begun in
+    let begun = passed.begun in
     let l = g.L.Listener.listening c.args.listener.now in
     let l2 = g.L.Listener.listening c.wait.new.self in
     rw (c.gives_up.ensures.acceptor, c.gives_up.ensures.own)
     (halted_none _ _ _ _ _ _ _ _ _ _ _ l0 gave_first l2 _ _ _ AcceptFault
-    (hosting_joined _ _ _ _ _ _ _ _ _ _ _ l0 gave_first l l2 _ _ _ _ h joined.accepting joined.follows joined.ticks joined.links joined.begun failed.0 (omega (arith, rose)) c.in-Err.ensures.ports failed.2)
+    (passed.goes_on l0 l l2 gave_first h (record { accepted = failed.0; faults = omega (arith, rose); same_told = failed.2; same_ports = c.in-Err.ensures.ports }))
     (omega (arith, test, count, begun), refl) (λ is. (omega (arith, rose, faults), omega (arith, most, faults))))
 
 pub returns-else-gives_up-clause-goes_on : goal.returns-else-gives_up-clause-goes_on
 returns-else-gives_up-clause-goes_on g c l0 gave_first h =
-    let joined = c.catch_up-in-Err.ensures in
+    let passed = c.pass_time-in-Err.ensures in
     let failed = c.in-Err.ensures.waits in
     let rose = failed.1.0 in
     let l = g.L.Listener.listening c.args.listener.now in
     let l2 = g.L.Listener.listening c.wait.new.self in
     rw (c.gives_up.ensures.acceptor, c.gives_up.ensures.own)
-    (hosting_joined _ _ _ _ _ _ _ _ _ _ _ l0 gave_first l l2 _ _ _ _ h joined.accepting joined.follows joined.ticks joined.links joined.begun failed.0 (omega (arith, rose)) c.in-Err.ensures.ports failed.2)
+    (passed.goes_on l0 l l2 gave_first h (record { accepted = failed.0; faults = omega (arith, rose); same_told = failed.2; same_ports = c.in-Err.ensures.ports }))

@@ -2,7 +2,7 @@ use Rattle.std.proofs.Common.{arith, refl}
 use Rattle.wire_io.specs.Links.{accepted_as}
 use Rattle.conn_server.proofs.Hosting.{halted_lost, halted_told, hosting_joined, hosting_link, hosting_quiet}
 use Rattle.conn_server.proofs.Keeping.{keeps_on}
-use Rattle.conn_server.proofs.host_loop.Host.take_waited.Goals as goal
+use Rattle.conn_server.proofs.host_loop.HostLoop.take_waited.Goals as goal
 
 pub admit-requires-clause-few : goal.admit-requires-clause-few
 admit-requires-clause-few g c κs within =

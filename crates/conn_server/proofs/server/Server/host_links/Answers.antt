@@ -1,0 +1,25 @@
+use Rattle.std.proofs.Common.{rules}
+use Rattle.conn_server.proofs.server.Server.host_links.Goals as goal
+
+pub returns-clause-hosted : goal.returns-clause-hosted
+returns-clause-hosted g c =
+    let s = c.scoped-left.ensures.1.1.1.0 in
+    record {
+      served = s.served;
+      links = s.links;
+      missed = s.missed;
+      joined = s.joined;
+      handed_on = s.handed_on;
+      quiet = search rules;
+      reports = s.reports;
+      told_links = search rules;
+      stopped = search rules;
+      back = s.back;
+      untold = search rules;
+    }
+
+pub returns-clause-fault : goal.returns-clause-fault
+returns-clause-fault g c = search rules
+
+pub returns-clause-keeps : goal.returns-clause-keeps
+returns-clause-keeps g c = c.scoped-left.ensures.1.1.0
