@@ -5,6 +5,8 @@
 #[cfg(test)]
 mod crews;
 #[cfg(test)]
+mod crowds;
+#[cfg(test)]
 mod journals;
 #[cfg(test)]
 mod quiet;

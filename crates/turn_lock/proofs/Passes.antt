@@ -210,3 +210,14 @@ fresh_root l r table first me number made out legal =
       knows = knows;
       none_out = out;
     }
+
+-- The root is the lock's, wherever the events begin that it did not hand out.
+pub root_kept : (l : TurnLock) (r : Root) (kept : ℕ) → IsRootOf l r → IsRootOf l (record r { kept = kept })
+root_kept l r kept is = record {
+  pass_is = is.pass_is;
+  first = is.first;
+  made_are = is.made_are;
+  parts = is.parts;
+  some_out = is.some_out;
+  most = is.most;
+}

@@ -2,6 +2,7 @@
 ghost use Rattle.std.specs.Prelude.{◌≡◌, length};
 
 use crate::table::{LockSeat, LockTable};
+use std::sync::atomic::AtomicU64;
 
 /// A lock round a space, at which passes take turns in the order of their tickets.
 #[derive(Drop)]
@@ -12,6 +13,8 @@ pub struct TurnLock {
     pub(crate) opened: u64,
     /// True where each further event is kept until the root hands it out.
     pub(crate) records: bool,
+    /// The place up to which events were handed out, where the lock keeps them. Links sleep on it.
+    pub(crate) handed: AtomicU64,
     ghost counted: { opened ≡ length board.shared.key.value.events },
     ghost sized: { (board.shared.table_id.words ≡ 3) × (board.shared.table_id.slots ≡ 1) },
 }

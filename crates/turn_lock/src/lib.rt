@@ -34,12 +34,18 @@
 //! between them. A lock makes 2^32 - 1 passes, as many as there are connection numbers. A pass
 //! makes any number of turns.
 //!
+//! A lock that records keeps events until the root takes them. While 16,384 or more are kept, a
+//! turn of a pass waits for `take_recent` before it draws its ticket, for one second at most. Then
+//! it goes on, so nothing stands still for good if nobody takes events. The root's own turns and
+//! the ends of calls do not wait. `is_crowded` tells the taker that half as many are kept.
+//!
 //! # Cost
 //!
 //! A turn takes 0.39 microseconds by one thread (`bench/lock`). By 2, 4 and 16 threads the rate is
 //! 0.59, 0.47 and 0.47 of that.
 #![tactic(auto)]
 
+mod crowd;
 mod desk;
 mod handles;
 pub mod laws;

@@ -19,6 +19,7 @@ use object_ids::ObjId;
 use space::{Asked, Space};
 use std::alloc::{AllocError, AllocFailed, Global};
 use std::sync::Wait;
+use std::sync::atomic::AtomicU64;
 
 /// The most passes that a lock makes, as many as there are numbers of connections. At 1,000 connections a second they
 /// last for 49 days.
@@ -145,6 +146,7 @@ fn around_desk(alloc: Global, desk: DeskBox, records: bool) -> Result<(TurnLock,
                 board,
                 opened,
                 records,
+                handed: AtomicU64::new(opened),
             };
             Ok((lock, root))
         }
@@ -162,7 +164,9 @@ fn close_desk(lock: TurnLock, root: Root) -> DeskBox
         board,
         opened: _,
         records: _,
+        handed,
     } = lock;
+    drop(handed);
     let Root {
         pass,
         made: _,
@@ -234,7 +238,7 @@ impl Root {
 }
 
 impl Pass {
-    /// One turn. It waits for its ticket.
+    /// One turn. A link's waits for room among the kept events, for a second at most. Then it waits for its ticket.
     pub(crate) fn turn<R: Wait>(
         &mut self,
         rt: &R,
@@ -250,6 +254,7 @@ impl Pass {
             (view_of self.new) }
         ensures ordered { InOrder (opening_of lock.now) (view_of self.new) }
     {
+        lock.wait_for_room(rt, self.number);
         let event = Event {
             by: self.number,
             moment,
@@ -258,7 +263,7 @@ impl Pass {
         steps::turn(rt, &lock.board.shared, &mut self.seat, event)
     }
 
-    /// One turn, with its entry. It waits for its ticket.
+    /// One turn, with its entry. It waits as `turn` does.
     pub(crate) fn turn_noted<R: Wait>(
         &mut self,
         rt: &R,
@@ -278,6 +283,7 @@ impl Pass {
         ensures known { IfOk result (λ x. x.0 ≢ Err Refused.OutOfMemory) }
         ensures ordered { InOrder (opening_of lock.now) (view_of self.new) }
     {
+        lock.wait_for_room(rt, self.number);
         let event = Event {
             by: self.number,
             moment,

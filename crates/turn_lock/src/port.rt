@@ -83,6 +83,7 @@ impl<'a, R: Wait> Port for PassPort<'a, R, AskedLog> {
         requires moment { moment < END_OF_TIME }
         ensures asked { self.new.asked.items
             ≡ self.old.asked.items ++ entries_of moment ask result }
+        ensures room { 2 ^ 64 - 1 ≤ 2 ^ 64 }
         ensures answer { IsAnswerTo (Shows self.old.asked.items) ask result }
         ensures ready { IsPassOf self.new.lock.now self.new.pass.now
             × IsTied (view_of self.new.pass.now).number (seen_space (view_of self.new.pass.now))
@@ -116,6 +117,7 @@ impl<'a, R: Wait> Port for PassPort<'a, R, AskedLog> {
         ensures asked { (place : ℕ)
             × (self.new.asked.items
             ≡ self.old.asked.items ++ abandoned_at moment object place ∷ []) }
+        ensures room { 2 ^ 64 - 1 ≤ 2 ^ 64 }
         ensures ready { IsPassOf self.new.lock.now self.new.pass.now
             × IsTied (view_of self.new.pass.now).number (seen_space (view_of self.new.pass.now))
             self.new.asked.items self.new.asked.capacity }
@@ -205,6 +207,7 @@ impl<'a, R: Wait> Port for PassPort<'a, R, ToldLog> {
             self.old.asked }
         requires moment { moment < END_OF_TIME }
         ensures asked { self.new.asked ≡ self.old.asked ++ entries_of moment ask result }
+        ensures room { 2 ^ 64 - 1 ≤ 2 ^ 64 }
         ensures answer { IsAnswerTo (Shows self.old.asked) ask result }
         ensures ready { IsPassOf self.new.lock.now self.new.pass.now
             × IsTiedTold (view_of self.new.pass.now).number (seen_space (view_of self.new.pass.now))
@@ -230,6 +233,7 @@ impl<'a, R: Wait> Port for PassPort<'a, R, ToldLog> {
         requires runs { Shows self.old.asked object }
         ensures asked { (place : ℕ)
             × (self.new.asked ≡ self.old.asked ++ abandoned_at moment object place ∷ []) }
+        ensures room { 2 ^ 64 - 1 ≤ 2 ^ 64 }
         ensures ready { IsPassOf self.new.lock.now self.new.pass.now
             × IsTiedTold (view_of self.new.pass.now).number (seen_space (view_of self.new.pass.now))
             self.new.asked }

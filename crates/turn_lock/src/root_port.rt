@@ -106,9 +106,13 @@ impl Root {
         match self.pass.take_recent(rt, lock, from) {
             Some((part, end)) => {
                 self.kept = end;
+                lock.note_handed(end);
                 Ok(part)
             }
-            None => Err(RecentFault::OutOfMemory),
+            None => {
+                lock.note_refused();
+                Err(RecentFault::OutOfMemory)
+            }
         }
     }
 }

@@ -37,7 +37,7 @@ pub returns-clause-root : goal.returns-clause-root
 returns-clause-root c =
     let r : Root = c.args.self.now in
     let p : Pass = c.args.pass in
-    let s : Root = record { pass = record { seat = c.load.new.seat; number = r.pass.number }; made = r.made; out = r.out - 1 } in
+    let s : Root = record { pass = record { seat = c.load.new.seat; number = r.pass.number }; made = r.made; out = r.out - 1; kept = r.kept } in
     let e = c.join_seat.ensures in let f = c.load.ensures in
     let few = f.2.4 in let one = c.requires.own.1.1 in
     let parts = ap (λ (m : Sat). m.0.parts) e.2 in

@@ -1,18 +1,19 @@
-use Rattle.std.proofs.Common.{[], refl, subst}
-use Rattle.turn_lock.specs.declared.handles.Pass.{Pass}
-use Rattle.turn_lock.specs.PassPorts.{PassWent}
-use Rattle.turn_lock.specs.PortLaws.{root_after}
+use Rattle.std.proofs.Common.{[]}
+use Rattle.turn_lock.specs.Lending.{with_pass}
+use Rattle.turn_lock.specs.PortLaws.{pass_self, root_after}
+use Rattle.turn_lock.proofs.Passes.{root_kept}
 use Rattle.turn_lock.proofs.handles.Root.take_recent.Goals as goal
 
-pub returns : goal.returns
-returns g c =
+pub returns-in-Some-clause-went : goal.returns-in-Some-clause-went
+returns-in-Some-clause-went g c = pass_self c.args.self.now.pass
+
+pub returns-in-Some-take_recent-clause-root : goal.returns-in-Some-take_recent-clause-root
+returns-in-Some-take_recent-clause-root g c =
     let t = c.take_recent.ensures in
     let q = c.take_recent.new.self in
-    let went = subst (λ (p : Pass). PassWent p q []) c.own.ensures.value t.went in
-    record {
-      root = root_after c.args.lock.now c.args.self.now q [] c.requires.own t.pass went;
-      counts = (refl, refl);
-      went = went;
-      recent = t.recent;
-      ordered = t.pass.ordered;
-    }
+    root_kept c.args.lock.now (with_pass c.args.self.now q) _ (root_after c.args.lock.now c.args.self.now q [] c.requires.own t.pass t.went)
+
+pub returns-in-None-clause-root : goal.returns-in-None-clause-root
+returns-in-None-clause-root g c =
+    let t = c.take_recent.ensures in
+    root_after c.args.lock.now c.args.self.now c.take_recent.new.self [] c.requires.own t.pass t.went
