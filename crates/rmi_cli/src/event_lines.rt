@@ -23,7 +23,8 @@ pub(crate) fn write_events<K: Sink>(
     space: Uid,
     events: &[Event],
 ) -> SinkState
-    ensures { Goes (K.half sink.old) (K.half sink.new) (map (event_line space) events.now) state result }
+    ensures { Goes (K.half sink.old) (K.half sink.new) (map (event_line space) events.now) state
+        result }
 {
     let mut state = state;
     let mut rest = events;
