@@ -45,8 +45,10 @@ pub fn answer_input<S: Source, K: Sink, C: Clock>(
         (C.given clock.old) (C.given clock.new) result }
     ensures exact { ServesExactly seed.now options
         (wires S.half K.half source.old sink.old) (wires S.half K.half source.new sink.new) result }
-    ensures read_fault { result ≡ ConnEnd.ReadFault → Rose (S.half source.old).faults (S.half source.new).faults }
-    ensures write_fault { IsWriteFault result → Rose (K.half sink.old).faults (K.half sink.new).faults }
+    ensures read_fault { result ≡ ConnEnd.ReadFault
+        → Rose (S.half source.old).faults (S.half source.new).faults }
+    ensures write_fault { IsWriteFault result → Rose (K.half sink.old).faults
+        (K.half sink.new).faults }
     ensures open { StayOpen S.half K.half source.old sink.old source.new sink.new }
 {
     let mut parts = match answer_parts(alloc, seed, options) {
@@ -74,7 +76,8 @@ fn answer_parts(
     options: LeaseOptions,
 ) -> Result<AnswerParts, AllocError>
     requires { IsInRange options }
-    ensures terms { IfOk result (λ parts. terms_of parts.book parts.setup ≡ answer_terms seed.now options.binding) }
+    ensures terms { IfOk result (λ parts. terms_of parts.book parts.setup
+        ≡ answer_terms seed.now options.binding) }
     ensures drawn { IfOk result (λ parts. parts.setup.draw.drawn ≡ 0) }
     ensures space { IfOk result (λ parts. parts.space ≡ served_opening seed.now options) }
 {
@@ -86,7 +89,8 @@ fn answer_parts(
 
 /// Returns the setup of the connection, where clients may bind names or not.
 pub fn setup_of(alloc: Global, seed: &[u64; 4], binding: bool) -> Result<Setup, AllocError>
-    ensures terms { IfOk result (λ setup. terms_of sample_kinds setup ≡ answer_terms seed.now binding) }
+    ensures terms { IfOk result (λ setup. terms_of sample_kinds setup
+        ≡ answer_terms seed.now binding) }
     ensures drawn { IfOk result (λ setup. setup.draw.drawn ≡ 0) }
 {
     Ok(Setup {

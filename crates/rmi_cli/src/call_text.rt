@@ -65,7 +65,8 @@ fn slot_text(alloc: Global, graph: &Graph, slot: Slot) -> Result<ByteList, Alloc
 /// Returns what is printed of a node.
 fn node_text(alloc: Global, graph: &Graph, slot: Slot) -> Result<ByteList, AllocError>
     ensures { IfOk result (λ text. text ≡ string_text (text_at graph.now.nodes slot)
-        (remote_text (live_ref_at graph.now.nodes slot) (graph_text graph.now.nodes graph.now.items))) }
+        (remote_text (live_ref_at graph.now.nodes slot)
+        (graph_text graph.now.nodes graph.now.items))) }
 {
     match as_text(alloc, graph, slot) {
         Ok(units) => string_text(alloc, &units),
@@ -77,7 +78,8 @@ fn node_text(alloc: Global, graph: &Graph, slot: Slot) -> Result<ByteList, Alloc
 /// Returns what is printed of a node that is no string.
 fn object_text(alloc: Global, graph: &Graph, slot: Slot) -> Result<ByteList, AllocError>
     ensures { IfOk result (λ text. text
-        ≡ remote_text (live_ref_at graph.now.nodes slot) (graph_text graph.now.nodes graph.now.items)) }
+        ≡ remote_text (live_ref_at graph.now.nodes slot)
+        (graph_text graph.now.nodes graph.now.items)) }
 {
     match as_live_ref(alloc, graph, slot) {
         Ok(reference) => remote_text(alloc, &reference),

@@ -24,11 +24,14 @@ pub fn print_class<S: Source, K: Sink>(
     sink: &mut K,
     output: ClassOutput,
 ) -> RunEnd
-    ensures ends { PrintEnds output (wires S.half K.half source.old sink.old) (wires S.half K.half source.new sink.new)
+    ensures ends { PrintEnds output (wires S.half K.half source.old sink.old)
+        (wires S.half K.half source.new sink.new)
         (K.half sink.old).faults (K.half sink.new).faults result }
     ensures known { status_of_run result ≢ 1 }
-    ensures read_fault { status_of_run result ≡ 3 → Rose (S.half source.old).faults (S.half source.new).faults }
-    ensures write_fault { status_of_run result ≡ 4 → Rose (K.half sink.old).faults (K.half sink.new).faults }
+    ensures read_fault { status_of_run result ≡ 3
+        → Rose (S.half source.old).faults (S.half source.new).faults }
+    ensures write_fault { status_of_run result ≡ 4
+        → Rose (K.half sink.old).faults (K.half sink.new).faults }
     ensures open { StayOpen S.half K.half source.old sink.old source.new sink.new }
 {
     let limit = OUTLINE_BYTES as u64;

@@ -26,8 +26,10 @@ pub fn ask_server<D: Dialer, K: Sink>(
     command: ClientCommand,
 ) -> RunEnd
     ensures asks { (given : Option (List ℕ)) → AsksBy command
-        (side (D.dialing dialer.old) (map (ended_as D.In.half D.Out.half) talked.old.items) (K.half sink.old))
-        (side (D.dialing dialer.new) (map (ended_as D.In.half D.Out.half) talked.new.items) (K.half sink.new))
+        (side (D.dialing dialer.old) (map (ended_as D.In.half D.Out.half) talked.old.items)
+        (K.half sink.old))
+        (side (D.dialing dialer.new) (map (ended_as D.In.half D.Out.half) talked.new.items)
+        (K.half sink.new))
         given given result }
     ensures open { (K.half sink.new).shut ≡ (K.half sink.old).shut }
 {
@@ -103,7 +105,8 @@ fn print_ok<K: Sink>(sink: &mut K, answer: Result<(), CommandEnd>) -> RunEnd
 /// Writes a text, where there was memory for it.
 pub(crate) fn print_text<K: Sink>(sink: &mut K, text: Result<ByteList, AllocError>) -> RunEnd
     ensures printed { (bytes : List ℕ) → IfOk text (λ written. written ≡ bytes)
-        → Printed (K.half sink.old).held (K.half sink.new).held (K.half sink.old).faults (K.half sink.new).faults bytes result }
+        → Printed (K.half sink.old).held (K.half sink.new).held (K.half sink.old).faults
+        (K.half sink.new).faults bytes result }
     ensures open { (K.half sink.new).shut ≡ (K.half sink.old).shut }
 {
     match text {
@@ -114,7 +117,8 @@ pub(crate) fn print_text<K: Sink>(sink: &mut K, text: Result<ByteList, AllocErro
 
 /// Writes bytes.
 fn print_bytes<K: Sink>(sink: &mut K, bytes: &[u8]) -> RunEnd
-    ensures printed { Printed (K.half sink.old).held (K.half sink.new).held (K.half sink.old).faults (K.half sink.new).faults bytes.now result }
+    ensures printed { Printed (K.half sink.old).held (K.half sink.new).held (K.half sink.old).faults
+        (K.half sink.new).faults bytes.now result }
     ensures open { (K.half sink.new).shut ≡ (K.half sink.old).shut }
 {
     match put_all(sink, bytes) {

@@ -26,10 +26,12 @@ pub fn write_drill<K: Sink>(
     rounds: u64,
 ) -> RunEnd
     requires { rounds ≤ MAX_ROUNDS }
-    ensures ends { DrillEnds seed rounds (drill_text text seed rounds) (K.half sink.old).held (K.half sink.new).held result }
+    ensures ends { DrillEnds seed rounds (drill_text text seed rounds) (K.half sink.old).held
+        (K.half sink.new).held result }
     ensures known { status_of_run result ≢ 1 }
     ensures unread { status_of_run result ≢ 3 }
-    ensures write_fault { status_of_run result ≡ 4 → Rose (K.half sink.old).faults (K.half sink.new).faults }
+    ensures write_fault { status_of_run result ≡ 4
+        → Rose (K.half sink.old).faults (K.half sink.new).faults }
     ensures open { (K.half sink.new).shut ≡ (K.half sink.old).shut }
 {
     let space = match drilled_space(alloc, seed, rounds) {
@@ -49,7 +51,8 @@ pub fn write_drill<K: Sink>(
 /// The space that takes the events of a drill.
 fn drilled_space(alloc: Global, seed: u64, rounds: u64) -> Result<Space, Refused>
     requires { rounds ≤ MAX_ROUNDS }
-    ensures space { IfOk result (λ space. space ≡ space_of drill_config (drill_events seed rounds)) }
+    ensures space { IfOk result (λ space. space
+        ≡ space_of drill_config (drill_events seed rounds)) }
     ensures all { IfOk result (λ _. TakesAll seed rounds) }
     ensures refused { IfErr result (DrillStops seed rounds) }
 {
@@ -76,7 +79,8 @@ fn end_of_refused(refused: Refused) -> RunEnd
 /// This text of a space.
 fn text_of(alloc: Global, space: &Space, text: DrillText) -> Result<ByteList, AllocError>
     requires { space.now.configuration.stored ≡ true }
-    ensures { IfOk result (λ written. written ≡ text_of text space.now.configuration space.now.events) }
+    ensures { IfOk result (λ written. written
+        ≡ text_of text space.now.configuration space.now.events) }
 {
     match text {
         DrillText::Summary => summary(alloc, space),

@@ -12,8 +12,8 @@ use sequence::ByteList;
 use std::alloc::{AllocError, Global};
 use wire_io::sink::Sink;
 
-/// The most lines that are written at once.
-const LINES_AT_ONCE: usize = 64;
+/// The most lines that are written at once. A part of a journal has no more, so one write takes all of it.
+const LINES_AT_ONCE: usize = 4_096;
 
 /// Writes the lines of events, in the journal of the space of this identifier, and returns the sink's state after them.
 pub(crate) fn write_events<K: Sink>(
@@ -23,7 +23,8 @@ pub(crate) fn write_events<K: Sink>(
     space: Uid,
     events: &[Event],
 ) -> SinkState
-    ensures { Goes (K.half sink.old) (K.half sink.new) (map (event_line space) events.now) state result }
+    ensures { Goes (K.half sink.old) (K.half sink.new) (map (event_line space) events.now) state
+        result }
 {
     let mut state = state;
     let mut rest = events;

@@ -13,11 +13,13 @@ use wire_io::sink::Sink;
 
 /// Writes the text that explains these commands.
 pub fn write_help<K: Sink>(alloc: Global, sink: &mut K, topic: HelpTopic) -> RunEnd
-    ensures printed { Printed (K.half sink.old).held (K.half sink.new).held (K.half sink.old).faults (K.half sink.new).faults
+    ensures printed { Printed (K.half sink.old).held (K.half sink.new).held (K.half sink.old).faults
+        (K.half sink.new).faults
         (help_text topic) result }
     ensures known { status_of_run result ≢ 1 }
     ensures unread { status_of_run result ≢ 3 }
-    ensures write_fault { status_of_run result ≡ 4 → Rose (K.half sink.old).faults (K.half sink.new).faults }
+    ensures write_fault { status_of_run result ≡ 4
+        → Rose (K.half sink.old).faults (K.half sink.new).faults }
     ensures open { (K.half sink.new).shut ≡ (K.half sink.old).shut }
 {
     let text = match help_text(alloc, topic) {

@@ -122,12 +122,17 @@ impl<'s, K, E> DeskSinks<'s, K, E> {
     ) -> Desk<'s, K, E, R>
         ensures same_output { result.output.ghost_name ≡ self.entry.output.ghost_name }
         ensures same_errors { result.errors.ghost_name ≡ self.entry.errors.ghost_name }
-        ensures sinks { (result.output.now ≡ self.entry.output.now) × (result.errors.now ≡ self.entry.errors.now) }
-        ensures first { (result.first_output.value ≡ self.entry.output.now) × (result.first_errors.value ≡ self.entry.errors.now) }
-        ensures printed { (result.printed ≡ self.entry.states.printed) × (result.first_printed ≡ self.entry.states.printed) }
-        ensures told { (result.told ≡ self.entry.states.told) × (result.first_told ≡ self.entry.states.told) }
+        ensures sinks { (result.output.now ≡ self.entry.output.now)
+            × (result.errors.now ≡ self.entry.errors.now) }
+        ensures first { (result.first_output.value ≡ self.entry.output.now)
+            × (result.first_errors.value ≡ self.entry.errors.now) }
+        ensures printed { (result.printed ≡ self.entry.states.printed)
+            × (result.first_printed ≡ self.entry.states.printed) }
+        ensures told { (result.told ≡ self.entry.states.told)
+            × (result.first_told ≡ self.entry.states.told) }
         ensures words { (result.recording ≡ recording) × (result.space ≡ space) }
-        ensures nothing { (result.given.reports ≡ []) × (result.given.ticks ≡ []) × (result.given.events ≡ []) }
+        ensures nothing { (result.given.reports ≡ []) × (result.given.ticks ≡ [])
+            × (result.given.events ≡ []) }
         ensures times { (result.last ≡ None) × (result.starts.items ≡ []) }
     {
         let DeskSinks {
@@ -159,7 +164,8 @@ impl<'s, K, E, R, S: Drop> HostDesk<'s, K, E, R, S> {
     pub(crate) fn into_parts(self) -> (&'s mut K, &'s mut E, DeskLeft<R>)
         ensures same_output { result.0.ghost_name ≡ self.entry.output.ghost_name }
         ensures same_errors { result.1.ghost_name ≡ self.entry.errors.ghost_name }
-        ensures sinks { (result.0.now ≡ self.entry.output.now) × (result.1.now ≡ self.entry.errors.now) }
+        ensures sinks { (result.0.now ≡ self.entry.output.now)
+            × (result.1.now ≡ self.entry.errors.now) }
         ensures given { result.2.given ≡ self.entry.given }
         ensures printed { result.2.states.printed ≡ self.entry.printed }
         ensures told { result.2.states.told ≡ self.entry.told }
@@ -267,7 +273,8 @@ fn note_events(noted: &mut Past<Event>, events: &[Event])
 
 /// Appends the start of a link, where there is memory for it.
 fn note_start(starts: &mut Vec<LinkStart>, start: LinkStart)
-    ensures { (starts.new.items ≡ starts.old.items ++ start ∷ []) ⊎ (starts.new.items ≡ starts.old.items) }
+    ensures { (starts.new.items ≡ starts.old.items ++ start ∷ [])
+        ⊎ (starts.new.items ≡ starts.old.items) }
 {
     let _ = starts.push(start);
 }

@@ -90,8 +90,10 @@ pub(crate) fn host_input<
     requires { IfOk parts AreReady }
     ensures hosts { (seed : List ℕ) (asked : HostWords) → IfOk parts.entry (ArePartsOf seed asked)
         → HostsTelling R L.In.half L.Out.half L.Ticks.given seed asked
-        (host_side (L.listening host.old.listener) (T.given host.old.ticks) (O.half host.old.output))
-        (host_side (L.listening host.new.listener) (T.given host.new.ticks) (O.half host.new.output))
+        (host_side (L.listening host.old.listener) (T.given host.old.ticks)
+        (O.half host.old.output))
+        (host_side (L.listening host.new.listener) (T.given host.new.ticks)
+        (O.half host.new.output))
         (E.half host.old.errors) (E.half host.new.errors) result.told result.end }
     ensures known { status_of_run result.end ≢ 1 }
     ensures fault { status_of_run result.end ≡ 3
@@ -131,8 +133,10 @@ fn host_on<
     requires { AreReady parts }
     ensures hosts { (seed : List ℕ) (asked : HostWords) → ArePartsOf seed asked parts.entry
         → HostsTelling R L.In.half L.Out.half L.Ticks.given seed asked
-        (host_side (L.listening host.old.listener) (T.given host.old.ticks) (O.half host.old.output))
-        (host_side (L.listening host.new.listener) (T.given host.new.ticks) (O.half host.new.output))
+        (host_side (L.listening host.old.listener) (T.given host.old.ticks)
+        (O.half host.old.output))
+        (host_side (L.listening host.new.listener) (T.given host.new.ticks)
+        (O.half host.new.output))
         (E.half host.old.errors) (E.half host.new.errors) result.told result.end }
     ensures known { status_of_run result.end ≢ 1 }
     ensures fault { status_of_run result.end ≡ 3
@@ -209,7 +213,8 @@ fn host_links<
     ensures ports { (L.listening host.new.listener).ports ≡ (L.listening host.old.listener).ports }
     ensures fault { result.hosted.stop ≡ Stop.AcceptFault
         → Rose (L.listening host.old.listener).faults (L.listening host.new.listener).faults }
-    ensures faults { (L.listening host.old.listener).faults ≤ (L.listening host.new.listener).faults }
+    ensures faults { (L.listening host.old.listener).faults
+        ≤ (L.listening host.new.listener).faults }
     ensures rest { (host.new.input ≡ host.old.input) × (host.new.dialer ≡ host.old.dialer)
         × (host.new.talked ≡ host.old.talked) × (host.new.seed ≡ host.old.seed)
         × (host.new.served ≡ host.old.served) }
@@ -244,7 +249,8 @@ fn serve_at_desk<'s, 't, R: Threads + Wait + Sync, K: Sink, E: Sink, T: Clock, L
     ensures same_output { result.0.ghost_name ≡ output.entry.ghost_name }
     ensures same_errors { result.1.ghost_name ≡ errors.entry.ghost_name }
     ensures printed { Goes (K.half output.old) (K.half result.0.now)
-        (recorded_lines begun.entry.parts.recording begun.entry.parts.space result.2.hosted.taker.events)
+        (recorded_lines begun.entry.parts.recording begun.entry.parts.space
+        result.2.hosted.taker.events)
         begun.entry.first.printed result.2.states.printed }
     ensures told { Goes (E.half errors.old) (E.half result.1.now)
         (told_lines result.2.hosted.taker.reports) begun.entry.first.told result.2.states.told }
@@ -310,9 +316,12 @@ fn take_apart<'s, 't, R: Wait + Sync, K, E, I, O, T>(
     ensures printed { result.2.states.printed ≡ served.entry.taker.printed }
     ensures told { result.2.states.told ≡ served.entry.taker.told }
     ensures given { result.2.hosted.taker ≡ served.entry.taker.given }
-    ensures rest { (result.2.hosted.stop ≡ served.entry.stop) × (result.2.hosted.lost ≡ served.entry.lost)
-        × (result.2.hosted.space ≡ served.entry.space) × (result.2.hosted.whole ≡ served.entry.whole)
-        × (result.2.hosted.hand ≡ served.entry.hand) × (result.2.hosted.tick_missed ≡ served.entry.tick_missed) }
+    ensures rest { (result.2.hosted.stop ≡ served.entry.stop)
+        × (result.2.hosted.lost ≡ served.entry.lost)
+        × (result.2.hosted.space ≡ served.entry.space)
+        × (result.2.hosted.whole ≡ served.entry.whole)
+        × (result.2.hosted.hand ≡ served.entry.hand)
+        × (result.2.hosted.tick_missed ≡ served.entry.tick_missed) }
 {
     let Hosted {
         taker,
@@ -344,7 +353,8 @@ fn close_output<K: Sink, I: Drop, O: Drop, T: Drop, G, H: Drop>(
     states: SinkStates,
     hosted: Hosted<I, O, T, Given<G>, H>,
 ) -> HostEnd
-    ensures ends { IsClosed recording (K.half sink.old) (K.half sink.new) states.printed hosted result.end }
+    ensures ends { IsClosed recording (K.half sink.old) (K.half sink.new) states.printed hosted
+        result.end }
     ensures told { result.told ≡ states.told }
     ensures open { (K.half sink.new).shut ≡ (K.half sink.old).shut }
 {

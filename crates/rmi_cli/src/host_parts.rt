@@ -131,7 +131,8 @@ fn host_lock(
 
 /// Returns the lock round a space, and its root. It records events where they are printed.
 fn lock_round(alloc: Global, space: Space, output: Record) -> Result<(TurnLock, Root), Space>
-    ensures fresh { MatchResult result (λ t. IsFresh t.0 t.1 × (opening_of t.0 ≡ space)) (λ s. s ≡ space) }
+    ensures fresh { MatchResult result (λ t. IsFresh t.0 t.1 × (opening_of t.0 ≡ space))
+        (λ s. s ≡ space) }
 {
     match output {
         Record::Silent => TurnLock::around(alloc, space),

@@ -18,10 +18,13 @@ pub const JOURNAL_BYTES: usize = 268_435_456;
 
 /// Takes the whole input as a journal, and writes the outline of the history that it spells.
 pub fn replay_input<S: Source, K: Sink>(alloc: Global, source: &mut S, sink: &mut K) -> RunEnd
-    ensures ends { ReplayEnds (wires S.half K.half source.old sink.old) (wires S.half K.half source.new sink.new) result }
+    ensures ends { ReplayEnds (wires S.half K.half source.old sink.old)
+        (wires S.half K.half source.new sink.new) result }
     ensures known { status_of_run result ≢ 1 }
-    ensures read_fault { status_of_run result ≡ 3 → Rose (S.half source.old).faults (S.half source.new).faults }
-    ensures write_fault { status_of_run result ≡ 4 → Rose (K.half sink.old).faults (K.half sink.new).faults }
+    ensures read_fault { status_of_run result ≡ 3
+        → Rose (S.half source.old).faults (S.half source.new).faults }
+    ensures write_fault { status_of_run result ≡ 4
+        → Rose (K.half sink.old).faults (K.half sink.new).faults }
     ensures open { StayOpen S.half K.half source.old sink.old source.new sink.new }
 {
     let input = match take_whole(alloc, source, JOURNAL_BYTES) {

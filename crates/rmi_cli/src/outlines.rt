@@ -80,8 +80,11 @@ fn take_line<'a>(
 ) -> Result<&'a [u8], ReplayFault>
     requires some { lines.now ≢ [] }
     requires space { space.old.configuration ≡ config.now }
-    ensures next { IfOk result (λ more. TakesTo config.now space.old.events lines.now number more.now (number + 1) space.new.events) }
-    ensures stops { IfErr result (λ fault. LinesGo config.now space.old.events lines.now number (Err fault) space.new.events) }
+    ensures next { IfOk result
+        (λ more. TakesTo config.now space.old.events lines.now number more.now
+        (number + 1) space.new.events) }
+    ensures stops { IfErr result (λ fault. LinesGo config.now space.old.events lines.now number
+        (Err fault) space.new.events) }
     ensures fewer { IfOk result (λ more. length more.now < length lines.now) }
     ensures config { space.new.configuration ≡ config.now }
 {
@@ -135,8 +138,10 @@ fn read_line<'a>(
 /// Makes the turn of an event.
 fn make_turn(space: &mut Space, event: Event) -> Result<(), ReplayFault>
     requires { event.moment < END_OF_TIME }
-    ensures ok { OnOk result (IsTakenTo space.old.configuration space.old.events event space.new.events) }
-    ensures halts { IfErr result (λ fault. Halts space.old.configuration space.old.events event fault) }
+    ensures ok { OnOk result (IsTakenTo space.old.configuration space.old.events event
+        space.new.events) }
+    ensures halts { IfErr result
+        (λ fault. Halts space.old.configuration space.old.events event fault) }
     ensures err { OnErr result (space.new ≡ space.old) }
     ensures config { space.new.configuration ≡ space.old.configuration }
 {

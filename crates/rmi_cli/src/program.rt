@@ -96,14 +96,16 @@ pub fn run<
 
     // `answer` serves one connection over a space of its own, on the options that the words give: what was taken, done and written is a dialogue, whose
     // end is told.
-    ensures answer { (options : LeaseOptions) → AskFor words.now (Command.Answer options) → Answers host.old.seed options
+    ensures answer { (options : LeaseOptions) → AskFor words.now (Command.Answer options)
+        → Answers host.old.seed options
         (wires I.half O.half host.old.input host.old.output)
         (wires I.half O.half host.new.input host.new.output)
         (failures I.half O.half host.old.input host.old.output)
         (failures I.half O.half host.new.input host.new.output)
         (T.given host.old.ticks) (T.given host.new.ticks)
         (told_by E.half host.old.errors host.new.errors result) }
-    ensures exact { (options : LeaseOptions) → AskFor words.now (Command.Answer options) → AnswersExactly host.old.seed options
+    ensures exact { (options : LeaseOptions) → AskFor words.now (Command.Answer options)
+        → AnswersExactly host.old.seed options
         (wires I.half O.half host.old.input host.old.output)
         (wires I.half O.half host.new.input host.new.output)
         (told_by E.half host.old.errors host.new.errors result) }
@@ -116,7 +118,8 @@ pub fn run<
     ensures serves { (serve : ServeWords) → AskFor words.now (Command.Serve serve) → Serving
         (IsSampleLink L.In.half L.Out.half L.Ticks.given (serve_plan host.old.seed serve))
         (IsLostLink L.In.half L.Out.half L.Ticks.given)
-        host.old.seed serve host.new.served (L.listening host.old.listener) (L.listening host.new.listener)
+        host.old.seed serve host.new.served (L.listening host.old.listener)
+        (L.listening host.new.listener)
         (wires I.half O.half host.old.input host.old.output)
         (wires I.half O.half host.new.input host.new.output)
         (O.half host.old.output).faults (O.half host.new.output).faults
@@ -139,9 +142,12 @@ pub fn run<
     // `list`, `lookup`, `bind` and `unbind` dial a server and talk to it as their scripts say: what was sent and read on the link, and how it ended, is
     // one talk, the only one of the bytes that the server answers, where the link tells them, unless something outside failed or memory lacked. Nothing is
     // sent after the first end. The names, the reference or `ok` are printed where it ended well, and the end is told. The link's halves are left, shut.
-    ensures asks { (asked : ClientCommands) (given : Option (List ℕ)) → AskFor words.now (Command.Client asked) → AsksServer asked
-        (side (D.dialing host.old.dialer) (map (ended_as D.In.half D.Out.half) host.old.talked.items) (O.half host.old.output))
-        (side (D.dialing host.new.dialer) (map (ended_as D.In.half D.Out.half) host.new.talked.items) (O.half host.new.output))
+    ensures asks { (asked : ClientCommands) (given : Option (List ℕ))
+        → AskFor words.now (Command.Client asked) → AsksServer asked
+        (side (D.dialing host.old.dialer)
+        (map (ended_as D.In.half D.Out.half) host.old.talked.items) (O.half host.old.output))
+        (side (D.dialing host.new.dialer)
+        (map (ended_as D.In.half D.Out.half) host.new.talked.items) (O.half host.new.output))
         given given
         (told_by E.half host.old.errors host.new.errors result) }
 
@@ -152,9 +158,11 @@ pub fn run<
     // is no memory for the request, nothing is done.
     ensures calls { (call : CallWords) → AskFor words.now (Command.Call call)
         → CallsObject host.old.seed call
-        (side (D.dialing host.old.dialer) (map (ended_as D.In.half D.Out.half) host.old.talked.items)
+        (side (D.dialing host.old.dialer)
+        (map (ended_as D.In.half D.Out.half) host.old.talked.items)
         (O.half host.old.output))
-        (side (D.dialing host.new.dialer) (map (ended_as D.In.half D.Out.half) host.new.talked.items)
+        (side (D.dialing host.new.dialer)
+        (map (ended_as D.In.half D.Out.half) host.new.talked.items)
         (O.half host.new.output))
         (T.given host.old.ticks) (T.given host.new.ticks)
         (told_by E.half host.old.errors host.new.errors result) }
@@ -185,13 +193,15 @@ pub fn run<
 
     // `drill` writes the summary of the space that takes the events of a drill, and `journal` its journal, or says that an event is refused.
     // They read nothing.
-    ensures drill { (text : DrillTexts) (seed rounds : ℕ) → AskFor words.now (Command.Drill text seed rounds) → Drills text seed rounds
+    ensures drill { (text : DrillTexts) (seed rounds : ℕ)
+        → AskFor words.now (Command.Drill text seed rounds) → Drills text seed rounds
         (wires I.half O.half host.old.input host.old.output)
         (wires I.half O.half host.new.input host.new.output)
         (failures I.half O.half host.old.input host.old.output)
         (failures I.half O.half host.new.input host.new.output)
         (told_by E.half host.old.errors host.new.errors result) }
-    ensures drill_exact { (text : DrillTexts) (seed rounds : ℕ) → AskFor words.now (Command.Drill text seed rounds) → DrillsExactly text seed rounds
+    ensures drill_exact { (text : DrillTexts) (seed rounds : ℕ)
+        → AskFor words.now (Command.Drill text seed rounds) → DrillsExactly text seed rounds
         (wires I.half O.half host.old.input host.old.output)
         (wires I.half O.half host.new.input host.new.output)
         (told_by E.half host.old.errors host.new.errors result) }
@@ -216,12 +226,14 @@ pub fn run<
 
     // `suid`, `suidtext` and `describe` take the whole input as a class outline, and write the class's number, the text of which it is the hash, or its
     // description, or say which line is bad, or that there are too many fields.
-    ensures class { (output : ClassOutputs) → AskFor words.now (Command.Class output) → PrintsClass output
+    ensures class { (output : ClassOutputs) → AskFor words.now (Command.Class output)
+        → PrintsClass output
         (wires I.half O.half host.old.input host.old.output)
         (wires I.half O.half host.new.input host.new.output)
         (O.half host.old.output).faults (O.half host.new.output).faults
         (told_by E.half host.old.errors host.new.errors result) }
-    ensures class_exact { (output : ClassOutputs) → AskFor words.now (Command.Class output) → PrintsExactly output
+    ensures class_exact { (output : ClassOutputs) → AskFor words.now (Command.Class output)
+        → PrintsExactly output
         (wires I.half O.half host.old.input host.old.output)
         (wires I.half O.half host.new.input host.new.output)
         (told_by E.half host.old.errors host.new.errors result) }
@@ -240,28 +252,38 @@ pub fn run<
     ensures network { ((serve : ServeWords) → AskFor words.now (Command.Serve serve) → ⊥)
         → ((asked : HostWords) → AskFor words.now (Command.Host asked) → ⊥)
         → host.new.listener ≡ host.old.listener }
-    ensures served { ((serve : ServeWords) → AskFor words.now (Command.Serve serve) → ⊥) → host.new.served ≡ None }
+    ensures served { ((serve : ServeWords) → AskFor words.now (Command.Serve serve) → ⊥)
+        → host.new.served ≡ None }
     ensures seed { host.new.seed ≡ host.old.seed }
     ensures dialing { ((command : Commands) → AskFor words.now command → AsksAServer command → ⊥)
         → (host.new.dialer ≡ host.old.dialer) × (host.new.talked ≡ host.old.talked) }
-    ensures unread { (command : Commands) → AskFor words.now command → AsksAServer command → host.new.input ≡ host.old.input }
+    ensures unread { (command : Commands) → AskFor words.now command → AsksAServer command
+        → host.new.input ≡ host.old.input }
 
     // The outside's failures.
     ensures read_fault { ((serve : ServeWords) → AskFor words.now (Command.Serve serve) → ⊥)
         → ((asked : HostWords) → AskFor words.now (Command.Host asked) → ⊥)
         → ((command : Commands) → AskFor words.now command → AsksAServer command → ⊥)
         → result ≡ 3 → Rose (I.half host.old.input).faults (I.half host.new.input).faults }
-    ensures network_fault { (serve : ServeWords) → AskFor words.now (Command.Serve serve) → result ≡ 3 → Rose (L.listening host.old.listener).faults (L.listening host.new.listener).faults }
+    ensures network_fault { (serve : ServeWords) → AskFor words.now (Command.Serve serve) → result
+        ≡ 3 → Rose (L.listening host.old.listener).faults (L.listening host.new.listener).faults }
     ensures host_fault { (asked : HostWords) → AskFor words.now (Command.Host asked) → result ≡ 3
         → Rose (L.listening host.old.listener).faults (L.listening host.new.listener).faults }
-    ensures write_fault { ((command : Commands) → AskFor words.now command → AsksAServer command → ⊥)
+    ensures write_fault { ((command : Commands) → AskFor words.now command → AsksAServer command
+        → ⊥)
         → result ≡ 4 → Rose (O.half host.old.output).faults (O.half host.new.output).faults }
-    ensures link_fault { (command : Commands) → AskFor words.now command → AsksAServer command → result ≡ 3 → LinkFailed
-        (side (D.dialing host.old.dialer) (map (ended_as D.In.half D.Out.half) host.old.talked.items) (O.half host.old.output))
-        (side (D.dialing host.new.dialer) (map (ended_as D.In.half D.Out.half) host.new.talked.items) (O.half host.new.output)) }
-    ensures sink_fault { (command : Commands) → AskFor words.now command → AsksAServer command → result ≡ 4 → SinkFailed
-        (side (D.dialing host.old.dialer) (map (ended_as D.In.half D.Out.half) host.old.talked.items) (O.half host.old.output))
-        (side (D.dialing host.new.dialer) (map (ended_as D.In.half D.Out.half) host.new.talked.items) (O.half host.new.output)) }
+    ensures link_fault { (command : Commands) → AskFor words.now command → AsksAServer command
+        → result ≡ 3 → LinkFailed
+        (side (D.dialing host.old.dialer)
+        (map (ended_as D.In.half D.Out.half) host.old.talked.items) (O.half host.old.output))
+        (side (D.dialing host.new.dialer)
+        (map (ended_as D.In.half D.Out.half) host.new.talked.items) (O.half host.new.output)) }
+    ensures sink_fault { (command : Commands) → AskFor words.now command → AsksAServer command
+        → result ≡ 4 → SinkFailed
+        (side (D.dialing host.old.dialer)
+        (map (ended_as D.In.half D.Out.half) host.old.talked.items) (O.half host.old.output))
+        (side (D.dialing host.new.dialer)
+        (map (ended_as D.In.half D.Out.half) host.new.talked.items) (O.half host.new.output)) }
 
     // Where the listener and the output did not fail, `serve` and `host` end well, or memory lacked: however their links ended.
     ensures settled { (serve : ServeWords) → AskFor words.now (Command.Serve serve)
@@ -275,7 +297,8 @@ pub fn run<
         → (result ≡ 0) ⊎ (result ≡ 5) }
 
     // Neither the input, nor the output, nor the errors' sink is shut.
-    ensures open { StayOpen I.half O.half host.old.input host.old.output host.new.input host.new.output }
+    ensures open { StayOpen I.half O.half host.old.input host.old.output host.new.input
+        host.new.output }
     ensures errors_open { (E.half host.new.errors).shut ≡ (E.half host.old.errors).shut }
 {
     host.served = None;
@@ -330,21 +353,24 @@ fn obey<
 ) -> u8
     requires limits { IsInLimits command }
     ensures known { result ≢ 1 }
-    ensures answer { (options : LeaseOptions) → command ≡ Command.Answer options → Answers host.old.seed options
+    ensures answer { (options : LeaseOptions) → command ≡ Command.Answer options
+        → Answers host.old.seed options
         (wires I.half O.half host.old.input host.old.output)
         (wires I.half O.half host.new.input host.new.output)
         (failures I.half O.half host.old.input host.old.output)
         (failures I.half O.half host.new.input host.new.output)
         (T.given host.old.ticks) (T.given host.new.ticks)
         (told_by E.half host.old.errors host.new.errors result) }
-    ensures exact { (options : LeaseOptions) → command ≡ Command.Answer options → AnswersExactly host.old.seed options
+    ensures exact { (options : LeaseOptions) → command ≡ Command.Answer options
+        → AnswersExactly host.old.seed options
         (wires I.half O.half host.old.input host.old.output)
         (wires I.half O.half host.new.input host.new.output)
         (told_by E.half host.old.errors host.new.errors result) }
     ensures serves { (serve : ServeWords) → command ≡ Command.Serve serve → Serving
         (IsSampleLink L.In.half L.Out.half L.Ticks.given (serve_plan host.old.seed serve))
         (IsLostLink L.In.half L.Out.half L.Ticks.given)
-        host.old.seed serve host.new.served (L.listening host.old.listener) (L.listening host.new.listener)
+        host.old.seed serve host.new.served (L.listening host.old.listener)
+        (L.listening host.new.listener)
         (wires I.half O.half host.old.input host.old.output)
         (wires I.half O.half host.new.input host.new.output)
         (O.half host.old.output).faults (O.half host.new.output).faults
@@ -358,16 +384,21 @@ fn obey<
         (told_by E.half host.old.errors host.new.errors result) }
     ensures host_unread { (asked : HostWords) → command ≡ Command.Host asked
         → host.new.input ≡ host.old.input }
-    ensures asks { (asked : ClientCommands) (given : Option (List ℕ)) → command ≡ Command.Client asked → AsksServer asked
-        (side (D.dialing host.old.dialer) (map (ended_as D.In.half D.Out.half) host.old.talked.items) (O.half host.old.output))
-        (side (D.dialing host.new.dialer) (map (ended_as D.In.half D.Out.half) host.new.talked.items) (O.half host.new.output))
+    ensures asks { (asked : ClientCommands) (given : Option (List ℕ)) → command
+        ≡ Command.Client asked → AsksServer asked
+        (side (D.dialing host.old.dialer)
+        (map (ended_as D.In.half D.Out.half) host.old.talked.items) (O.half host.old.output))
+        (side (D.dialing host.new.dialer)
+        (map (ended_as D.In.half D.Out.half) host.new.talked.items) (O.half host.new.output))
         given given
         (told_by E.half host.old.errors host.new.errors result) }
     ensures calls { (call : CallWords) → command ≡ Command.Call call
         → CallsObject host.old.seed call
-        (side (D.dialing host.old.dialer) (map (ended_as D.In.half D.Out.half) host.old.talked.items)
+        (side (D.dialing host.old.dialer)
+        (map (ended_as D.In.half D.Out.half) host.old.talked.items)
         (O.half host.old.output))
-        (side (D.dialing host.new.dialer) (map (ended_as D.In.half D.Out.half) host.new.talked.items)
+        (side (D.dialing host.new.dialer)
+        (map (ended_as D.In.half D.Out.half) host.new.talked.items)
         (O.half host.new.output))
         (T.given host.old.ticks) (T.given host.new.ticks)
         (told_by E.half host.old.errors host.new.errors result) }
@@ -391,13 +422,15 @@ fn obey<
         (wires I.half O.half host.old.input host.old.output)
         (wires I.half O.half host.new.input host.new.output)
         (told_by E.half host.old.errors host.new.errors result) }
-    ensures drill { (text : DrillTexts) (seed rounds : ℕ) → command ≡ Command.Drill text seed rounds → Drills text seed rounds
+    ensures drill { (text : DrillTexts) (seed rounds : ℕ) → command ≡ Command.Drill text seed rounds
+        → Drills text seed rounds
         (wires I.half O.half host.old.input host.old.output)
         (wires I.half O.half host.new.input host.new.output)
         (failures I.half O.half host.old.input host.old.output)
         (failures I.half O.half host.new.input host.new.output)
         (told_by E.half host.old.errors host.new.errors result) }
-    ensures drill_exact { (text : DrillTexts) (seed rounds : ℕ) → command ≡ Command.Drill text seed rounds → DrillsExactly text seed rounds
+    ensures drill_exact { (text : DrillTexts) (seed rounds : ℕ) → command
+        ≡ Command.Drill text seed rounds → DrillsExactly text seed rounds
         (wires I.half O.half host.old.input host.old.output)
         (wires I.half O.half host.new.input host.new.output)
         (told_by E.half host.old.errors host.new.errors result) }
@@ -416,7 +449,8 @@ fn obey<
         (wires I.half O.half host.new.input host.new.output)
         (O.half host.old.output).faults (O.half host.new.output).faults
         (told_by E.half host.old.errors host.new.errors result) }
-    ensures class_exact { (output : ClassOutputs) → command ≡ Command.Class output → PrintsExactly output
+    ensures class_exact { (output : ClassOutputs) → command ≡ Command.Class output
+        → PrintsExactly output
         (wires I.half O.half host.old.input host.old.output)
         (wires I.half O.half host.new.input host.new.output)
         (told_by E.half host.old.errors host.new.errors result) }
@@ -432,41 +466,58 @@ fn obey<
     ensures network { ((serve : ServeWords) → command ≡ Command.Serve serve → ⊥)
         → ((asked : HostWords) → command ≡ Command.Host asked → ⊥)
         → host.new.listener ≡ host.old.listener }
-    ensures served { ((serve : ServeWords) → command ≡ Command.Serve serve → ⊥) → host.new.served ≡ host.old.served }
+    ensures served { ((serve : ServeWords) → command ≡ Command.Serve serve → ⊥) → host.new.served
+        ≡ host.old.served }
     ensures seed { host.new.seed ≡ host.old.seed }
     ensures dialing { ((asked : ClientCommands) → command ≡ Command.Client asked → ⊥)
         → ((call : CallWords) → command ≡ Command.Call call → ⊥)
         → (host.new.dialer ≡ host.old.dialer) × (host.new.talked ≡ host.old.talked) }
-    ensures unread { (asked : ClientCommands) → command ≡ Command.Client asked → host.new.input ≡ host.old.input }
-    ensures call_unread { (call : CallWords) → command ≡ Command.Call call → host.new.input ≡ host.old.input }
+    ensures unread { (asked : ClientCommands) → command ≡ Command.Client asked → host.new.input
+        ≡ host.old.input }
+    ensures call_unread { (call : CallWords) → command ≡ Command.Call call → host.new.input
+        ≡ host.old.input }
     ensures read_fault { ((serve : ServeWords) → command ≡ Command.Serve serve → ⊥)
         → ((asked : HostWords) → command ≡ Command.Host asked → ⊥)
         → ((asked : ClientCommands) → command ≡ Command.Client asked → ⊥)
         → ((call : CallWords) → command ≡ Command.Call call → ⊥)
         → result ≡ 3 → Rose (I.half host.old.input).faults (I.half host.new.input).faults }
-    ensures network_fault { (serve : ServeWords) → command ≡ Command.Serve serve → result ≡ 3 → Rose (L.listening host.old.listener).faults (L.listening host.new.listener).faults }
+    ensures network_fault { (serve : ServeWords) → command ≡ Command.Serve serve → result ≡ 3
+        → Rose (L.listening host.old.listener).faults (L.listening host.new.listener).faults }
     ensures host_fault { (asked : HostWords) → command ≡ Command.Host asked → result ≡ 3
         → Rose (L.listening host.old.listener).faults (L.listening host.new.listener).faults }
     ensures write_fault { ((asked : ClientCommands) → command ≡ Command.Client asked → ⊥)
         → ((call : CallWords) → command ≡ Command.Call call → ⊥)
         → result ≡ 4 → Rose (O.half host.old.output).faults (O.half host.new.output).faults }
-    ensures link_fault { (asked : ClientCommands) → command ≡ Command.Client asked → result ≡ 3 → LinkFailed
-        (side (D.dialing host.old.dialer) (map (ended_as D.In.half D.Out.half) host.old.talked.items) (O.half host.old.output))
-        (side (D.dialing host.new.dialer) (map (ended_as D.In.half D.Out.half) host.new.talked.items) (O.half host.new.output)) }
-    ensures sink_fault { (asked : ClientCommands) → command ≡ Command.Client asked → result ≡ 4 → SinkFailed
-        (side (D.dialing host.old.dialer) (map (ended_as D.In.half D.Out.half) host.old.talked.items) (O.half host.old.output))
-        (side (D.dialing host.new.dialer) (map (ended_as D.In.half D.Out.half) host.new.talked.items) (O.half host.new.output)) }
-    ensures call_link_fault { (call : CallWords) → command ≡ Command.Call call → result ≡ 3 → LinkFailed
-        (side (D.dialing host.old.dialer) (map (ended_as D.In.half D.Out.half) host.old.talked.items)
+    ensures link_fault { (asked : ClientCommands) → command ≡ Command.Client asked → result ≡ 3
+        → LinkFailed
+        (side (D.dialing host.old.dialer)
+        (map (ended_as D.In.half D.Out.half) host.old.talked.items) (O.half host.old.output))
+        (side (D.dialing host.new.dialer)
+        (map (ended_as D.In.half D.Out.half) host.new.talked.items) (O.half host.new.output)) }
+    ensures sink_fault { (asked : ClientCommands) → command ≡ Command.Client asked → result ≡ 4
+        → SinkFailed
+        (side (D.dialing host.old.dialer)
+        (map (ended_as D.In.half D.Out.half) host.old.talked.items) (O.half host.old.output))
+        (side (D.dialing host.new.dialer)
+        (map (ended_as D.In.half D.Out.half) host.new.talked.items) (O.half host.new.output)) }
+    ensures call_link_fault { (call : CallWords) → command ≡ Command.Call call → result ≡ 3
+        → LinkFailed
+        (side (D.dialing host.old.dialer)
+        (map (ended_as D.In.half D.Out.half) host.old.talked.items)
         (O.half host.old.output))
-        (side (D.dialing host.new.dialer) (map (ended_as D.In.half D.Out.half) host.new.talked.items)
+        (side (D.dialing host.new.dialer)
+        (map (ended_as D.In.half D.Out.half) host.new.talked.items)
         (O.half host.new.output)) }
-    ensures call_sink_fault { (call : CallWords) → command ≡ Command.Call call → result ≡ 4 → SinkFailed
-        (side (D.dialing host.old.dialer) (map (ended_as D.In.half D.Out.half) host.old.talked.items)
+    ensures call_sink_fault { (call : CallWords) → command ≡ Command.Call call → result ≡ 4
+        → SinkFailed
+        (side (D.dialing host.old.dialer)
+        (map (ended_as D.In.half D.Out.half) host.old.talked.items)
         (O.half host.old.output))
-        (side (D.dialing host.new.dialer) (map (ended_as D.In.half D.Out.half) host.new.talked.items)
+        (side (D.dialing host.new.dialer)
+        (map (ended_as D.In.half D.Out.half) host.new.talked.items)
         (O.half host.new.output)) }
-    ensures open { StayOpen I.half O.half host.old.input host.old.output host.new.input host.new.output }
+    ensures open { StayOpen I.half O.half host.old.input host.old.output host.new.input
+        host.new.output }
     ensures errors_open { (E.half host.new.errors).shut ≡ (E.half host.old.errors).shut }
 {
     match command {

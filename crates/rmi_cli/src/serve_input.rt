@@ -58,14 +58,21 @@ pub fn serve_input<'t, R: Threads + Wait + Sync, L: Listener, K: Sink>(
     words: &ServeWords,
 ) -> ServeOutcome<L::In, L::Out, L::Ticks, SampleHand<'t, R>>
     requires { IsServeInRange words.now }
-    ensures served { IfSome result.report (ServesLinks (IsSampleLink L.In.half L.Out.half L.Ticks.given (serve_plan seed.now words.now))
+    ensures served { IfSome result.report
+        (ServesLinks (IsSampleLink L.In.half L.Out.half L.Ticks.given
+        (serve_plan seed.now words.now))
         (IsLostLink L.In.half L.Out.half L.Ticks.given)
-        (served_opening seed.now words.now.options) words.now.count (L.listening listener.old).accepted (L.listening listener.new).accepted) }
-    ensures alone { ListensAlone words.now.port (L.listening listener.old) (L.listening listener.new) result.report }
-    ensures ends { ServeEnds (K.half sink.old).held (K.half sink.new).held (K.half sink.old).faults (K.half sink.new).faults result.report result.end }
+        (served_opening seed.now words.now.options) words.now.count
+        (L.listening listener.old).accepted (L.listening listener.new).accepted) }
+    ensures alone { ListensAlone words.now.port (L.listening listener.old)
+        (L.listening listener.new) result.report }
+    ensures ends { ServeEnds (K.half sink.old).held (K.half sink.new).held (K.half sink.old).faults
+        (K.half sink.new).faults result.report result.end }
     ensures known { status_of_run result.end ≢ 1 }
-    ensures fault { status_of_run result.end ≡ 3 → Rose (L.listening listener.old).faults (L.listening listener.new).faults }
-    ensures write_fault { status_of_run result.end ≡ 4 → Rose (K.half sink.old).faults (K.half sink.new).faults }
+    ensures fault { status_of_run result.end ≡ 3 → Rose (L.listening listener.old).faults
+        (L.listening listener.new).faults }
+    ensures write_fault { status_of_run result.end ≡ 4
+        → Rose (K.half sink.old).faults (K.half sink.new).faults }
     ensures open { (K.half sink.new).shut ≡ (K.half sink.old).shut }
 {
     match serve_parts(rt, alloc, seed, words) {
@@ -88,14 +95,20 @@ fn serve_on<'t, R: Threads + Wait + Sync, L: Listener, K: Sink>(
     requires host { length (utf parts.plan.host) ≤ MAX_HOST_BYTES }
     requires book { parts.book ≡ sample_kinds }
     requires stored { (opening_of parts.lock).configuration.stored ≡ true }
-    ensures served { IfSome result.report (ServesLinks (IsSampleLink L.In.half L.Out.half L.Ticks.given parts.entry.plan)
+    ensures served { IfSome result.report
+        (ServesLinks (IsSampleLink L.In.half L.Out.half L.Ticks.given parts.entry.plan)
         (IsLostLink L.In.half L.Out.half L.Ticks.given)
-        (opening_of parts.entry.lock) parts.entry.plan.count (L.listening listener.old).accepted (L.listening listener.new).accepted) }
-    ensures alone { ListensAlone port (L.listening listener.old) (L.listening listener.new) result.report }
-    ensures ends { ServeEnds (K.half sink.old).held (K.half sink.new).held (K.half sink.old).faults (K.half sink.new).faults result.report result.end }
+        (opening_of parts.entry.lock) parts.entry.plan.count (L.listening listener.old).accepted
+        (L.listening listener.new).accepted) }
+    ensures alone { ListensAlone port (L.listening listener.old) (L.listening listener.new)
+        result.report }
+    ensures ends { ServeEnds (K.half sink.old).held (K.half sink.new).held (K.half sink.old).faults
+        (K.half sink.new).faults result.report result.end }
     ensures known { status_of_run result.end ≢ 1 }
-    ensures fault { status_of_run result.end ≡ 3 → Rose (L.listening listener.old).faults (L.listening listener.new).faults }
-    ensures write_fault { status_of_run result.end ≡ 4 → Rose (K.half sink.old).faults (K.half sink.new).faults }
+    ensures fault { status_of_run result.end ≡ 3 → Rose (L.listening listener.old).faults
+        (L.listening listener.new).faults }
+    ensures write_fault { status_of_run result.end ≡ 4
+        → Rose (K.half sink.old).faults (K.half sink.new).faults }
     ensures open { (K.half sink.new).shut ≡ (K.half sink.old).shut }
 {
     if listener.listen("127.0.0.1", port).is_err() {
@@ -122,9 +135,11 @@ fn serve_links<'t, R: Threads + Wait + Sync, L: Listener>(
     requires book { parts.book ≡ sample_kinds }
     ensures served { ServesLinks (IsSampleLink L.In.half L.Out.half L.Ticks.given parts.entry.plan)
         (IsLostLink L.In.half L.Out.half L.Ticks.given)
-        (opening_of parts.entry.lock) parts.entry.plan.count (L.listening listener.old).accepted (L.listening listener.new).accepted result }
+        (opening_of parts.entry.lock) parts.entry.plan.count (L.listening listener.old).accepted
+        (L.listening listener.new).accepted result }
     ensures ports { (L.listening listener.new).ports ≡ (L.listening listener.old).ports }
-    ensures fault { result.stop ≡ Stop.AcceptFault → Rose (L.listening listener.old).faults (L.listening listener.new).faults }
+    ensures fault { result.stop ≡ Stop.AcceptFault
+        → Rose (L.listening listener.old).faults (L.listening listener.new).faults }
     ensures faults { (L.listening listener.old).faults ≤ (L.listening listener.new).faults }
 {
     let ServeParts {
@@ -153,7 +168,8 @@ fn nothing_served<I, O, T, H>(end: RunEnd) -> ServeOutcome<I, O, T, H>
 /// Writes the outline of the space that is left, and answers how that ended.
 fn print_outline<K: Sink>(alloc: Global, sink: &mut K, space: &Space) -> RunEnd
     requires { space.now.configuration.stored ≡ true }
-    ensures printed { Printed (K.half sink.old).held (K.half sink.new).held (K.half sink.old).faults (K.half sink.new).faults
+    ensures printed { Printed (K.half sink.old).held (K.half sink.new).held (K.half sink.old).faults
+        (K.half sink.new).faults
         (outline space.now.configuration space.now.events) result }
     ensures open { (K.half sink.new).shut ≡ (K.half sink.old).shut }
 {
@@ -189,7 +205,8 @@ fn serve_parts<'t, R: Wait + Sync>(
     ensures book { IfOk result (λ parts. parts.book ≡ sample_kinds) }
     ensures plan { IfOk result (λ parts. parts.plan ≡ serve_plan seed.now words.now) }
     ensures fresh { IfOk result (λ parts. IsFresh parts.lock parts.root) }
-    ensures opening { IfOk result (λ parts. opening_of parts.lock ≡ served_opening seed.now words.now.options) }
+    ensures opening { IfOk result (λ parts. opening_of parts.lock
+        ≡ served_opening seed.now words.now.options) }
 {
     let crew = SampleCrew::new(rt, alloc)?;
     let book = sample_book(alloc)?;
@@ -212,7 +229,8 @@ fn lock_of(
 ) -> Result<(TurnLock, Root), AllocError>
     requires { IsServeInRange words.now }
     ensures fresh { IfOk result (λ t. IsFresh t.0 t.1) }
-    ensures opening { IfOk result (λ t. opening_of t.0 ≡ served_opening seed.now words.now.options) }
+    ensures opening { IfOk result (λ t. opening_of t.0
+        ≡ served_opening seed.now words.now.options) }
 {
     let space = opened_space(alloc, seed, words.options)?;
     match TurnLock::around(alloc, space) {

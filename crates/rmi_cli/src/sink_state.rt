@@ -41,7 +41,8 @@ pub(crate) fn write_made<K: Sink>(
     state: SinkState,
     made: Result<ByteList, AllocError>,
 ) -> SinkState
-    ensures { (piece : List ℕ) (more : List (List ℕ)) → IfOk made (λ text. text ≡ joined (piece ∷ more))
+    ensures { (piece : List ℕ) (more : List (List ℕ))
+        → IfOk made (λ text. text ≡ joined (piece ∷ more))
         → Goes (K.half sink.old) (K.half sink.new) (piece ∷ more) state result }
 {
     match made {
@@ -52,7 +53,8 @@ pub(crate) fn write_made<K: Sink>(
 
 /// Returns the state of a sink after a piece for which there was no memory.
 fn lose_piece(state: SinkState) -> SinkState
-    ensures { (half : WriteHalf) (piece : List ℕ) (more : List (List ℕ)) → Goes half half (piece ∷ more) state result }
+    ensures { (half : WriteHalf) (piece : List ℕ) (more : List (List ℕ))
+        → Goes half half (piece ∷ more) state result }
 {
     match state {
         SinkState::Whole => SinkState::Lost,

@@ -22,11 +22,15 @@ pub const STREAM_BYTES: u64 = MESSAGE_BYTES;
 
 /// Takes the whole input as a stream, and writes the text of its graph.
 pub fn show_input<S: Source, K: Sink>(alloc: Global, source: &mut S, sink: &mut K) -> RunEnd
-    ensures ends { ShowEnds (wires S.half K.half source.old sink.old) (wires S.half K.half source.new sink.new) result }
-    ensures exact { EndsExactly (wires S.half K.half source.old sink.old) (wires S.half K.half source.new sink.new) result }
+    ensures ends { ShowEnds (wires S.half K.half source.old sink.old)
+        (wires S.half K.half source.new sink.new) result }
+    ensures exact { EndsExactly (wires S.half K.half source.old sink.old)
+        (wires S.half K.half source.new sink.new) result }
     ensures known { status_of_run result ≢ 1 }
-    ensures read_fault { status_of_run result ≡ 3 → Rose (S.half source.old).faults (S.half source.new).faults }
-    ensures write_fault { status_of_run result ≡ 4 → Rose (K.half sink.old).faults (K.half sink.new).faults }
+    ensures read_fault { status_of_run result ≡ 3
+        → Rose (S.half source.old).faults (S.half source.new).faults }
+    ensures write_fault { status_of_run result ≡ 4
+        → Rose (K.half sink.old).faults (K.half sink.new).faults }
     ensures open { StayOpen S.half K.half source.old sink.old source.new sink.new }
 {
     let graph = match read_input(alloc, source) {
@@ -46,7 +50,9 @@ pub fn show_input<S: Source, K: Sink>(alloc: Global, source: &mut S, sink: &mut 
 /// Reads the whole input as a stream of at most so many bytes.
 fn read_input<S: Source>(alloc: Global, source: &mut S) -> Result<Graph, StreamFault>
     ensures cause { Caused (S.half source.old).faults (S.half source.new).faults result }
-    ensures taken { IfOk result (λ graph. TakesGraph (S.half source.old).left (S.half source.new).left graph.nodes graph.items) }
+    ensures taken { IfOk result
+        (λ graph. TakesGraph (S.half source.old).left (S.half source.new).left graph.nodes
+        graph.items) }
     ensures fault { IfErr result (IsFaultOf (S.half source.old).left) }
     ensures stops { IfErr result (StopsAt (S.half source.old).left (S.half source.new).left) }
     ensures open { (S.half source.new).shut ≡ (S.half source.old).shut }
@@ -59,10 +65,13 @@ fn read_input<S: Source>(alloc: Global, source: &mut S) -> Result<Graph, StreamF
 fn read_marked<S: Source>(alloc: Global, pull: &mut Pull<'_, S>) -> Result<Graph, StreamFault>
     requires { pull.old.at ≡ 0 }
     ensures lent { pull.new.source.ghost_name ≡ pull.old.source.ghost_name }
-    ensures cause { Caused (S.half pull.old.source.now).faults (S.half pull.new.source.now).faults result }
-    ensures taken { IfOk result (λ graph. TakesGraph (S.half pull.old.source.now).left (S.half pull.new.source.now).left graph.nodes graph.items) }
+    ensures cause { Caused (S.half pull.old.source.now).faults (S.half pull.new.source.now).faults
+        result }
+    ensures taken { IfOk result (λ graph. TakesGraph (S.half pull.old.source.now).left
+        (S.half pull.new.source.now).left graph.nodes graph.items) }
     ensures fault { IfErr result (IsFaultOf (S.half pull.old.source.now).left) }
-    ensures stops { IfErr result (StopsAt (S.half pull.old.source.now).left (S.half pull.new.source.now).left) }
+    ensures stops { IfErr result
+        (StopsAt (S.half pull.old.source.now).left (S.half pull.new.source.now).left) }
     ensures open { (S.half pull.new.source.now).shut ≡ (S.half pull.old.source.now).shut }
 {
     pull.mark(STREAM_BYTES);

@@ -84,7 +84,8 @@ fn session_line(alloc: Global, end: &ClientEnd) -> Result<String, AllocError>
 
 /// Returns the line of an exception that the server answered.
 fn remote_line(alloc: Global, text: &Units) -> Result<String, AllocError>
-    ensures { IfOk result (λ line. string_bytes line ≡ line_of_session (ClientEnd.RemoteFault text.now)) }
+    ensures { IfOk result (λ line. string_bytes line
+        ≡ line_of_session (ClientEnd.RemoteFault text.now)) }
 {
     let text = String::from_utf16_lossy(alloc, text.as_slice())?;
     format!(in alloc; "remote fault {text}")

@@ -16,10 +16,13 @@ use wire_io::whole::{WholeEnd, take_whole};
 
 /// Takes the whole input as a world's script, which has at most as many bytes as a journal, and writes the end of that world.
 pub fn print_world<S: Source, K: Sink>(alloc: Global, source: &mut S, sink: &mut K) -> RunEnd
-    ensures ends { WorldEnds (wires S.half K.half source.old sink.old) (wires S.half K.half source.new sink.new) result }
+    ensures ends { WorldEnds (wires S.half K.half source.old sink.old)
+        (wires S.half K.half source.new sink.new) result }
     ensures known { status_of_run result ≢ 1 }
-    ensures read_fault { status_of_run result ≡ 3 → Rose (S.half source.old).faults (S.half source.new).faults }
-    ensures write_fault { status_of_run result ≡ 4 → Rose (K.half sink.old).faults (K.half sink.new).faults }
+    ensures read_fault { status_of_run result ≡ 3
+        → Rose (S.half source.old).faults (S.half source.new).faults }
+    ensures write_fault { status_of_run result ≡ 4
+        → Rose (K.half sink.old).faults (K.half sink.new).faults }
     ensures open { StayOpen S.half K.half source.old sink.old source.new sink.new }
 {
     let limit = JOURNAL_BYTES as u64;

@@ -77,7 +77,7 @@ fn last_line(rt: &impl Abort, alloc: Global, told: &str) -> ByteList {
 }
 
 /// Returns whether two texts have the same lines, which may stand in another order.
-fn have_same_lines(one: &[u8], other: &[u8]) -> bool {
+pub(crate) fn have_same_lines(one: &[u8], other: &[u8]) -> bool {
     let has = |lines: &[u8], line: &[u8]| lines.split(|b| *b == b'\n').any(|l| l == line);
     one.len() == other.len()
         && one.split(|b| *b == b'\n').all(|line| has(other, line))

@@ -1,5 +1,5 @@
 //! Connections in memory that `host` serves, and the journal that it prints meanwhile.
-use crate::hosting::{lines_of, listener_of};
+use crate::hosting::{have_same_lines, lines_of, listener_of};
 use crate::hosts::{MemHost, Runs, cut_by, host_of, must, run_line, sink_of};
 use crate::serves::{Network, outline_of};
 use crate::texts::{cut, number_of, numbers_of};
@@ -148,5 +148,26 @@ fn a_link_takes_the_time_of_its_own_clock(rt: HostRuntime) {
         alloc,
         "100 200 300 40",
         "listening 0.0.0.0 1099\nlink 1 127.0.0.1 1234 ended calls 1 ms 0\n",
+    );
+}
+
+#[test]
+fn each_link_takes_its_own_time(rt: HostRuntime) {
+    let alloc = rt.alloc();
+    let mut network = Network::new(alloc);
+    network.add_at(&rt, alloc, "opening get", "100 200 300 450");
+    network.add_at(&rt, alloc, "opening get", "1000 1100 1200 1210");
+    let mut host = host_of(&rt, alloc, b"", cut_by("-"));
+    host.listener = network.scripted_listener(alloc, Kinds::new(alloc), Some(2));
+    let ended = run_line(&rt, alloc, "host 0.0.0.0 h 1099", &mut host);
+    must(&rt, ended == 0, "two links");
+    let wanted = b"listening 0.0.0.0 1099
+link 1 127.0.0.1 1234 ended calls 1 ms 350
+link 2 127.0.0.1 1234 ended calls 1 ms 210
+";
+    must(
+        &rt,
+        have_same_lines(host.errors.bytes(), wanted.as_slice()),
+        "the links' lines",
     );
 }
