@@ -155,7 +155,11 @@ fn add_bytes(items: &mut Vec<Item>, bytes: ByteList) -> Result<(), AllocError>
         return Ok(());
     }
     match items.pop() {
-        None => items.push(Item::Bytes(bytes))?,
+        None => {
+            // Most often it stays the only item, and a list has room for four at first.
+            items.reserve_exact(1)?;
+            items.push(Item::Bytes(bytes))?;
+        }
         Some(last) => match last {
             Item::Bytes(mut joined) => {
                 joined.append(bytes.as_slice())?;
