@@ -145,6 +145,18 @@ pub(crate) fn names<S: Source>(
     Ok(names)
 }
 
+/// Makes room for one more item. A list has at most half as much room again as it has items, for most notes are short, and there can be a
+/// million of them.
+fn make_room(items: &mut Vec<Item>) -> Result<(), AllocError>
+    ensures { items.new.items ≡ items.old.items }
+{
+    let len = items.len();
+    if items.capacity() == len {
+        items.reserve_exact(len / 2 + 1)?;
+    }
+    Ok(())
+}
+
 /// Adds block data behind items: it joins block data that stands last, and no bytes are no item.
 #[inline(never)]
 #[tactic(auto, unfolding(crate::specs::Named::add_bytes))]
@@ -156,8 +168,7 @@ fn add_bytes(items: &mut Vec<Item>, bytes: ByteList) -> Result<(), AllocError>
     }
     match items.pop() {
         None => {
-            // Most often it stays the only item, and a list has room for four at first.
-            items.reserve_exact(1)?;
+            make_room(items)?;
             items.push(Item::Bytes(bytes))?;
         }
         Some(last) => match last {
@@ -167,6 +178,7 @@ fn add_bytes(items: &mut Vec<Item>, bytes: ByteList) -> Result<(), AllocError>
             }
             Item::Ref(slot) => {
                 items.push(Item::Ref(slot))?;
+                make_room(items)?;
                 items.push(Item::Bytes(bytes))?;
             }
         },
@@ -181,6 +193,7 @@ pub(crate) fn add(items: &mut Vec<Item>, item: Item) -> Result<(), AllocError>
 {
     match item {
         Item::Ref(slot) => {
+            make_room(items)?;
             items.push(Item::Ref(slot))?;
             Ok(())
         }
