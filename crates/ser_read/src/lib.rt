@@ -23,7 +23,7 @@
 //! # What is not
 //!
 //! That no memory is taken for a length whose bytes never come, and that a message of 16 MB takes
-//! at most 97 MB in all. Both are tested.
+//! at most 200 MB in all. Both are tested.
 //!
 //! # Cost
 //!

@@ -152,6 +152,18 @@ pub(crate) fn names<S: Source>(
     Ok(names)
 }
 
+/// Makes room for one more item. A list has at most half as much room again as it has items, for most notes are short, and there can be a
+/// million of them.
+fn make_room(items: &mut Vec<Item>) -> Result<(), AllocError>
+    ensures { items.new.items ≡ items.old.items }
+{
+    let len = items.len();
+    if items.capacity() == len {
+        items.reserve_exact(len / 2 + 1)?;
+    }
+    Ok(())
+}
+
 /// Adds block data behind items: it joins block data that stands last, and no bytes are no item.
 #[inline(never)]
 #[tactic(auto, unfolding(crate::specs::Named::add_bytes))]
@@ -162,7 +174,10 @@ fn add_bytes(items: &mut Vec<Item>, bytes: ByteList) -> Result<(), AllocError>
         return Ok(());
     }
     match items.pop() {
-        None => items.push(Item::Bytes(bytes))?,
+        None => {
+            make_room(items)?;
+            items.push(Item::Bytes(bytes))?;
+        }
         Some(last) => match last {
             Item::Bytes(mut joined) => {
                 joined.append(bytes.as_slice())?;
@@ -170,6 +185,7 @@ fn add_bytes(items: &mut Vec<Item>, bytes: ByteList) -> Result<(), AllocError>
             }
             Item::Ref(slot) => {
                 items.push(Item::Ref(slot))?;
+                make_room(items)?;
                 items.push(Item::Bytes(bytes))?;
             }
         },
@@ -184,6 +200,7 @@ pub(crate) fn add(items: &mut Vec<Item>, item: Item) -> Result<(), AllocError>
 {
     match item {
         Item::Ref(slot) => {
+            make_room(items)?;
             items.push(Item::Ref(slot))?;
             Ok(())
         }

@@ -65,6 +65,21 @@ fn write_desc(place: &mut Node, desc: ClassDesc)
     }
 }
 
+/// The most parts of an object whose list may keep spare room. A list with more parts than these could otherwise have room for twice as many.
+const FEW_PARTS: usize = 16;
+
+/// Returns the same parts. A long list of them keeps no spare room.
+fn without_spare_room(parts: PartList) -> PartList
+    ensures { result ≡ parts }
+{
+    if parts.len() <= FEW_PARTS {
+        return parts;
+    }
+    let mut items = parts.into_vec();
+    items.shrink_to_fit();
+    PartList::from_vec(items)
+}
+
 /// Writes an object. Where an object stands already, as one that was begun does, its fields alone are written over.
 fn write_object(place: &mut Node, class: u32, parts: PartList)
     ensures { place.new ≡ Object class parts }
@@ -75,7 +90,7 @@ fn write_object(place: &mut Node, class: u32, parts: PartList)
             parts: old_parts,
         } => {
             *old_class = class;
-            *old_parts = parts;
+            *old_parts = without_spare_room(parts);
         }
         other => *other = Node::Object { class, parts },
     }
