@@ -15,6 +15,6 @@ config_of seed stored = record {
   stored = stored;
 }
 
--- The plan of the server: its own end is the site's host and port, and clients may not bind names.
-abbrev pub plan_of : Site → ServePlan
-plan_of site = record { count = site.links; host = site.host.now; port = pos site.port; binding = false; seed = site.seed }
+-- The plan of a server of so many connections: its own end is the site's host and port, and clients may not bind names.
+abbrev pub plan_of : Site → ℕ → ServePlan
+plan_of site count = record { count = count; host = site.host.now; port = pos site.port; binding = false; seed = site.seed }

@@ -4,19 +4,21 @@
 //! example.
 //!
 //! The author implements [`Service`], describes the kinds of its objects by [`kind`], and calls
-//! [`serve_tcp`]. One lock keeps the service, so its calls come one at a time, whatever the number
-//! of connections. `serve` takes any listener.
+//! [`host_tcp`], which serves until an input ends, or [`serve_tcp`], which serves a count of
+//! connections. `host` and `serve` do the same over any listener. One lock keeps the service, so its
+//! calls come one at a time, whatever the number of connections.
 //!
 //! # What is proved
 //!
-//! - It serves as `conn_server::Server::serve` does (`IsServedBy`, `fault`, `all` of `serve`).
+//! - It serves as `conn_server::Server::serve` does (`IsServedBy`, `fault`, `all` of `serve`), and
+//!   hosts as `Server::host` does (`IsHostedBy`, `fault`, `all` of `host`).
 //! - The site's objects are opened in their order. The first has the number 16, each other the next
 //!   one. Each is pinned, and each name is bound to its own object (`opened_events`).
 //! - `ServiceHand::invoke` gives an outcome that fits the called method of the site's own kinds, or
 //!   ends the call (`fits`; `FitsCall`).
 //! - The outcome of each call is that of an answer which the service gave to this very call
 //!   (`IsAnswer`, `May`). An author who says which answers the service may give (`may_answer`) has
-//!   this said of each call by `IsServedBy`.
+//!   this said of each call by `IsServedBy` and `IsHostedBy`.
 //! - `Call` reads an argument exactly if one of that type is at its place (`Reads`, `ReadsAt`,
 //!   `ReadsGraph`).
 //! - `kind` and `book_of` refuse for the faults that `RefusesTexts` and `RefusesKinds` name.
@@ -28,9 +30,9 @@
 //! - How often a hand asks the service for a call, and that it tells the service of objects that
 //!   are gone. `example_ledger` tests these.
 //! - If a site has several faults, no clause says which comes.
-//! - What sockets do under `serve_tcp`.
+//! - What sockets do under `serve_tcp` and `host_tcp`, and that the end of its input stops `host_tcp`.
 //!
-//! The hands' calls, `serve` and `serve_tcp` wait for the service's lock, for links and for
+//! The hands' calls, and what serves or hosts, wait for the service's lock, for links and for
 //! threads.
 #![tactic(auto)]
 
@@ -38,6 +40,7 @@ mod call;
 mod crew;
 mod fault;
 mod fitting;
+mod hosting;
 mod kinds;
 mod opening;
 mod reply;
@@ -48,12 +51,14 @@ mod tcp;
 
 pub use call::Call;
 pub use call_dispatch::{Kind, KindList};
+pub use conn_server::Stop;
 pub use crew::{ServiceCrew, ServiceHand};
 pub use fault::{CallFault, Wanted};
+pub use hosting::{Door, HostedService, host};
 pub use kinds::{KindFault, book_of, kind};
 pub use object_ids::ObjId;
 pub use reply::Reply;
 pub use service::Service;
 pub use serving::{ServeFault, serve};
 pub use site::{Named, Site};
-pub use tcp::{TcpReport, seed, serve_tcp};
+pub use tcp::{TcpDoor, TcpHosted, TcpReport, host_tcp, seed, serve_tcp};

@@ -106,13 +106,17 @@ fn furnish(alloc: Global, space: &mut Space, names: &[Named<'_>]) -> Result<(), 
     Ok(())
 }
 
-/// The space with the objects of a site, under their names.
-pub(crate) fn opened_space(alloc: Global, site: &Site<'_>) -> Result<Space, ServeFault>
-    ensures opens { IfOk result (IsOpening site.now) }
+/// Returns the space with the objects of a site, under their names. `stored` says whether it keeps all that happens.
+pub(crate) fn opened_space(
+    alloc: Global,
+    site: &Site<'_>,
+    stored: bool,
+) -> Result<Space, ServeFault>
+    ensures opens { IfOk result (IsOpening site.now stored) }
     ensures names { OnOk result (AreSoundNames site.now.names.now) }
     ensures causes { IfErr result (RefusesSite site.now) }
 {
-    let mut space = Space::fresh(alloc, &site.config());
+    let mut space = Space::fresh(alloc, &site.config(stored));
     match furnish(alloc, &mut space, site.names) {
         Ok(()) => Ok(space),
         Err(fault) => Err(fault),

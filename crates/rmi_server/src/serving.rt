@@ -1,7 +1,6 @@
 //! Serving a service over a listener.
 ghost use Rattle.std.specs.Prelude.{◌≡◌, ◌≤◌, ◌⊎◌, ◌↔◌, All, length, IfOk, IfErr, OnOk, OnErr, IsTrue};
 ghost use Rattle.mod_utf.specs.Utf.{utf};
-ghost use Rattle.conn_server.specs.declared.plan.TheConstants.{MAX_LINKS};
 ghost use Rattle.wire_io.specs.Wire.{Rose};
 ghost use Rattle.wire_io.specs.declared.limits.TheConstants.{MAX_HOST_BYTES};
 ghost use Rattle.turn_lock.specs.Handles.{IsFresh, opening_of};
@@ -91,13 +90,20 @@ impl From<Refused> for ServeFault {
     }
 }
 
+/// How many connections a server has at most, and whether it keeps all that happened.
+#[derive(Clone, Copy)]
+pub(crate) struct Extent {
+    pub(crate) count: u32,
+    pub(crate) stored: bool,
+}
+
 /// The parts that serve a site.
 #[derive(Drop)]
-struct ServeParts<'t, R: Wait + Sync, S: Service> {
-    crew: ServiceCrew<'t, R, S>,
-    plan: ServePlan,
-    lock: TurnLock,
-    root: Root,
+pub(crate) struct ServeParts<'t, R: Wait + Sync, S: Service> {
+    pub(crate) crew: ServiceCrew<'t, R, S>,
+    pub(crate) plan: ServePlan,
+    pub(crate) lock: TurnLock,
+    pub(crate) root: Root,
 }
 
 /// Returns true if each name is that of an object of one of so many kinds.
@@ -125,38 +131,39 @@ fn crew_of<'t, R: Wait + Sync, S: Service>(
     Ok(ServiceCrew::new(rt, alloc, book, service)?)
 }
 
-/// The space of a site in its lock, and the lock's root.
-fn lock_of(alloc: Global, site: &Site<'_>) -> Result<(TurnLock, Root), ServeFault>
+/// Returns the space of a site in its lock, and the lock's root. `stored` says whether the space keeps all that happens.
+fn lock_of(alloc: Global, site: &Site<'_>, stored: bool) -> Result<(TurnLock, Root), ServeFault>
     ensures fresh { IfOk result (λ made. IsFresh made.0 made.1) }
-    ensures opening { IfOk result (λ made. IsOpening site.now (opening_of made.0)) }
+    ensures opening { IfOk result (λ made. IsOpening site.now stored (opening_of made.0)) }
     ensures names { OnOk result (AreSoundNames site.now.names.now) }
     ensures causes { IfErr result (RefusesSite site.now) }
 {
-    match TurnLock::around(alloc, opened_space(alloc, site)?) {
+    match TurnLock::around(alloc, opened_space(alloc, site, stored)?) {
         Ok(made) => Ok(made),
         Err(_space) => Err(ServeFault::OutOfMemory),
     }
 }
 
-/// Returns the parts that serve a site.
-fn parts_of<'t, R: Wait + Sync, S: Service>(
+/// Returns the parts that serve a site to this extent.
+pub(crate) fn parts_of<'t, R: Wait + Sync, S: Service>(
     rt: &'t R,
     alloc: Global,
     service: S,
     site: &Site<'_>,
+    extent: Extent,
 ) -> Result<ServeParts<'t, R, S>, ServeFault>
     ensures book { IfOk result (λ parts. parts.crew.shared.value.book ≡ site.now.kinds) }
-    ensures plan { IfOk result (λ parts. parts.plan ≡ plan_of site.now) }
+    ensures plan { IfOk result (λ parts. parts.plan ≡ plan_of site.now extent.count) }
     ensures host { IfOk result (λ parts. length (utf parts.plan.host) ≤ MAX_HOST_BYTES) }
-    ensures few { IfOk result (λ parts. parts.plan.count ≤ MAX_LINKS) }
     ensures fresh { IfOk result (λ parts. IsFresh parts.lock parts.root) }
-    ensures opening { IfOk result (λ parts. IsOpening site.now (opening_of parts.lock)) }
+    ensures opening { IfOk result (λ parts. IsOpening site.now extent.stored
+        (opening_of parts.lock)) }
     ensures sound { OnOk result (IsSound site.now) }
     ensures causes { IfErr result (RefusesSite site.now) }
 {
     let crew = crew_of(rt, alloc, service, site)?;
-    let plan = site.plan(alloc)?;
-    let (lock, root) = lock_of(alloc, site)?;
+    let plan = site.plan(alloc, extent.count)?;
+    let (lock, root) = lock_of(alloc, site, extent.stored)?;
     Ok(ServeParts {
         crew,
         plan,
@@ -166,7 +173,7 @@ fn parts_of<'t, R: Wait + Sync, S: Service>(
 }
 
 /// Serves a service to the connections of a listener, each in a thread of its own. It ends once it has served as many as the site says, the listener
-/// fails, or there is no memory for a connection. It returns what became of each connection, and the server's objects. Clients find the site's names
+/// fails, or there is no memory for a connection; [`crate::host`] serves without a count. It returns what became of each connection, and the server's objects. Clients find the site's names
 /// in the registry at the same host and port. Each call is answered as [`Service::call`] answers it (`served`).
 ///
 /// Each fault comes before a connection is accepted, and only where the site has it:
@@ -200,12 +207,16 @@ pub fn serve<'t, R: Threads + Wait + Sync, L: Listener, S: Service + Send>(
     ensures ports { (L.listening listener.new).ports ≡ (L.listening listener.old).ports }
     ensures faults { (L.listening listener.old).faults ≤ (L.listening listener.new).faults }
 {
+    let extent = Extent {
+        count: u32::from(site.links),
+        stored: site.stored,
+    };
     let ServeParts {
         crew,
         plan,
         lock,
         root,
-    } = parts_of(rt, alloc, service, site)?;
+    } = parts_of(rt, alloc, service, site, extent)?;
     let server = Server {
         rt,
         alloc,

@@ -1,7 +1,6 @@
 //! The site of a server: the objects that it offers, and its address.
 ghost use Rattle.std.specs.Prelude.{◌≡◌, ◌≤◌, length, IfOk, IfErr};
 ghost use Rattle.mod_utf.specs.Utf.{utf};
-ghost use Rattle.conn_server.specs.declared.plan.TheConstants.{MAX_LINKS};
 ghost use Rattle.wire_io.specs.declared.limits.TheConstants.{MAX_HOST_BYTES};
 ghost use Rattle.rmi_server.specs.SiteFaults.{RefusesSite};
 ghost use Rattle.rmi_server.specs.Sites.{config_of, plan_of};
@@ -53,18 +52,19 @@ pub struct Site<'s> {
     pub host: &'s str,
     /// The port that it listens on, and that references name.
     pub port: u16,
-    /// The number of connections that it serves before it ends.
+    /// The number of connections that it serves before it ends. A service that is hosted does not end so: [`crate::host`] does not read this.
     pub links: u16,
-    /// True where it keeps all that happened, so that its journal can be written. A server that runs long doesn't.
+    /// True where it keeps all that happened, so that its journal can be written. A service that is hosted never does: [`crate::host`] does not read
+    /// this.
     pub stored: bool,
     /// Four random words, as [`crate::seed`] draws them. Identifiers are made of them.
     pub seed: [u64; 4],
 }
 
 impl Site<'_> {
-    /// The rules that the server's objects keep to.
-    pub(crate) fn config(&self) -> SpaceConfig
-        ensures { result ≡ config_of self.now.seed self.now.stored }
+    /// Returns the rules that the server's objects keep to. `stored` says whether all that happened is kept.
+    pub(crate) fn config(&self, stored: bool) -> SpaceConfig
+        ensures { result ≡ config_of self.now.seed stored }
     {
         SpaceConfig {
             lease_ms: LEASE_MS,
@@ -74,15 +74,14 @@ impl Site<'_> {
                 time: moment_of(self.seed[3]) as i64,
                 count: 0,
             },
-            stored: self.stored,
+            stored,
         }
     }
 
-    /// The plan of the server. HostTooLong comes where the host has more than 255 bytes.
-    pub(crate) fn plan(&self, alloc: Global) -> Result<ServePlan, ServeFault>
-        ensures plan { IfOk result (λ plan. plan ≡ plan_of self.now) }
+    /// Returns the plan of a server of so many connections. HostTooLong comes where the host has more than 255 bytes.
+    pub(crate) fn plan(&self, alloc: Global, count: u32) -> Result<ServePlan, ServeFault>
+        ensures plan { IfOk result (λ plan. plan ≡ plan_of self.now count) }
         ensures host { IfOk result (λ plan. length (utf plan.host) ≤ MAX_HOST_BYTES) }
-        ensures few { IfOk result (λ plan. plan.count ≤ MAX_LINKS) }
         ensures causes { IfErr result (RefusesSite self.now) }
     {
         let host = units_of_ascii(alloc, self.host.as_bytes())?;
@@ -90,7 +89,7 @@ impl Site<'_> {
             return Err(ServeFault::HostTooLong);
         }
         Ok(ServePlan {
-            count: u32::from(self.links),
+            count,
             host,
             port: i32::from(self.port),
             binding: false,
