@@ -1,5 +1,5 @@
 //! `host` over the program's listener, clock, output and errors' sink.
-ghost use Rattle.std.specs.Prelude.{◌≡◌, ◌≢◌, ◌≤◌, ◌∷◌, [], ℕ, List, IfOk};
+ghost use Rattle.std.specs.Prelude.{◌≡◌, ◌≢◌, ◌≤◌, ◌∷◌, [], ℕ, List, IfOk, true};
 ghost use Rattle.wire_io.specs.Wire.{Rose};
 ghost use Rattle.space.specs.Standing.{standing};
 ghost use Rattle.rmi_cli.specs.Desk.{recorded_lines, told_lines};
@@ -372,10 +372,22 @@ fn close_output<K: Sink, I: Drop, O: Drop, T: Drop, G, H: Drop>(
 fn after_ticks(missed: bool, printed: RunEnd) -> RunEnd
     ensures { result ≡ after_ticks missed printed }
 {
-    if missed && printed.is_silent() {
-        return RunEnd::OutOfMemory;
+    if missed {
+        end_with_missed_tick(printed)
+    } else {
+        printed
     }
-    printed
+}
+
+/// Returns the end of a run by how its output ends, where the server missed a Tick for want of memory.
+fn end_with_missed_tick(printed: RunEnd) -> RunEnd
+    ensures { result ≡ after_ticks true printed }
+{
+    if printed.is_silent() {
+        RunEnd::OutOfMemory
+    } else {
+        printed
+    }
 }
 
 /// Returns the end of a run whose output has this state, where all events were recorded or not.
