@@ -1,4 +1,4 @@
-use Rattle.std.proofs.Common.{arith, refl}
+use Rattle.std.proofs.Common.{◌∙◌, arith, refl}
 use Rattle.conn_server.specs.declared.accept_loop.Stop.TheVariants.{AcceptFault}
 use Rattle.conn_server.proofs.Hosting.{halted_none, halted_told}
 use Rattle.conn_server.proofs.Listening.{like_looked}
@@ -18,8 +18,8 @@ returns-then-is_told-clause-goes_on g c l0 gave_first h =
     let l2 = g.L.Listener.listening c.is_told.new.self in
     halted_told _ _ _ _ _ _ _ _ _ _ _ l0 gave_first l l2 _ _ _ _ h h.is (λ front begins. begins, refl) refl refl refl looks.1 (omega (arith, same)) (looks.3 ∙ c.if-is_told.true) looks.0
 
-pub returns-else-is_told-clause-goes_on : goal.returns-else-is_told-clause-goes_on
-returns-else-is_told-clause-goes_on g c l0 gave_first h =
+pub returns-then-holds_back-clause-goes_on : goal.returns-then-holds_back-clause-goes_on
+returns-then-holds_back-clause-goes_on g c l0 gave_first h =
     let l = g.L.Listener.listening c.args.listener.now in
     let l2 = g.L.Listener.listening c.is_told.new.self in
     c.pass_time.ensures.goes_on l0 l l2 gave_first h (like_looked l l2 c.is_told.result c.is_told.ensures.looks c.if-is_told.false)
