@@ -9,7 +9,7 @@ use crate::service::Service;
 use crate::serving::{Extent, ServeFault, ServeParts, parts_of};
 use crate::site::Site;
 use conn_server::plan::LAST_NUMBER;
-use conn_server::{DropsReports, HostBegin, Hosted, LinkReport, MAX_LIVE, Server};
+use conn_server::{DropsReports, HostBegin, Hosted, LinkReport, MAX_LIVE, Server, Stop};
 use std::alloc::Global;
 use std::sync::Wait;
 use std::thread::Threads;
@@ -32,12 +32,6 @@ pub type HostedService<'t, R, S, I, O, T> = Hosted<
     DropsReports<LinkReport<I, O, T, ServiceHand<'t, R, S>>>,
     ServiceHand<'t, R, S>,
 >;
-
-/// The extent of a hosted service: each number that a connection can have, and nothing of what happened is kept.
-const HOSTED: Extent = Extent {
-    count: LAST_NUMBER,
-    stored: false,
-};
 
 /// Serves a service to the connections of a listener as [`crate::serve`] does, until the listener is told to stop. It also ends where the listener fails
 /// for good, where there is no memory for a connection, and after 4,294,967,295 connections. It returns why (`stop`), and the server's objects.
@@ -73,12 +67,16 @@ pub fn host<'t, R: Threads + Wait + Sync, L: Listener, Q: Clock, S: Service + Se
     ensures faults { (L.listening door.old.listener).faults
         ≤ (L.listening door.new.listener).faults }
 {
+    let extent = Extent {
+        count: LAST_NUMBER,
+        stored: false,
+    };
     let ServeParts {
         crew,
         plan,
         lock,
         root,
-    } = parts_of(rt, alloc, service, site, HOSTED)?;
+    } = parts_of(rt, alloc, service, site, extent)?;
     let server = Server {
         rt,
         alloc,

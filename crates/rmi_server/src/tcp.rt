@@ -34,7 +34,7 @@ pub type TcpHosted<'t, R, S> = HostedService<'t, R, S, TcpSource, TcpSink, StdCl
 /// The address that a hosted service listens on, and the input at whose end it stops.
 #[derive(Drop)]
 pub struct TcpDoor<'d, I> {
-    /// The address, in numbers: `127.0.0.1`, or `0.0.0.0` for each address of the machine. References name the site's host.
+    /// A name or a number of this machine, as `127.0.0.1`. `0.0.0.0` is every address. References name the site's host.
     pub address: &'d str,
     /// The input, which is read and dropped: `rt.stdin()`.
     pub input: I,
@@ -107,10 +107,10 @@ where
     Ok(StoppedByInput::new(listener, end))
 }
 
-/// Listens on the door's address and the site's port, and serves a service as [`host`] does, until the door's input ends. Connections that are live then give
-/// no more bytes, and end within a second. ListenFault comes where the address and port cannot be listened on.
+/// Listens on the door's address and the site's port, and serves a service as [`host`] does, until the door's input ends. Then it closes the port and
+/// finishes the calls that run. Idle connections end within 7 seconds. ListenFault comes where the address and port cannot be listened on.
 ///
-/// The server sees the end of a pipe, a socket or a terminal. It never sees the end of a file or of `/dev/null`. A signal ends the process at once.
+/// The server sees the end of a pipe, a socket or a terminal, and never that of a file or of `/dev/null`.
 ///
 /// The history that is left is legal, and at each of its events the collector kept what there was a reason to keep, and withdrew the rest.
 pub fn host_tcp<'t, R, S: Service + Send, I>(
