@@ -138,4 +138,4 @@ prints_none_exactly output old told tells = record {
 }
 
 pub helps_none : (topic : HelpTopic) (old : Wires) (faults : ℕ) (told : Reported) → TellsExactly told OutOfMemory → Helps topic old old faults faults told
-helps_none topic old faults told tells = record { end = OutOfMemory; printed = inr (inr (refl, refl)); tells = inl tells; unread = refl }
+helps_none topic old faults told tells = record { end = OutOfMemory; printed = inr (inr (refl, refl, refl)); tells = inl tells; unread = refl }
