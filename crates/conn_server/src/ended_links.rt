@@ -45,10 +45,15 @@ impl EndedLinks {
         let _ = numbers.push(by);
     }
 
-    /// Takes the number of a link of those noted, if there is one. The one that was noted last comes first.
+    /// Takes the number of the link that ended first of those noted, if there is one. The others move up, which takes a microsecond or so where
+    /// thousands are noted.
     pub fn next<R: Wait>(&self, rt: &R) -> Option<u32> {
         let mut numbers = self.numbers.lock(rt);
-        numbers.pop()
+        if numbers.is_empty() {
+            None
+        } else {
+            Some(numbers.remove(0))
+        }
     }
 
     /// Returns the number of links that have ended.
