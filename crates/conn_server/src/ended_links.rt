@@ -45,8 +45,7 @@ impl EndedLinks {
         let _ = numbers.push(by);
     }
 
-    /// Takes the number of the link that ended first of those noted, if there is one. The others move up, which takes a microsecond or so where
-    /// thousands are noted.
+    /// Takes the number of the link that ended first of those noted, if there is one. The others move up: of 8,192 links they take 32 kB.
     pub fn next<R: Wait>(&self, rt: &R) -> Option<u32> {
         let mut numbers = self.numbers.lock(rt);
         if numbers.is_empty() {

@@ -159,6 +159,37 @@ fn a_host_with_as_many_links_as_it_may_have_sees_its_stop(rt: HostRuntime) {
     must(&rt, check_live(&rt, rt.alloc(), 3).is_some(), "memory");
 }
 
+/// Hosts the three clients, where two may be live at once, until the second look whether to stop: the third client is not accepted. None where
+/// there is no memory.
+fn check_waiting<R: Threads + Wait + Abort + Sync>(rt: &R, alloc: Global) -> Option<()> {
+    let mut cases = Cases::new(alloc);
+    for line in LIVE.split('\n') {
+        cases.add(rt, alloc, line);
+    }
+    let mut listener = cases.hosted(alloc, Kinds::new(alloc), 3)?;
+    let crew = Holding {
+        ended: listener.ended()?,
+    };
+    let begin = Begin {
+        space: sample_space(alloc, &CONFIG).ok()?,
+        most_live: 2,
+    };
+    let hosted = host_over(rt, alloc, &mut listener, &crew, begin)?;
+    must(rt, hosted.stop == Stop::Told, "stop");
+    let links = hosted.taker.links.as_slice();
+    must(
+        rt,
+        links.starts_with(&[1, 2]) && links.len() == 4,
+        "the third waits",
+    );
+    Some(())
+}
+
+#[test]
+fn a_client_waits_while_as_many_links_are_live_as_may_be(rt: HostRuntime) {
+    must(&rt, check_waiting(&rt, rt.alloc()).is_some(), "memory");
+}
+
 /// A client that waits until the listener is closed, and one for whose hand there is no memory.
 const LOST: &str = "500 | 1234 | 0 | | opening ping | ack pong | Ended
 0 | 1234 | 0 | | opening ping | | Ended";
