@@ -295,15 +295,16 @@ too many nodes ! class #0
 #1 ! share a
 item #65535 = 65536 nodes 1 items";
 
-/// As many parts as there may be, and one more that nothing names.
-const MOST_PARTS: &str = "chain 1024
-fill 1024 #1023
-object #0 -/- = 2048 nodes 2048 items";
+/// As many parts as there may be, 2,047 references of items among them, and one more that nothing names.
+const MOST_PARTS: &str = "chain 1023
+fill 1023 #1022
+item #0
+object #0 -/- = 2046 nodes 2047 items";
 
 /// The same with an item that names the one more.
-const ONE_PART_MORE: &str = "item #2048
-chain 1024
-fill 1024 #1023
+const ONE_PART_MORE: &str = "item #2046
+chain 1023
+fill 1023 #1022
 object #0 -/- = wrong shape";
 
 #[test]
