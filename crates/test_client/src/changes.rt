@@ -33,7 +33,8 @@ const CHANGES: &str = "ping : low : ACK 53 :
 24 begun 127.0.0.1 1099 16:7/9/0 flagged
 38 begun truncated at 320
 39 begun bad stream bad code here
-40 begun truncated at 320
+40 begun too large nodes at 39
+41 begun truncated at 320
 44 begun bad stream bad utf at 61
 45 begun truncated at 320
 46 begun 127.0.0.1 1099 16:7/9/0 flagged
@@ -135,7 +136,8 @@ const CHANGES: &str = "ping : low : ACK 53 :
 24 begun 127.0.0.1 1099 16:7/9/0 flagged
 38 begun bad stream bad code here
 40 begun bad stream negative length here
-41 begun truncated at 320
+41 begun too large nodes at 39
+42 begun truncated at 320
 45 begun bad stream bad utf at 61
 46 begun bad stream bad utf here
 61 begun truncated at 320
@@ -222,7 +224,8 @@ const CHANGES: &str = "ping : low : ACK 53 :
 72 begun bad stream bad handle here
 73 begun bad stream reset here
 74 begun bad stream bad handle here
-75 begun truncated at 91
+75 begun too large nodes at 38
+76 begun truncated at 91
 79 begun bad stream bad code at 80
 80 begun truncated at 91
 81 begun bad stream bad code at 87
@@ -251,7 +254,8 @@ const CHANGES: &str = "ping : low : ACK 53 :
 71 begun bad stream bad desc at 39
 72 begun bad stream bad code here
 75 begun bad stream negative length here
-76 begun truncated at 91
+76 begun too large nodes at 38
+77 begun truncated at 91
 79 begun bad stream bad code here
 80 begun truncated at 91
 82 begun bad stream bad utf here
