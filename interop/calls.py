@@ -415,14 +415,14 @@ ODD_LISTS = [
     ("a text of -1 bytes", NORMAL + wire("7C FFFFFFFFFFFFFFFF"), 2, "bad reply at 39"),
 ]
 
-# Lengths of which nothing comes.
+# Lengths of which nothing comes: more parts than there may be of what begins at a position, or an end that comes too early.
 LIES = [
-    ("2^31 - 1 names", NORMAL + STRINGS + wire("7FFFFFFF")),
-    ("2^31 - 1 bytes", NORMAL + BYTES + wire("7FFFFFFF")),
-    ("a text of 2^40 bytes", NORMAL + wire("7C 0000010000000000") + b"a" * 1000),
-    ("a class of 32767 fields", NORMAL + wire("73 72 =A 0000000000000001 02 7FFF")),
-    ("a class with 2^31 - 1 bytes beside it", NORMAL + wire("73 72 =A 0000000000000001 02 0000 7A 7FFFFFFF")),
-    ("a proxy of 2^31 - 1 interfaces", NORMAL + wire("73 7D 7FFFFFFF")),
+    ("2^31 - 1 names", NORMAL + STRINGS + wire("7FFFFFFF"), 38),
+    ("2^31 - 1 bytes", NORMAL + BYTES + wire("7FFFFFFF"), None),
+    ("a text of 2^40 bytes", NORMAL + wire("7C 0000010000000000") + b"a" * 1000, None),
+    ("a class of 32767 fields", NORMAL + wire("73 72 =A 0000000000000001 02 7FFF"), None),
+    ("a class with 2^31 - 1 bytes beside it", NORMAL + wire("73 72 =A 0000000000000001 02 0000 7A 7FFFFFFF"), None),
+    ("a proxy of 2^31 - 1 interfaces", NORMAL + wire("73 7D 7FFFFFFF"), 39),
 ]
 
 
@@ -508,8 +508,8 @@ def check_peers(program):
     """Peers that are no server, or a bad one."""
     for what, data, status, errors in ODD_LISTS:
         check_run(f"list where there comes {what}", (status, "", f"{errors}\n"), program, "list", HOST, Peer().play((closes, data)).port)
-    for what, data in LIES:
-        wanted = (2, "", f"truncated at {len(data)}\n")
+    for what, data, large_at in LIES:
+        wanted = (2, "", f"truncated at {len(data)}\n") if large_at is None else (6, "", f"too large nodes at {large_at}\n")
         check_run(f"list with little memory, where there are said to be {what}", wanted, program, "list", HOST, Peer().play((closes, data)).port, limited=scant)
     check_run("list where the names come byte by byte", (0, "a\nb\n", ""), program, "list", HOST, Peer().play((trickles, NORMAL + STRINGS + wire("00000002 74 =a 74 =b"))).port)
     check_run("list where the link is reset", (3, "", "read fault\n"), program, "list", HOST, Peer().play((resets, ACK)).port)
