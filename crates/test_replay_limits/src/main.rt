@@ -1,12 +1,8 @@
 // SPDX-License-Identifier: Apache-2.0 OR MIT
 //! Replays journals that reach a limit of their space, and prints the status, the outline and the
-//! line of each. Then serves a connection with more calls than a stored history has room for, over a
-//! space that keeps no events.
+//! line of each.
 #![tactic(auto)]
 
-mod long_connection;
-
-use crate::long_connection::long_connection;
 use journal::Word;
 use journal::outline::put_line;
 use journal::put::put_decimal;
@@ -208,6 +204,5 @@ fn main(rt: HostRuntime) -> io::Result<()> {
     let mut out = rt.stdout();
     history(&rt, rt.alloc(), &mut out)?;
     pairs(&rt, rt.alloc(), &mut out)?;
-    clients(&rt, rt.alloc(), &mut out)?;
-    long_connection(rt.alloc(), &mut out, 3_000_000)
+    clients(&rt, rt.alloc(), &mut out)
 }
