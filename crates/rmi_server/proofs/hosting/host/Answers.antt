@@ -14,10 +14,12 @@ use Rattle.rmi_server.proofs.hosting.host.Goals as goal
 -- The server's kinds and plan are those of the site.
 pub returns-clause-hosts : goal.returns-clause-hosts
 returns-clause-hosts g c =
-    let by_plan = subst (Hosts c.book.result.now) c.in_ok-crew.ensures.plan c.host.ensures.hosts in
-    (opening_of c.in_ok-crew.field-0.lock, c.in_ok-crew.ensures.opening,
-        subst (λ (kinds : List Kind). Hosts kinds (plan_of c.args.site.now LAST_NUMBER)) (c.book.ensures ∙ c.in_ok-crew.ensures.book)
-        by_plan)
+    let by_plan = subst (Hosts c.book.result.now) c.in_ok-crew.ensures.plan c.host.ensures.hosts in (
+      opening_of c.in_ok-crew.field-0.lock,
+      c.in_ok-crew.ensures.opening,
+      subst (λ (kinds : List Kind). Hosts kinds (plan_of c.args.site.now LAST_NUMBER)) (c.book.ensures ∙ c.in_ok-crew.ensures.book)
+          by_plan,
+    )
   where
     Hosts : List Kind → ServePlan → Type 0
     Hosts kinds plan = HostsLinks
