@@ -19,6 +19,7 @@ listening_until seen faults inner = record {
   accepted = inner.accepted;
   faults = inner.faults + faults;
   told = seen || inner.told;
+  quiets = inner.quiets;
 }
 
 -- an end in memory: the index of the first look that sees it, if any does, how many looks there were, which is the index of the next one,

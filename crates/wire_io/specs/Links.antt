@@ -1,6 +1,6 @@
 -- Links that were accepted or dialled, and ports that are listened on.
 use Rattle.std.specs.Prelude.{◌≡◌, ℕ, ℤ, Bool, false, true, List, [], ◌∷◌, ◌++◌, map, Option, None, Some, Result, Ok, Err}
-use Rattle.wire_io.specs.Wire.{ReadHalf, WriteHalf, AreNewHalves, Rose}
+use Rattle.wire_io.specs.Wire.{ReadHalf, WriteHalf, AreNewHalves, Rose, next_count}
 use Rattle.wire_io.specs.declared.link.Link.{Link}
 use Rattle.wire_io.specs.declared.listener.Waited.{Waited}
 use Rattle.wire_io.specs.declared.listener.Waited.TheVariants.{Came, Quiet, Told}
@@ -31,44 +31,58 @@ with_next None next = None
 with_next (Some told) next = Some (told ++ next ∷ [])
 
 -- what a listener shows: the addresses and ports that it was told to listen on and the links that it gave, in their order, where it
--- tells them, how often it failed, and whether it was told to stop
+-- tells them, how often it failed, whether it was told to stop, and how often it answered that no link came or that it was not told to
+-- stop
 pub record Listening : Type 0 where
   pub ports : Option (List (List ℕ × ℕ))
   pub accepted : Option (List Accepted)
   pub faults : ℕ
   pub told : Bool
+  pub quiets : ℕ
 
--- a listener that tells no content, by how often it failed and whether it was told to stop
-abbrev pub untold_listener : ℕ → Bool → Listening
-untold_listener faults told = record { ports = None; accepted = None; faults = faults; told = told }
+-- a listener that tells no content, by how often it failed, whether it was told to stop, and how often it answered that no link came or
+-- that it was not told to stop
+abbrev pub untold_listener : ℕ → Bool → ℕ → Listening
+untold_listener faults told quiets = record { ports = None; accepted = None; faults = faults; told = told; quiets = quiets }
 
 -- What a call did that listens on a port of an address. It counts a fault only where it failed, and then leaves what is told.
 abbrev pub Listens : {T E : Type 0} → Listening → Listening → List ℕ → ℕ → Result T E → Type 0
-Listens old new address port (Ok _) = (new.ports ≡ with_next old.ports (address, port)) × (new.faults ≡ old.faults)
-Listens old new address port (Err _) = (new.ports ≡ old.ports) × Rose old.faults new.faults
+Listens old new address port (Ok _) =
+    (new.ports ≡ with_next old.ports (address, port)) × (new.faults ≡ old.faults) × (new.quiets ≡ old.quiets)
+Listens old new address port (Err _) = (new.ports ≡ old.ports) × Rose old.faults new.faults × (new.quiets ≡ old.quiets)
 
 -- What a call did that accepts a link, which is shown so. It counts a fault only where it failed, and then gave none.
 abbrev pub Accepts : {L E : Type 0} → (L → Accepted) → Listening → Listening → Result L E → Type 0
-Accepts shown old new (Ok link) = (new.accepted ≡ with_next old.accepted (shown link)) × (new.faults ≡ old.faults)
-Accepts shown old new (Err _) = (new.accepted ≡ old.accepted) × Rose old.faults new.faults
+Accepts shown old new (Ok link) =
+    (new.accepted ≡ with_next old.accepted (shown link)) × (new.faults ≡ old.faults) × (new.quiets ≡ old.quiets)
+Accepts shown old new (Err _) = (new.accepted ≡ old.accepted) × Rose old.faults new.faults × (new.quiets ≡ old.quiets)
 
--- What a call did that waits for a link, which is shown so. It gave one, or none came, or the listener was told to stop. It counts
--- a fault only where it failed, and then gave none. A listener that was told before answers that again, and nothing else.
+-- What a call did that waits for a link, which is shown so. It gave one, or none came, which is counted, or the listener was told to stop.
+-- It counts a fault only where it failed, and then gave none. A listener that was told before answers that again, and nothing else.
 abbrev pub Waits : {L E : Type 0} → (L → Accepted) → Listening → Listening → Result (Waited L) E → Type 0
 Waits shown old new (Ok (Came link)) =
     (new.accepted ≡ with_next old.accepted (shown link)) × (new.faults ≡ old.faults) × (new.told ≡ old.told) × (old.told ≡ false)
+    × (new.quiets ≡ old.quiets)
 Waits shown old new (Ok Quiet) =
     (new.accepted ≡ old.accepted) × (new.faults ≡ old.faults) × (new.told ≡ old.told) × (old.told ≡ false)
-Waits shown old new (Ok Told) = (new.accepted ≡ old.accepted) × (new.faults ≡ old.faults) × (new.told ≡ true)
+    × (new.quiets ≡ next_count old.quiets)
+Waits shown old new (Ok Told) =
+    (new.accepted ≡ old.accepted) × (new.faults ≡ old.faults) × (new.told ≡ true) × (new.quiets ≡ old.quiets)
 Waits shown old new (Err _) =
     (new.accepted ≡ old.accepted) × Rose old.faults new.faults × (new.told ≡ old.told) × (old.told ≡ false)
+    × (new.quiets ≡ old.quiets)
 
--- What a look did whether a listener was told to stop, with this answer. It gave no link, and is no fault. A listener that was told before answers that
--- again.
+-- the count of answers without a link and without a stop after a look with this answer
+abbrev pub quiets_after : ℕ → Bool → ℕ
+quiets_after quiets true = quiets
+quiets_after quiets false = next_count quiets
+
+-- What a look did whether a listener was told to stop, with this answer. It gave no link, and is no fault. A look that found that it was not
+-- told is counted. A listener that was told before answers that again.
 abbrev pub Looks : Listening → Listening → Bool → Type 0
 Looks old new answer =
     (new.ports ≡ old.ports) × (new.accepted ≡ old.accepted) × (new.faults ≡ old.faults) × (new.told ≡ answer)
-    × (old.told ≡ true → answer ≡ true)
+    × (new.quiets ≡ quiets_after old.quiets answer) × (old.told ≡ true → answer ≡ true)
 
 -- what holds of the link that came, if one did
 abbrev pub IfCame : {L : Type 0} → Waited L → (L → Type 0) → Type 0
@@ -114,7 +128,8 @@ IsNew link = AreNewHalves (source_half link.source) (sink_half link.sink)
 
 -- a listener in memory: the links that it has still to give, those that it gave, the addresses and ports that it was told to listen
 -- on, how often it failed, the indices of the waits to which no link comes, the index of the wait from which on it is told to stop, if
--- any, how many waits there were, which is the index of the next one, and whether it was told to stop
+-- any, how many waits there were, which is the index of the next one, whether it was told to stop, and how often it answered that no link
+-- came or that it was not told to stop
 pub record ListenerState : Type 0 where
   pub links : List (Link SourceState SinkState ClockState)
   pub accepted : List (Link SourceState SinkState ClockState)
@@ -124,6 +139,7 @@ pub record ListenerState : Type 0 where
   pub stop : Option ℕ
   pub waits : ℕ
   pub told : Bool
+  pub quiets : ℕ
 
 -- what a listener in memory shows
 abbrev pub listening_in_memory : ListenerState → Listening
@@ -132,6 +148,7 @@ listening_in_memory l = record {
   accepted = Some (map accepted_in_memory l.accepted);
   faults = l.faults;
   told = l.told;
+  quiets = l.quiets;
 }
 
 -- a dialer in memory: the links that it has still to give, those that it gave with what was asked for, and how often it failed

@@ -1,7 +1,7 @@
 //! Where connections come from.
 ghost use Rattle.std.specs.Prelude.{◌≡◌, ◌≤◌, ℕ, List, [], ◌∷◌, ◌++◌, length, None, Option, Some, false, IfOk, IsSomeAnd, IfSome, IsTrue, OnOk, OnErr, Ok, Contains, ◌↔◌, ◌<◌};
 ghost use Rattle.std.specs.List.{AllByRecursion};
-ghost use Rattle.wire_io.specs.Links.{Listening, accepted_as, Listens, Accepts, Waits, Looks, IfCame, IfNoneCame, IsNew, accepted_in_memory, listening_in_memory};
+ghost use Rattle.wire_io.specs.Links.{Listening, accepted_as, Listens, Accepts, Waits, Looks, IfCame, IfNoneCame, IsNew, accepted_in_memory, listening_in_memory, quiets_after};
 ghost use Rattle.wire_io.specs.Mem.{source_half, sink_half};
 ghost use Rattle.wire_io.specs.declared.listener.Waited.{Waited};
 ghost use Rattle.wire_io.specs.Wire.{AreNewHalves, next_count};
@@ -40,8 +40,8 @@ pub trait Listener {
     type Ticks: Clock + Send + Drop;
 
     // The addresses and ports that it was told to listen on and the links that it gave, each as it was then, in their order, where the
-    // listener tells them, how often it failed, and whether it was told to stop. The count never falls, and stands still at the
-    // greatest u64.
+    // listener tells them, how often it failed, whether it was told to stop, and how often it answered that no link came or that it was
+    // not told to stop. The counts never fall, and stand still at the greatest u64.
     ghost listening: { Self → Listening };
 
     /// Listens on a port of an address from now on. The address is a name or the numbers of one, as `127.0.0.1`.
@@ -113,6 +113,7 @@ pub struct MemListener {
     stop: Option<u64>,
     waits: u64,
     told: bool,
+    quiets: u64,
 }
 
 // Written out, so that whoever owns one has one call at each exit, and not the drop of each field.
@@ -128,6 +129,7 @@ impl Drop for MemListener {
             stop: _,
             waits: _,
             told: _,
+            quiets: _,
         } = self;
         drop(links);
         drop(accepted);
@@ -153,6 +155,7 @@ impl Model for MemListener {
       stop = l.stop;
       waits = l.waits;
       told = l.told;
+      quiets = l.quiets;
     } };
 
     ghost invariant = { λ l. AllByRecursion IsNew (into_iter_items l.links)
@@ -172,6 +175,7 @@ impl MemListener {
         ensures stop { result.stop ≡ None }
         ensures waits { result.waits ≡ 0 }
         ensures told { result.told ≡ false }
+        ensures quiets { result.quiets ≡ 0 }
     {
         MemListener::with_script(alloc, links, Kinds::new(alloc), None)
     }
@@ -193,6 +197,7 @@ impl MemListener {
         ensures stop { result.stop ≡ stop }
         ensures waits { result.waits ≡ 0 }
         ensures told { result.told ≡ false }
+        ensures quiets { result.quiets ≡ 0 }
     {
         MemListener {
             alloc,
@@ -204,6 +209,7 @@ impl MemListener {
             stop,
             waits: 0,
             told: false,
+            quiets: 0,
         }
     }
 
@@ -253,6 +259,17 @@ fn is_stopped(stop: Option<u64>, index: u64) -> bool
     match stop {
         Some(first) => first <= index,
         None => false,
+    }
+}
+
+/// Returns the count of answers without a link and without a stop after a look with this answer.
+pub(crate) fn quiets_after(quiets: u64, told: bool) -> u64
+    ensures { result ≡ quiets_after quiets told }
+{
+    if told {
+        quiets
+    } else {
+        quiets.saturating_add(1)
     }
 }
 
@@ -342,6 +359,7 @@ impl Listener for MemListener {
             return Ok(Waited::Told);
         }
         if stands_in(self.quiet.as_slice(), index) {
+            self.quiets = self.quiets.saturating_add(1);
             return Ok(Waited::Quiet);
         }
         match self.accept() {
@@ -362,6 +380,7 @@ impl Listener for MemListener {
         let index = self.waits;
         self.waits = index.saturating_add(1);
         self.told = is_stopped(self.stop, index);
+        self.quiets = quiets_after(self.quiets, self.told);
         self.told
     }
 }

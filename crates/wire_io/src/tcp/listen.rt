@@ -1,10 +1,10 @@
 //! A listener over TCP.
-ghost use Rattle.std.specs.Prelude.{◌≡◌, None, false, IfOk, IfSome, OnOk, OnErr};
+ghost use Rattle.std.specs.Prelude.{◌≡◌, None, false, true, IfOk, IfSome, OnOk, OnErr};
 ghost use Rattle.wire_io.specs.Links.{accepted_as, Listens, Accepts, Waits, Looks, IfCame, untold_listener};
 ghost use Rattle.wire_io.specs.Wire.{AreNewHalves, next_count, untold_read, untold_write};
 
 use crate::limits::{LOOK_SECONDS, WAIT_SECONDS};
-use crate::listener::{Listener, Waited};
+use crate::listener::{Listener, Waited, quiets_after};
 use crate::source::Failed;
 use crate::std_io::StdClock;
 use crate::tcp::link::{TcpLink, link_by_rules};
@@ -36,6 +36,7 @@ pub struct TcpListen<R> {
     flag: Option<Arc<AtomicBool>>,
     told: bool,
     faults: u64,
+    quiets: u64,
 }
 
 impl<R> Model for TcpListen<R> {
@@ -43,13 +44,13 @@ impl<R> Model for TcpListen<R> {
 
     ghost Value = { Listening };
 
-    ghost view = { λ l. untold_listener l.faults l.told };
+    ghost view = { λ l. untold_listener l.faults l.told l.quiets };
 }
 
 impl<R> TcpListen<R> {
     /// The listener over this runtime's sockets, which does not listen yet. It is never told to stop. It takes no memory.
     pub fn new(alloc: Global, rt: R) -> TcpListen<R>
-        ensures { result ≡ untold_listener 0 false }
+        ensures { result ≡ untold_listener 0 false 0 }
     {
         TcpListen {
             rt,
@@ -58,12 +59,13 @@ impl<R> TcpListen<R> {
             flag: None,
             told: false,
             faults: 0,
+            quiets: 0,
         }
     }
 
     /// The listener over this runtime's sockets, which does not listen yet. It is told to stop where this flag is set. It takes no memory.
     pub fn with_flag(alloc: Global, rt: R, flag: Arc<AtomicBool>) -> TcpListen<R>
-        ensures { result ≡ untold_listener 0 false }
+        ensures { result ≡ untold_listener 0 false 0 }
     {
         TcpListen {
             rt,
@@ -72,6 +74,7 @@ impl<R> TcpListen<R> {
             flag: Some(flag),
             told: false,
             faults: 0,
+            quiets: 0,
         }
     }
 
@@ -119,6 +122,26 @@ fn limited_listener(listener: TcpListener) -> io::Result<TcpListener> {
 }
 
 impl<R: Copy + Drop> TcpListen<R> {
+    /// Drops the socket, and sets the flag, if there is one.
+    fn give_back(&mut self)
+        ensures { self.new ≡ self.old }
+    {
+        self.listener = None;
+        set(&self.flag);
+    }
+
+    /// Returns whether the listener is told to stop: the flag is set, or was seen before. Then the socket is dropped.
+    fn sees_flag(&mut self) -> bool
+        ensures told { self.new ≡ record self.old { told = result } }
+        ensures again { self.old.told ≡ true → result ≡ true }
+    {
+        if self.told || is_set(&self.flag) {
+            self.told = true;
+            self.give_back();
+        }
+        self.told
+    }
+
     /// The listener's socket, if it listens.
     fn socket(&self) -> io::Result<&TcpListener> {
         match &self.listener {
@@ -258,12 +281,15 @@ where
         ensures counted { OnErr result
             (self.new ≡ record self.old { faults = next_count self.old.faults }) }
     {
-        if self.is_told() {
+        if self.sees_flag() {
             return Ok(Waited::Told);
         }
         match self.next_link_soon() {
             Ok(Some(link)) => Ok(Waited::Came(link)),
-            Ok(None) => Ok(Waited::Quiet),
+            Ok(None) => {
+                self.quiets = self.quiets.saturating_add(1);
+                Ok(Waited::Quiet)
+            }
             Err(_) => {
                 self.faults = self.faults.saturating_add(1);
                 Err(Failed)
@@ -275,11 +301,9 @@ where
     fn is_told(&mut self) -> bool
         ensures looks { Looks self.old self.new result }
     {
-        if self.told || is_set(&self.flag) {
-            self.told = true;
-            self.close();
-        }
-        self.told
+        let told = self.sees_flag();
+        self.quiets = quiets_after(self.quiets, told);
+        told
     }
 
     /// Drops the socket, and sets the flag, if there is one: so nothing more is read of the links that it gave. Without a flag an `accept` or a `wait`
@@ -287,7 +311,6 @@ where
     fn close(&mut self)
         ensures { self.new ≡ self.old }
     {
-        self.listener = None;
-        set(&self.flag);
+        self.give_back();
     }
 }
