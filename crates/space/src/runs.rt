@@ -11,15 +11,33 @@ use history::Ask;
 use indexmap::IndexMap;
 use object_ids::ObjId;
 use std::alloc::{AllocError, Global};
+use std::hash::{Hash, Hasher};
 use std::marker::Model;
 
 /// A call that a connection runs.
-#[derive(Clone, Copy, PartialEq, Eq, Hash)]
+#[derive(Clone, Copy, PartialEq, Eq)]
 pub struct Run {
     /// The number of the connection.
     pub by: u32,
     /// The object that it calls.
     pub object: ObjId,
+}
+
+// The objects that are called are all of one space, so that their numbers tell them apart.
+impl Hash for Run {
+    ghost use Rattle.std.specs.Prelude.{◌++◌};
+    ghost use Rattle.std.proofs.Common.{rules};
+    ghost use Rattle.std.specs.Cmp.Rules.{hashing};
+    ghost use Rattle.std.specs.Hash as fed;
+
+    ghost hash_input = { λ run. fed.u32 run.by ++ fed.i64 run.object.number };
+
+    ghost respects_eq = { Prim.search (hashing, rules) };
+
+    fn hash<H: Hasher>(&self, state: &mut H) {
+        self.by.hash(state);
+        self.object.number.hash(state);
+    }
 }
 
 /// For each connection and object how many calls of the object it runs, if it runs one. No count is 0.
