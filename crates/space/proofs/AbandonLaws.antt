@@ -25,12 +25,13 @@ use Rattle.space.specs.Built.{SpaceHistory}
 use Rattle.space.specs.Kept.{Keeps}
 use Rattle.space.specs.Runs.{is_run, without_first}
 use Rattle.space.specs.RunTable.{AreSame}
+use Rattle.space.specs.Withdrawing.{HasWithdrawn}
 use Rattle.space.proofs.Acting.{effective-is}
 use Rattle.space.proofs.AheadLaws.{room-next}
 use Rattle.space.proofs.AskLaws.{abandon-counted}
 use Rattle.space.proofs.RunLists.{as-many}
 use Rattle.space.proofs.Keeping.{step-taken}
-use Rattle.space.proofs.TurnLaws.{IsAsked, HasActed, HasWithdrawn, taken, turn-keeps}
+use Rattle.space.proofs.TurnLaws.{IsAsked, HasActed, taken, turn-keeps}
 use Rattle.export_table.specs.StandsForHistory.{rows_of}
 
 -- ---- before it acts

@@ -18,8 +18,9 @@ use Rattle.rmi_registry.specs.StandsForHistory.{AreBindings}
 use Rattle.space.specs.Ahead.{HasRoom}
 use Rattle.space.specs.Doubts.{HasLog}
 use Rattle.space.specs.Kept.{Keeps}
+use Rattle.space.specs.Withdrawing.{HasWithdrawn}
 use Rattle.space.proofs.Keeping.{told_calls}
-use Rattle.space.proofs.TurnLaws.{HasActed, HasWithdrawn, is-acted}
+use Rattle.space.proofs.TurnLaws.{HasActed, is-acted}
 
 -- Once an ask has acted there are calls for which the leases stand.
 pub has-log : (config : SpaceConfig) (events : List Event) (e : Event) (leases leases1 : LeaseTable) (exports t : ExportTable) (runs : List Run) (withdrawn : List Withdrawal) (reported opened used moment : ℕ) (effective : Bool) →
@@ -31,17 +32,13 @@ has-log config events e leases leases1 exports t runs withdrawn reported opened 
   stands = (is-acted config events e leases leases1 exports t runs withdrawn reported opened used moment effective a).leases_stand;
 }
 
--- What the withdrawal answered, of a table but for its room.
-pub has-withdrawn : (leases1 leases2 : LeaseTable) (t y z : ExportTable) (time : ℕ) (told_gone all_gone : List ObjId) → y ≡ record t { room = y.room } →
-    ForEachLog leases1 (λ lease moment calls. z ≡ record y { rows = filter (row_kept time (held_by lease (max time moment) calls) y.waits) y.rows; waits = still_waiting time y.waits; room = z.room }) →
-    ForEachLog leases1 (λ lease moment calls. all_gone ≡ told_gone ++ rows_withdrawn time (held_by lease (max time moment) calls) y.waits y.rows) →
-    ForEachLog leases1 (λ lease moment calls. StandsFor lease leases2 moment (map (without_all (rows_withdrawn time (held_by lease (max time moment) calls) y.waits y.rows)) calls)) →
-    HasWithdrawn leases1 leases2 t z time told_gone all_gone
-has-withdrawn leases1 leases2 t y z time told_gone all_gone e kept gone dropped =
+-- What was withdrawn of a table was withdrawn of one that has other room.
+pub has-withdrawn : {leases1 leases2 : LeaseTable} {t y z : ExportTable} {time : ℕ} {before after : List ObjId} → y ≡ record t { room = y.room } → HasWithdrawn leases1 leases2 y z time before after → HasWithdrawn leases1 leases2 t z time before after
+has-withdrawn {leases1} {leases2} {t} {y} {z} {time} {before} {after} e w =
     let K : ExportTable → Type 0 = λ x. ForEachLog leases1 (λ lease moment calls. z ≡ record x { rows = filter (row_kept time (held_by lease (max time moment) calls) x.waits) x.rows; waits = still_waiting time x.waits; room = z.room }) in
-    let G : ExportTable → Type 0 = λ x. ForEachLog leases1 (λ lease moment calls. all_gone ≡ told_gone ++ rows_withdrawn time (held_by lease (max time moment) calls) x.waits x.rows) in
+    let G : ExportTable → Type 0 = λ x. ForEachLog leases1 (λ lease moment calls. after ≡ before ++ rows_withdrawn time (held_by lease (max time moment) calls) x.waits x.rows) in
     let D : ExportTable → Type 0 = λ x. ForEachLog leases1 (λ lease moment calls. StandsFor lease leases2 moment (map (without_all (rows_withdrawn time (held_by lease (max time moment) calls) x.waits x.rows)) calls)) in
-    record { kept = subst K e kept; gone = subst G e gone; dropped = subst D e dropped }
+    record { kept = subst K e w.kept; gone = subst G e w.gone; dropped = subst D e w.dropped }
 
 -- What is kept of events, once they are there and there is as much room.
 pub appended : (config : SpaceConfig) (events events' : List Event) (leases : LeaseTable) (exports : ExportTable) (runs : List Run) (withdrawn : List Withdrawal) (reported opened used moment room room' withdrawn_room : ℕ) (bindings : List Binding) →

@@ -1,6 +1,6 @@
--- How many objects go: no more than are in doubt, where each that isn't kept is among these.
-use Rattle.std.proofs.Common.{◌≡◌, ℕ, ◌+◌, ◌≤◌, inl, inr, List, [], ◌∷◌, ◌++◌, length, refl, ap, sym, subst, cond, max, arith, length-append}
-use Rattle.std.specs.Prelude.{Bool, true, false, ◌||◌, not, filter}
+-- What goes where a withdrawal looks at the objects in doubt alone: each that isn't kept is among these, and no more go than these are.
+use Rattle.std.proofs.Common.{◌≡◌, ℕ, ◌+◌, ◌≤◌, inl, inr, List, [], ◌∷◌, ◌++◌, length, refl, ap, sym, subst, cond, map, max, arith, length-append, ◌∙◌}
+use Rattle.std.specs.Prelude.{Bool, true, false, ◌||◌, not, filter, if◌then◌else◌}
 use Rattle.std.specs.List.{list_any}
 use Rattle.std.proofs.lemmas.Bool.{and_parts}
 use Rattle.object_ids.specs.declared.ids.ObjId.{ObjId}
@@ -8,14 +8,20 @@ use Rattle.object_ids.specs.Same.{same_id}
 use Rattle.object_ids.proofs.Exact.{same_id-equal}
 use Rattle.history.proofs.ListLemmas.{length-fewer}
 use Rattle.history.proofs.Equalities.{object-equality}
-use Rattle.dgc_server.specs.StandsForCalls.{LeaseTable, ForEachLog}
+use Rattle.dgc_server.specs.Counts.{without_all}
+use Rattle.dgc_server.specs.StandsForCalls.{LeaseTable, StandsFor, ForEachLog}
 use Rattle.export_table.specs.declared.rows.Export.{Export}
 use Rattle.export_table.specs.declared.waits.Wait.{Wait}
-use Rattle.export_table.specs.ExportRows.{ids, is_rising, is_among, is_row_kept, is_settled_but, held_by, withdrawn_ids, IsPart}
+use Rattle.export_table.specs.ExportRows.{ids, is_rising, is_among, is_row_kept, is_settled_but, held_by, stays_among, withdrawn_ids, IsPart}
 use Rattle.export_table.specs.Table.{ExportTable}
+use Rattle.export_table.specs.Waits.{still_waiting}
+use Rattle.export_table.proofs.Among.{rows-among, gone-among}
 use Rattle.export_table.proofs.Parts.{part-map, part-rising}
 use Rattle.export_table.proofs.RowLaws.{rising-once}
+use Rattle.space.specs.declared.doubts.Doubt.{Doubt}
 use Rattle.space.specs.Doubts.{HasLog}
+use Rattle.space.specs.Withdrawing.{GoesAmong, HasWithdrawn, most_gone}
+use Rattle.space.proofs.AskLaws.{gone-few}
 
 part-filter : (q : Export → Bool) (rows : List Export) → IsPart (filter q rows) rows
 part-filter q [] = refl
@@ -59,13 +65,53 @@ doubtful-few os t held waits rows r s =
     (goes-doubtful os t held waits rows s)
 
 -- WHAT GOES, after others.
-pub few-go : (leases : LeaseTable) (time : ℕ) (x : ExportTable) (os before all : List ObjId) → HasLog leases → is_rising (ids x.rows) ≡ true →
-    ForEachLog leases (λ lease m calls. is_settled_but os time (held_by lease (max time m) calls) x.waits x.rows ≡ true) →
-    ForEachLog leases (λ lease m calls. all ≡ before ++ withdrawn_ids time (held_by lease (max time m) calls) x.waits x.rows) → length all ≤ length before + length os
-few-go leases time x os before all log r among goes =
-    let same = ap length (goes log.lease log.moment log.calls log.stands) in
-    let both = length-append before (withdrawn_ids time held x.waits x.rows) in
-    let few = doubtful-few os time held x.waits x.rows r (among log.lease log.moment log.calls log.stands) in omega (arith, same, both, few)
+pub few-go : {leases1 leases2 : LeaseTable} {x y : ExportTable} {t : ℕ} {before after : List ObjId} (os : List ObjId) → HasLog leases1 → is_rising (ids x.rows) ≡ true → GoesAmong leases1 x t os → HasWithdrawn leases1 leases2 x y t before after →
+    length after ≤ length before + length os
+few-go {leases1} {leases2} {x} {y} {t} {before} {after} os log r among w =
+    let same = ap length (w.gone log.lease log.moment log.calls log.stands) in
+    let both = length-append before (withdrawn_ids t held x.waits x.rows) in
+    let few = doubtful-few os t held x.waits x.rows r (among log.lease log.moment log.calls log.stands) in omega (arith, same, both, few)
   where
     held : ObjId → Bool
-    held = held_by log.lease (max time log.moment) log.calls
+    held = held_by log.lease (max t log.moment) log.calls
+
+-- No more than are exported.
+pub all-go : {leases1 leases2 : LeaseTable} {x y : ExportTable} {t : ℕ} {before after : List ObjId} → HasLog leases1 → HasWithdrawn leases1 leases2 x y t before after → length after ≤ length before + length x.rows
+all-go {leases1} {leases2} {x} {y} {t} {before} {after} log w =
+    let same = ap length (w.gone log.lease log.moment log.calls log.stands) in
+    let both = length-append before (withdrawn_ids t held x.waits x.rows) in
+    let few = gone-few t held x.waits x.rows in omega (arith, same, both, few)
+  where
+    held : ObjId → Bool
+    held = held_by log.lease (max t log.moment) log.calls
+
+-- ---- by what is in doubt
+
+pub most-all : (doubt : Doubt) (x : ExportTable) → doubt.all ≡ true → most_gone doubt x ≡ length x.rows
+most-all doubt x e = ap (λ b. if b then length x.rows else length doubt.objects.now) e
+
+pub most-some : (doubt : Doubt) (x : ExportTable) → doubt.all ≡ false → most_gone doubt x ≡ length doubt.objects.now
+most-some doubt x e = ap (λ b. if b then length x.rows else length doubt.objects.now) e
+
+pub most-within : (doubt : Doubt) (x : ExportTable) → length doubt.objects.now ≤ length x.rows → most_gone doubt x ≤ length x.rows
+most-within doubt x few = go doubt.all
+  where
+    go : (b : Bool) → (if b then length x.rows else length doubt.objects.now) ≤ length x.rows
+    go true = omega arith
+    go false = few
+
+-- A withdrawal that looks at these alone, where nothing else has to go.
+pub withdrawn-among : {leases1 leases2 : LeaseTable} {x y : ExportTable} {t : ℕ} {before after : List ObjId} (os : List ObjId) → GoesAmong leases1 x t os →
+    ForEachLog leases1 (λ lease m calls. y ≡ record x { rows = filter (stays_among os t (held_by lease (max t m) calls) x.waits) x.rows; waits = still_waiting t x.waits; room = y.room }) →
+    ForEachLog leases1 (λ lease m calls. after ≡ before ++ ids (filter (λ r. not (stays_among os t (held_by lease (max t m) calls) x.waits r)) x.rows)) →
+    ForEachLog leases1 (λ lease m calls. StandsFor lease leases2 m (map (without_all (ids (filter (λ r. not (stays_among os t (held_by lease (max t m) calls) x.waits r)) x.rows))) calls)) →
+    HasWithdrawn leases1 leases2 x y t before after
+withdrawn-among {leases1} {leases2} {x} {y} {t} {before} {after} os among kept gone dropped = record {
+  kept = λ lease m calls s. (
+      let P : List Export → Type 0 = λ rows. y ≡ record x { rows = rows; waits = still_waiting t x.waits; room = y.room } in
+      subst P (rows-among os t (held_by lease (max t m) calls) x.waits x.rows (among lease m calls s)) (kept lease m calls s));
+  gone = λ lease m calls s. gone lease m calls s ∙ ap (λ l. before ++ l) (gone-among os t (held_by lease (max t m) calls) x.waits x.rows (among lease m calls s));
+  dropped = λ lease m calls s. (
+      let P : List ObjId → Type 0 = λ l. StandsFor lease leases2 m (map (without_all l) calls) in
+      subst P (gone-among os t (held_by lease (max t m) calls) x.waits x.rows (among lease m calls s)) (dropped lease m calls s));
+}

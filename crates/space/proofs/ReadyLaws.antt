@@ -1,5 +1,5 @@
 -- A turn that nothing can refuse any more: what it may rely on, by what its parts answered, and what follows.
-use Rattle.std.proofs.Common.{◌≡◌, ℕ, ◌+◌, ◌<◌, ◌≤◌, ◌^◌, List, [], ◌∷◌, ◌++◌, length, refl, ap, sym, subst, ◌∙◌, map, max, arith, Option, Some, None, Ok}
+use Rattle.std.proofs.Common.{◌≡◌, ℕ, ◌+◌, ◌<◌, ◌≤◌, ◌^◌, List, [], ◌∷◌, ◌++◌, length, refl, ap, sym, subst, ◌∙◌, map, max, arith, Option, Some, None, Ok, length-append}
 use Rattle.std.specs.Prelude.{Bool, true, false, drop, option_and_then, vec_len, vec_capacity}
 use Rattle.object_ids.specs.declared.ids.Uid.{Uid}
 use Rattle.object_ids.specs.declared.ids.ObjId.{ObjId}
@@ -14,9 +14,9 @@ use Rattle.history.specs.Places.{id_at}
 use Rattle.history.specs.Replies.{is_abandon}
 use Rattle.history.specs.Steps.{Step}
 use Rattle.history.specs.Table.{places}
-use Rattle.dgc_server.specs.StandsForCalls.{LeaseTable, StandsFor, ForEachLog}
+use Rattle.dgc_server.specs.StandsForCalls.{LeaseTable, StandsFor}
 use Rattle.event_log.specs.Log.{EventRecord}
-use Rattle.export_table.specs.ExportRows.{is_exported, is_settled_but, held_by, pins_of, running_of}
+use Rattle.export_table.specs.ExportRows.{is_exported, pins_of, running_of}
 use Rattle.export_table.specs.Table.{ExportTable}
 use Rattle.rmi_registry.specs.declared.binding.Binding.{Binding}
 use Rattle.rmi_registry.specs.Bindings.{names_in, object_of}
@@ -34,6 +34,7 @@ use Rattle.space.specs.RunTable.{AreSame, RunTable}
 use Rattle.space.specs.Stored.{IsStoredAs}
 use Rattle.space.specs.Whole.{IsWhole}
 use Rattle.space.specs.Withdrawals.{WithdrawalTable}
+use Rattle.space.specs.Withdrawing.{GoesAmong, HasWithdrawn}
 use Rattle.space.proofs.Acting.{stood_for}
 use Rattle.space.proofs.AheadLaws.{few-calls, room-turned}
 use Rattle.space.proofs.AskLaws.{abandon-counted, acted-few, bound-exported, few-pins, few-run, finish-counted, finish-few, lookup-fits, room-exports, stood-is, stood-pinned}
@@ -41,12 +42,13 @@ use Rattle.space.proofs.Bindings.{bindings-counted, names-next}
 use Rattle.space.proofs.EndLaws.{has-log}
 use Rattle.space.proofs.StoredLaws.{stored-kept, stored-told}
 use Rattle.space.proofs.Settling.{settled-but, settled-roomy}
-use Rattle.space.proofs.TurnLaws.{HasActed, HasWithdrawn, IsAsked, is-effective, keeps-room, turn-keeps, turn-step}
+use Rattle.space.proofs.WithdrawalLaws.{gone-after, gone-within}
+use Rattle.space.proofs.TurnLaws.{HasActed, IsAsked, is-effective, keeps-room, turn-keeps, turn-step}
 
 -- ---- what it may rely on
 
 -- WHAT A TURN MAY RELY ON, by what its parts answered of the tables `t`: these were told of the event, and room was made in them.
-pub is-ready : (t : Tables) {e : Event} {a : Admitted} {p : Prepared} {noted : Bool} {time counted : ℕ} {events : EventRecord} {runs : RunTable} {withdrawn : WithdrawalTable} {exports : ExportTable} {leases : LeaseTable} {bindings : List Binding} →
+pub is-ready : (t : Tables) {e : Event} {a : Admitted} {p : Prepared} {noted : Bool} {time : ℕ} {events : EventRecord} {runs : RunTable} {withdrawn : WithdrawalTable} {exports : ExportTable} {leases : LeaseTable} {bindings : List Binding} →
     IsWhole t → e.moment < END_OF_TIME → time ≡ max e.moment t.moment →
     a.stood ≡ option_and_then (object_of t.names) (name_in e.ask) → a.effective ≡ effective_by t.exports.rows t.runs.items a.stood e.by e.ask → room_refusal t.config.stored t.units (length t.runs.items) (length t.exports.rows) a.effective e.ask ≡ None →
     p.opened ≡ opens a.effective e.ask → p.objects ≡ length t.exports.rows + opens a.effective e.ask → p.listed.references.items ≡ returned_by t.config.uid t.added t.exports.rows a.stood a.effective e.ask →
@@ -54,14 +56,13 @@ pub is-ready : (t : Tables) {e : Event} {a : Admitted} {p : Prepared} {noted : B
     p.untold.gone.items ≡ map (λ (w : Withdrawal). w.object) (drop t.reported t.withdrawn.items) → vec_len p.untold.gone + length p.listed.doubtful.items ≤ vec_capacity p.untold.gone →
     (noted ≡ true → vec_len p.untold.gone + length p.listed.doubtful.items ≤ vec_capacity p.untold.spare) → p.reply ≡ reply_at t.config t.added t.exports.rows (names_in t.names) a.stood a.effective e.ask →
     await_refusal time t.exports.rows t.exports.waits a.stood a.effective e.ask ≡ None →
-    counted ≡ length p.listed.references.items →
-    length events.items + length runs.items + 2 ≤ events.capacity → 0 < runs.room → length withdrawn.items + p.objects ≤ withdrawn.room → p.opened ≤ exports.room.exports → counted ≤ exports.room.waits →
+    length events.items + length runs.items + 2 ≤ events.capacity → 0 < runs.room → length withdrawn.items + p.objects ≤ withdrawn.room → p.opened ≤ exports.room.exports → length p.listed.references.items ≤ exports.room.waits →
     events.stored ≡ t.events.stored → withdrawn.told ≡ t.withdrawn.told →
     events.items ≡ t.events.items → runs.items ≡ t.runs.items → withdrawn.items ≡ t.withdrawn.items → exports ≡ record t.exports { room = exports.room } →
     ForEachLogBy time t.leases (λ lease calls. StandsFor lease leases time (call_with (is_exported exports.rows) time e.ask ++ calls)) → bindings ≡ acted_names a.effective e.ask t.names →
     ForEachLogBy time t.leases (λ lease calls. told_refusal lease time calls (call_with (is_exported exports.rows) time e.ask) (length t.names) (option_and_then (object_of t.names) (name_in e.ask)) a.effective e.ask ≡ None) →
     IsReady (record t { events = events; runs = runs; withdrawn = withdrawn; exports = exports; leases = leases; names = bindings }) e a p noted
-is-ready t {e} {a} {p} {noted} {time} {counted} {events} {runs} {withdrawn} {exports} {leases} {bindings} (k, r, b, s) early at st f full op ob refs doubt gone gone_room copy_room reply fit count er rr wr xr waits_room same_kind told ev ru wi ex ok ns refusal =
+is-ready t {e} {a} {p} {noted} {time} {events} {runs} {withdrawn} {exports} {leases} {bindings} (k, r, b, s) early at st f full op ob refs doubt gone gone_room copy_room reply fit er rr wr xr waits_room same_kind told ev ru wi ex ok ns refusal =
     let E : List Event → Type 0 = λ es. IsReady (record t { events = record events { items = es }; runs = runs; withdrawn = withdrawn; exports = exports; leases = leases; names = bindings }) e a p noted in
     let R : List Run → Type 0 = λ rs. IsReady (record t { events = record events { items = t.events.items }; runs = record runs { items = rs }; withdrawn = withdrawn; exports = exports; leases = leases; names = bindings }) e a p noted in
     let W : List Withdrawal → Type 0 = λ ws. IsReady (record t { events = record events { items = t.events.items }; runs = record runs { items = t.runs.items }; withdrawn = record withdrawn { items = ws }; exports = exports; leases = leases; names = bindings }) e a p noted in
@@ -99,7 +100,7 @@ is-ready t {e} {a} {p} {noted} {time} {counted} {events} {runs} {withdrawn} {exp
       run_room = rr;
       withdrawal_room = omega (arith, wr, ob, withdrawn_same);
       object_room = omega (arith, xr, op);
-      wait_room = omega (arith, count, waits_room);
+      wait_room = waits_room;
     }))))
 
 -- ---- what follows of a turn that may rely on it
@@ -240,7 +241,7 @@ gone-room-when-ready r see = let same = ap length see in let room = r.gone_room 
 
 pub among-when-ready : {t : Tables} {e : Event} {a : Admitted} {p : Prepared} {noted : Bool} {time : ℕ} {exports : ExportTable} {seen : List ObjId} → IsReady t e a p noted → time ≡ max e.moment t.moment →
     exports ≡ record (acted_exports a.stood a.effective time e.ask t.exports) { room = exports.room } → seen ≡ p.listed.doubtful.items →
-    ForEachLog t.leases (λ lease m calls. is_settled_but seen time (held_by lease (max time m) calls) exports.waits exports.rows ≡ true)
+    GoesAmong t.leases exports time seen
 among-when-ready {t} {e} {a} {p} {noted} {time} {exports} {seen} r at x see =
     let N : ℕ → Type 0 = λ n. AreInDoubt r.before n t.exports.waits (taken_by t.exports.waits (id_at t.config.uid t.added) a.stood p.listed.references.items e.ask) p.listed.doubtful.items in
     let L : List ObjId → Type 0 = λ l. AreInDoubt r.before time t.exports.waits (taken_by t.exports.waits (id_at t.config.uid t.added) a.stood l e.ask) p.listed.doubtful.items in
@@ -253,3 +254,26 @@ among-when-ready {t} {e} {a} {p} {noted} {time} {exports} {seen} r at x see =
 pub copy-room-when-ready : {t : Tables} {e : Event} {a : Admitted} {p : Prepared} {noted : Bool} {seen : List ObjId} (gone : List ObjId) → IsReady t e a p noted → seen ≡ p.listed.doubtful.items → vec_len p.untold.gone ≡ length p.untold.gone.items →
     length gone ≤ length p.untold.gone.items + length seen → noted ≡ true → length gone ≤ vec_capacity p.untold.spare
 copy-room-when-ready gone r see untold few asked = let same = ap length see in let room = r.copy_room asked in omega (arith, same, untold, few, room)
+
+-- ---- what the note of its withdrawals requires
+
+pub note-within : {t : Tables} {e : Event} {a : Admitted} {p : Prepared} {noted : Bool} {time untold : ℕ} {leases : LeaseTable} {x y : ExportTable} {seen : List ObjId} (gone : List ObjId) → IsReady t e a p noted → HasWithdrawn t.leases leases x y time p.untold.gone.items gone →
+    untold ≡ length p.untold.gone.items → seen ≡ gone → untold ≤ length seen
+note-within {t} {e} {a} {p} gone r w is see =
+    let more = ap length (gone-after (log-when-ready r) w) ∙ length-append p.untold.gone.items (drop (length p.untold.gone.items) gone) in
+    let same = ap length see in omega (arith, is, more, same)
+
+pub note-room : {t : Tables} {e : Event} {a : Admitted} {p : Prepared} {noted : Bool} {untold : ℕ} {leases : LeaseTable} {x y : ExportTable} {seen : List ObjId} (time : ℕ) (gone : List ObjId) → IsReady t e a p noted →
+    x ≡ record (acted_exports a.stood a.effective time e.ask t.exports) { room = x.room } → HasWithdrawn t.leases leases x y time p.untold.gone.items gone → untold ≡ length p.untold.gone.items → seen ≡ gone →
+    length t.withdrawn.items + length (drop untold seen) ≤ t.withdrawn.room
+note-room {t} {e} {a} {p} {noted} {untold} time gone r acts w is see =
+    let room = withdrawal-room-when-ready time r acts in
+    let few = gone-within (log-when-ready r) w in
+    let same = ap (λ l. length (drop untold l)) see ∙ ap (λ n. length (drop n gone)) is in
+    omega (arith, room, few, same)
+
+-- What is noted are those that went.
+pub noted-when-ready : {t : Tables} {e : Event} {a : Admitted} {p : Prepared} {noted : Bool} {untold : ℕ} {seen : List ObjId} {after : List Withdrawal} (place : ℕ) (gone : List ObjId) → IsReady t e a p noted → untold ≡ length p.untold.gone.items → seen ≡ gone →
+    after ≡ t.withdrawn.items ++ map (withdrawal_at place) (drop untold seen) → after ≡ t.withdrawn.items ++ map (withdrawal_at place) (drop (length p.untold.gone.items) gone)
+noted-when-ready {t} {e} {a} {p} {noted} {untold} place gone r is see wd =
+    wd ∙ ap (λ l. t.withdrawn.items ++ map (withdrawal_at place) (drop untold l)) see ∙ ap (λ n. t.withdrawn.items ++ map (withdrawal_at place) (drop n gone)) is

@@ -16,10 +16,10 @@ use Rattle.history.specs.Places.{History, has, now, id_at}
 use Rattle.history.specs.Table.{is_kept, table, places}
 use Rattle.history.proofs.ListLemmas.{every-two, list_all-same}
 use Rattle.history.proofs.NumberLaws.{has-self}
-use Rattle.dgc_server.specs.StandsForCalls.{LeaseTable, ForEachLog}
+use Rattle.dgc_server.specs.StandsForCalls.{LeaseTable}
 use Rattle.export_table.specs.declared.rows.Export.{Export}
 use Rattle.export_table.specs.declared.waits.Wait.{Wait}
-use Rattle.export_table.specs.ExportRows.{is_pinned, is_among, is_row_kept, is_settled_but, held_by}
+use Rattle.export_table.specs.ExportRows.{is_pinned, is_among, is_row_kept, held_by}
 use Rattle.export_table.specs.StandsForHistory.{AreWaits, WaitsStand, reference_of, end_of, row_of, rows_of}
 use Rattle.export_table.specs.Table.{ExportTable}
 use Rattle.export_table.specs.Waits.{is_awaited, ended_waits, objects}
@@ -27,6 +27,7 @@ use Rattle.export_table.proofs.KeptLaws.{rows-are-kept}
 use Rattle.space.specs.declared.runs.Run.{Run}
 use Rattle.space.specs.Acts.{acted_exports, returned_by}
 use Rattle.space.specs.Doubts.{taken_by, AreInDoubt}
+use Rattle.space.specs.Withdrawing.{GoesAmong}
 use Rattle.space.specs.Kept.{live_calls}
 use Rattle.space.proofs.Acting.{stood_for}
 use Rattle.space.proofs.Doubting.{among, awaited-later, waits-stay, holds-stay, is_safe, safe-before, safe-after, safe-more, three, weaken}
@@ -117,7 +118,7 @@ settles x stood effective a names lease m t calls os some_ack some_lease freed e
 pub settled-but : (config : SpaceConfig) (events : List Event) (e : Event) (leases leases1 : LeaseTable) (exports t : ExportTable) (runs : List Run) (withdrawn : List Withdrawal) (reported opened used moment : ℕ) (effective : Bool) →
     HasActed config events e leases leases1 exports t runs withdrawn reported opened used moment effective → (time : ℕ) (os : List ObjId) → time ≡ max e.moment moment →
     AreInDoubt leases time exports.waits (taken_by exports.waits (id_at config.uid opened) (stood_for (places config events) e.ask) (returned_by config.uid opened exports.rows (stood_for (places config events) e.ask) effective e.ask) e.ask) os →
-    ForEachLog leases1 (λ lease m calls. is_settled_but os time (held_by lease (max time m) calls) t.waits t.rows ≡ true)
+    GoesAmong leases1 t time os
 settled-but config events e leases leases1 exports t runs withdrawn reported opened used moment effective a time os at doubt lease m calls s =
     let k = a.asked.keeps in
     let d = is-acted config events e leases leases1 exports t runs withdrawn reported opened used moment effective a in
@@ -158,9 +159,8 @@ settled-but config events e leases leases1 exports t runs withdrawn reported ope
 
 -- Of a table but for its room.
 pub settled-roomy : (leases1 : LeaseTable) (t y : ExportTable) (time : ℕ) (os seen : List ObjId) → y ≡ record t { room = y.room } → seen ≡ os →
-    ForEachLog leases1 (λ lease m calls. is_settled_but os time (held_by lease (max time m) calls) t.waits t.rows ≡ true) →
-    ForEachLog leases1 (λ lease m calls. is_settled_but seen time (held_by lease (max time m) calls) y.waits y.rows ≡ true)
+    GoesAmong leases1 t time os → GoesAmong leases1 y time seen
 settled-roomy leases1 t y time os seen e se f =
-    let P : ExportTable → Type 0 = λ x. ForEachLog leases1 (λ lease m calls. is_settled_but os time (held_by lease (max time m) calls) x.waits x.rows ≡ true) in
-    let O : List ObjId → Type 0 = λ l. ForEachLog leases1 (λ lease m calls. is_settled_but l time (held_by lease (max time m) calls) y.waits y.rows ≡ true) in
+    let P : ExportTable → Type 0 = λ x. GoesAmong leases1 x time os in
+    let O : List ObjId → Type 0 = λ l. GoesAmong leases1 y time l in
     subst O (sym se) (subst P (sym e) f)

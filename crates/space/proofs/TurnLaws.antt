@@ -17,7 +17,7 @@ use Rattle.history.specs.Places.{has, now}
 use Rattle.history.specs.Steps.{Step}
 use Rattle.history.specs.Table.{is_effective, table, place_of, places}
 use Rattle.dgc_server.specs.Counts.{without_all}
-use Rattle.dgc_server.specs.StandsForCalls.{LeaseTable, StandsFor, ForEachLog}
+use Rattle.dgc_server.specs.StandsForCalls.{LeaseTable, StandsFor}
 use Rattle.export_table.specs.ExportRows.{is_row_kept as row_kept, held_by, withdrawn_ids as rows_withdrawn, is_exported}
 use Rattle.export_table.specs.Table.{ExportTable, Room}
 use Rattle.export_table.specs.Waits.{still_waiting}
@@ -35,6 +35,7 @@ use Rattle.history.specs.declared.limits.TheConstants.{END_OF_TIME}
 use Rattle.export_table.specs.declared.rows.Export.{Export}
 use Rattle.export_table.specs.declared.waits.Wait.{Wait}
 use Rattle.space.specs.Runs.{RunsStand, caller_of, object_of}
+use Rattle.space.specs.Withdrawing.{HasWithdrawn}
 use Rattle.export_table.specs.StandsForHistory.{WaitsStand, reference_of, end_of}
 use Rattle.space.proofs.Acting.{rows-act, waits-act, runs-act, effective-is, stood_for}
 use Rattle.space.proofs.RunLists.{stand-same}
@@ -256,12 +257,6 @@ goes-alike lease n k calls us ws rs ss p q r =
     let P : ℕ → Type 0 = λ m. rows_withdrawn m (held_by lease (max m k) calls) us rs ≡ rows_withdrawn k (held_by lease k calls) ws ss in
     let same : max k k ≡ k = omega arith in
     subst P (sym p) (ap (λ m. rows_withdrawn k (held_by lease m calls) us rs) same ∙ ap (λ vs. rows_withdrawn k (held_by lease k calls) vs rs) q ∙ ap (rows_withdrawn k (held_by lease k calls) ws) r)
-
--- WHAT THE WITHDRAWAL answered, after the table t.
-pub record HasWithdrawn (leases1 leases2 : LeaseTable) (t x3 : ExportTable) (time : ℕ) (told_gone all_gone : List ObjId) : Type 0 where
-  pub kept : ForEachLog leases1 (λ lease moment calls. x3 ≡ record t { rows = filter (row_kept time (held_by lease (max time moment) calls) t.waits) t.rows; waits = still_waiting time t.waits; room = x3.room })
-  pub gone : ForEachLog leases1 (λ lease moment calls. all_gone ≡ told_gone ++ rows_withdrawn time (held_by lease (max time moment) calls) t.waits t.rows)
-  pub dropped : ForEachLog leases1 (λ lease moment calls. StandsFor lease leases2 moment (map (without_all (rows_withdrawn time (held_by lease (max time moment) calls) t.waits t.rows)) calls))
 
 -- What goes, of a history.
 pub goes-now : (config : SpaceConfig) (events : List Event) (e : Event) (leases leases1 leases2 : LeaseTable) (exports t x3 : ExportTable) (runs : List Run) (withdrawn : List Withdrawal) (reported opened used moment time : ℕ) (effective : Bool) (told_gone all_gone : List ObjId) →

@@ -5,11 +5,12 @@ use Rattle.std.proofs.lemmas.List.{length-replicate}
 use Rattle.std.proofs.lemmas.Option.{none-some, same_Some}
 use Rattle.object_ids.specs.declared.ids.ObjId.{ObjId}
 use Rattle.history.specs.declared.places.Withdrawal.{Withdrawal}
-use Rattle.dgc_server.specs.StandsForCalls.{LeaseTable, ForEachLog}
+use Rattle.dgc_server.specs.StandsForCalls.{LeaseTable}
 use Rattle.export_table.specs.ExportRows.{held_by, withdrawn_ids}
 use Rattle.export_table.specs.Table.{ExportTable}
 use Rattle.space.specs.Acts.{withdrawal_at}
 use Rattle.space.specs.Doubts.{HasLog}
+use Rattle.space.specs.Withdrawing.{HasWithdrawn}
 use Rattle.space.specs.Withdrawals.{paired_withdrawals}
 use Rattle.space.proofs.AskLaws.{gone-few}
 
@@ -75,18 +76,19 @@ told-noted told before all more is = ap (λ l. told ++ l) is ∙ sym (append_ass
 
 -- ---- what goes, after others
 
-pub gone-is : (leases : LeaseTable) (time : ℕ) (x : ExportTable) (before all : List ObjId) →
-    ForEachLog leases (λ lease m calls. all ≡ before ++ withdrawn_ids time (held_by lease (max time m) calls) x.waits x.rows) →
-    ForEachLog leases (λ lease m calls. drop (length before) all ≡ withdrawn_ids time (held_by lease (max time m) calls) x.waits x.rows)
-gone-is leases time x before all goes lease m calls s = ap (drop (length before)) (goes lease m calls s) ∙ drop-append_seam before (withdrawn_ids time (held_by lease (max time m) calls) x.waits x.rows)
+-- The rest of the list is what went.
+pub gone-is : {leases1 leases2 : LeaseTable} {x y : ExportTable} {t : ℕ} {before after : List ObjId} → HasWithdrawn leases1 leases2 x y t before after → HasWithdrawn leases1 leases2 x y t [] (drop (length before) after)
+gone-is {leases1} {leases2} {x} {y} {t} {before} {after} w = record {
+  kept = w.kept;
+  gone = λ lease m calls s. ap (drop (length before)) (w.gone lease m calls s) ∙ drop-append_seam before (withdrawn_ids t (held_by lease (max t m) calls) x.waits x.rows);
+  dropped = w.dropped;
+}
 
-pub gone-after : (leases : LeaseTable) (time : ℕ) (x : ExportTable) (before all : List ObjId) → HasLog leases →
-    ForEachLog leases (λ lease m calls. all ≡ before ++ withdrawn_ids time (held_by lease (max time m) calls) x.waits x.rows) → all ≡ before ++ drop (length before) all
-gone-after leases time x before all log goes =
-    goes log.lease log.moment log.calls log.stands ∙ ap (λ l. before ++ l) (sym (gone-is leases time x before all goes log.lease log.moment log.calls log.stands))
+pub gone-after : {leases1 leases2 : LeaseTable} {x y : ExportTable} {t : ℕ} {before after : List ObjId} → HasLog leases1 → HasWithdrawn leases1 leases2 x y t before after → after ≡ before ++ drop (length before) after
+gone-after {leases1} {leases2} {x} {y} {t} {before} {after} log w =
+    w.gone log.lease log.moment log.calls log.stands ∙ ap (λ l. before ++ l) (sym ((gone-is w).gone log.lease log.moment log.calls log.stands))
 
-pub gone-within : (leases : LeaseTable) (time : ℕ) (x : ExportTable) (before all : List ObjId) → HasLog leases →
-    ForEachLog leases (λ lease m calls. all ≡ before ++ withdrawn_ids time (held_by lease (max time m) calls) x.waits x.rows) → length (drop (length before) all) ≤ length x.rows
-gone-within leases time x before all log goes =
-    let same = ap length (gone-is leases time x before all goes log.lease log.moment log.calls log.stands) in
-    let few = gone-few time (held_by log.lease (max time log.moment) log.calls) x.waits x.rows in omega (arith, same, few)
+pub gone-within : {leases1 leases2 : LeaseTable} {x y : ExportTable} {t : ℕ} {before after : List ObjId} → HasLog leases1 → HasWithdrawn leases1 leases2 x y t before after → length (drop (length before) after) ≤ length x.rows
+gone-within {leases1} {leases2} {x} {y} {t} {before} {after} log w =
+    let same = ap length ((gone-is w).gone log.lease log.moment log.calls log.stands) in
+    let few = gone-few t (held_by log.lease (max t log.moment) log.calls) x.waits x.rows in omega (arith, same, few)

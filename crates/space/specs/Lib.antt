@@ -18,4 +18,5 @@ pub mod Summary
 pub mod ToldBatches
 pub mod Whole
 pub mod Withdrawals
+pub mod Withdrawing
 pub mod TurnAnswers

@@ -9,7 +9,7 @@ ghost use Rattle.history.specs.declared.limits.TheConstants.{END_OF_TIME};
 ghost use Rattle.space.specs.Acts.{event_of};
 
 use crate::acts::put_event;
-use crate::doubts::takes_time;
+use crate::doubts::{Doubt, takes_time};
 use crate::turns::Space;
 use history::{Ask, Event};
 use object_ids::ObjId;
@@ -44,8 +44,10 @@ impl Space {
             &mut self.tables.exports,
             &mut self.tables.leases,
             now,
-            all,
-            &[object],
+            Doubt {
+                all,
+                objects: &[object],
+            },
             place,
         );
         self.tables.units += 1;

@@ -13,50 +13,54 @@ ghost use Rattle.space.specs.Acts.{acted_exports, awaiting_with, new_rows, opens
 ghost use Rattle.export_table.specs.StandsForHistory.{waits_once, reference_of};
 ghost use Rattle.export_table.specs.Waits.{with_each_listed};
 
+use crate::prepared::Admitted;
 use event_log::SpaceEvents;
 use export_table::Exports;
 use history::{Ask, Event};
 use object_ids::{ObjId, ObjIds, Uid};
 use std::alloc::Global;
 
-/// Does what an ask, whose name stood for `stood`, does to the exported objects at a moment, but for the withdrawals. There is room for
-/// what it adds, and it returns references to the objects `returned`.
+/// Does what an admitted ask does to the exported objects at a moment, but for the withdrawals. There is room for what it adds, and it returns
+/// references to the objects `returned`.
 pub(crate) fn act(
     exports: &mut Exports,
-    stood: Option<ObjId>,
-    effective: bool,
+    admitted: Admitted,
     now: u64,
     returned: &[ObjId],
     ask: &Ask,
 )
     requires few { (o : ObjId) → running_of exports.old.rows o < 2 ^ 31 }
-    requires runs { (o : ObjId) → effective ≡ true → ask.now ≡ Abandon o
+    requires runs { (o : ObjId) → admitted.effective ≡ true → ask.now ≡ Abandon o
         → 0 < running_of exports.old.rows o }
     requires returns { (o : ObjId) (made : List ℕ) (listed : List ObjId) (u : Uid)
-        → effective ≡ true → ask.now ≡ Finish o made listed u → 0 < running_of exports.old.rows o }
-    requires countable { exports.old.added + opens effective ask.now < END_OF_OBJECT_COUNT }
-    requires within { length exports.old.rows + opens effective ask.now ≤ MAX_EXPORTS }
+        → admitted.effective ≡ true → ask.now ≡ Finish o made listed u
+        → 0 < running_of exports.old.rows o }
+    requires countable { exports.old.added + opens admitted.effective ask.now
+        < END_OF_OBJECT_COUNT }
+    requires within { length exports.old.rows + opens admitted.effective ask.now ≤ MAX_EXPORTS }
     requires early { now < END_OF_TIME }
     requires some { 1 ≤ exports.old.ack }
     requires once { waits_once reference_of exports.old.waits }
     requires returned { returned.now
-        ≡ returned_by exports.old.space exports.old.added exports.old.rows stood effective ask.now }
-    requires stands { (o : ObjId) → stood ≡ Some o
+        ≡ returned_by exports.old.space exports.old.added exports.old.rows
+        admitted.stood admitted.effective ask.now }
+    requires stands { (o : ObjId) → admitted.stood ≡ Some o
         → (is_exported exports.old.rows o ≡ true) × 0 < pins_of exports.old.rows o }
     requires few_pins { (o : ObjId) → pins_of exports.old.rows o < 2 ^ 31 }
-    requires bound { (o : ObjId) → effective ≡ true → object_bound ask.now ≡ Some o
+    requires bound { (o : ObjId) → admitted.effective ≡ true → object_bound ask.now ≡ Some o
         → is_exported exports.old.rows o ≡ true }
     requires looks { (n : List ℕ) (u : Uid) → ask.now ≡ Lookup n u
         → awaiting_with now u returned.now exports.old.waits ≤ MAX_AWAITING }
     requires awaiting { (o : ObjId) (made : List ℕ) (listed : List ObjId) (u : Uid)
-        → effective ≡ true → ask.now ≡ Finish o made listed u
+        → admitted.effective ≡ true → ask.now ≡ Finish o made listed u
         → awaiting_with now u returned.now exports.old.waits ≤ MAX_AWAITING }
-    requires objects_room { opens effective ask.now ≤ exports.old.room.exports }
+    requires objects_room { opens admitted.effective ask.now ≤ exports.old.room.exports }
     requires waits_room { length returned.now ≤ exports.old.room.waits }
     ensures { exports.new
-        ≡ record (acted_exports stood effective now ask.now exports.old)
+        ≡ record (acted_exports admitted.stood admitted.effective now ask.now exports.old)
         { room = exports.new.room } }
 {
+    let Admitted { stood, effective } = admitted;
     match ask {
         Ask::Open { kind, pinned } => add(exports, *kind, *pinned),
         Ask::Begin { object } => {

@@ -1,5 +1,5 @@
 //! Effective requests, the room that a request needs, and its reply.
-ghost use Rattle.std.specs.Prelude.{◌≡◌, ◌+◌, ◌<◌, ◌^◌, if◌then◌else◌, option_and_then, IfOk};
+ghost use Rattle.std.specs.Prelude.{◌≡◌, ◌+◌, ◌<◌, ◌^◌, if◌then◌else◌, length, option_and_then, IfOk};
 ghost use Rattle.history.specs.declared.limits.TheConstants.{END_OF_OBJECT_COUNT};
 ghost use Rattle.history.specs.Names.{name_in};
 ghost use Rattle.history.specs.declared.replies.Reply.TheVariants.{Bound, Done, NoObject, NotBound, NotRunning, Unbound};
@@ -7,16 +7,18 @@ ghost use Rattle.export_table.specs.ExportRows.{is_exported};
 ghost use Rattle.rmi_registry.specs.Bindings.{names_in, object_of};
 ghost use Rattle.space.specs.Acts.{effective_by, opens, reply_at, room_refusal, started_reply, unbound_reply, found_reply, reported_after};
 
+use crate::prepared::Admitted;
 use crate::returns::new_ids;
 use crate::runs::Runs;
+use crate::tables::Tables;
 use export_table::Exports;
 use history::asks::{is_abandon, is_begin, is_end, units_of};
 use history::limits::{MAX_EXPORTS, MAX_RUNNING_CALLS, is_past, units_limit};
 use history::places::id_at;
-use history::{Ask, Refused, Reply, SpaceConfig, grant};
+use history::{Ask, Refused, Reply, grant};
 use object_ids::{FullKind, ObjId, ObjIds};
 use rmi_registry::Names;
-use std::alloc::{AllocError, Global};
+use std::alloc::AllocError;
 
 /// Returns whether an object is exported.
 pub(crate) fn is_exported(exports: &Exports, object: &ObjId) -> bool
@@ -88,21 +90,16 @@ pub(crate) fn opens(effective: bool, ask: &Ask) -> u64
     }
 }
 
-/// Why there is no room for an ask, if there is none: in a history, stored or not, of so many units and running calls, or
-/// among so many exported objects.
-pub(crate) fn room_refusal(
-    stored: bool,
-    units: u64,
-    running: usize,
-    exported: u32,
-    effective: bool,
-    ask: &Ask,
-) -> Option<Refused>
-    ensures { result ≡ room_refusal stored units running exported effective ask.now }
+/// Why there is no room for an ask, if there is none: in the history, or among the exported objects.
+pub(crate) fn room_refusal(tables: &Tables, effective: bool, ask: &Ask) -> Option<Refused>
+    ensures { result ≡ room_refusal tables.now.config.stored tables.now.units
+        (length tables.now.runs.items) (length tables.now.exports.rows) effective ask.now }
 {
-    let used = u128::from(units) + running as u128 + u128::from(units_of(ask));
+    let running = tables.runs.len();
+    let exported = tables.exports.count();
+    let used = u128::from(tables.units) + running as u128 + u128::from(units_of(ask));
     if is_past(
-        units_limit(stored),
+        units_limit(tables.config.stored),
         used,
         effective && is_begin(ask),
         effective && is_end(ask),
@@ -117,24 +114,18 @@ pub(crate) fn room_refusal(
     }
 }
 
-/// Returns the reply to a request that is taken. The next object is the space's k-th, and the request's name stands
-/// for `stood`.
-pub(crate) fn reply_at(
-    alloc: Global,
-    config: &SpaceConfig,
-    k: u64,
-    exports: &Exports,
-    names: &Names,
-    stood: Option<ObjId>,
-    effective: bool,
-    ask: &Ask,
-) -> Result<Reply, AllocError>
-    requires { k + opens effective ask.now < END_OF_OBJECT_COUNT }
-    ensures { IfOk result (λ reply. reply ≡ reply_at config.now k exports.now.rows
-        (names_in names.now) stood effective ask.now) }
+/// Returns the reply to an admitted request that is taken.
+pub(crate) fn reply_at(tables: &Tables, admitted: Admitted, ask: &Ask) -> Result<Reply, AllocError>
+    requires { tables.now.added + opens admitted.effective ask.now < END_OF_OBJECT_COUNT }
+    ensures { IfOk result (λ reply. reply ≡ reply_at tables.now.config tables.now.added
+        tables.now.exports.rows (names_in tables.now.names) admitted.stood admitted.effective
+        ask.now) }
 {
+    let Admitted { stood, effective } = admitted;
+    let exports = &tables.exports;
+    let uid = tables.config.uid;
     Ok(match ask {
-        Ask::Open { kind: _, pinned: _ } => Reply::Opened(id_at(config.uid, k)),
+        Ask::Open { kind: _, pinned: _ } => Reply::Opened(id_at(uid, tables.added)),
         Ask::Begin { object } => started_reply(exports.find(*object)),
         Ask::Finish {
             object: _,
@@ -143,7 +134,8 @@ pub(crate) fn reply_at(
             uid: _,
         } => {
             if effective {
-                Reply::Finished(ObjIds::from_vec(new_ids(alloc, config.uid, k, made.as_slice())?))
+                let ids = new_ids(tables.alloc, uid, tables.added, made.as_slice())?;
+                Reply::Finished(ObjIds::from_vec(ids))
             } else {
                 Reply::NotRunning
             }
@@ -154,12 +146,12 @@ pub(crate) fn reply_at(
             number: _,
             asked,
             objects: _,
-        } => Reply::Granted(grant(config.lease_ms, *asked)),
+        } => Reply::Granted(grant(tables.config.lease_ms, *asked)),
         Ask::Bind { name: _, object } => bound_reply(effective, is_exported(exports, object)),
         Ask::Rebind { name: _, object: _ } => rebound_reply(effective),
         Ask::Unbind { name: _ } => unbinding_reply(effective),
         Ask::Lookup { name: _, uid: _ } => found_reply(exports, stood),
-        Ask::List => Reply::Names(names.list(alloc)?),
+        Ask::List => Reply::Names(tables.names.list(tables.alloc)?),
         _ => Reply::Done,
     })
 }

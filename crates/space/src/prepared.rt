@@ -12,7 +12,6 @@ use crate::asks::{is_effective, opens, reply_at, room_refusal, stood_for};
 use crate::doubts::in_doubt;
 use crate::returns::returned_objects;
 use crate::tables::Tables;
-use history::places::id_at;
 use history::{Ask, Refused, Reply, Turn};
 use object_ids::{ObjId, ObjIds};
 use std::alloc::{AllocError, Global};
@@ -45,16 +44,7 @@ pub(crate) fn admit(tables: &Tables, by: u32, ask: &Ask) -> Result<Admitted, Ref
 {
     let stood = stood_for(&tables.names, ask);
     let effective = is_effective(&tables.exports, &tables.runs, stood, by, ask);
-    let running = tables.runs.len();
-    let exported = tables.exports.count();
-    match room_refusal(
-        tables.config.stored,
-        tables.units,
-        running,
-        exported,
-        effective,
-        ask,
-    ) {
+    match room_refusal(tables, effective, ask) {
         Some(refused) => Err(refused),
         None => Ok(Admitted { stood, effective }),
     }
@@ -166,28 +156,27 @@ impl Prepared {
     }
 }
 
-/// Finds the answer of a turn at a moment and what it adds, where the request's name stands for `stood`. It is
-/// refused where the references that it returns would pass the limit of those that await.
+/// Finds the answer of an admitted turn at a moment and what it adds. It is refused where the references that it returns
+/// would pass the limit of those that await.
 pub(crate) fn prepare(
     tables: &Tables,
-    stood: Option<ObjId>,
-    effective: bool,
+    admitted: Admitted,
     now: u64,
     noted: bool,
     ask: &Ask,
 ) -> Result<Prepared, Refused>
-    requires countable { tables.now.added + opens effective ask.now < END_OF_OBJECT_COUNT }
+    requires countable { tables.now.added + opens admitted.effective ask.now < END_OF_OBJECT_COUNT }
     requires told { tables.now.withdrawn.told ≤ tables.now.reported }
     requires reported { tables.now.reported ≤ length tables.now.withdrawn.items }
-    ensures opened { IfOk result (λ p. p.opened ≡ opens effective ask.now) }
+    ensures opened { IfOk result (λ p. p.opened ≡ opens admitted.effective ask.now) }
     ensures objects { IfOk result
-        (λ p. p.objects ≡ length tables.now.exports.rows + opens effective ask.now) }
+        (λ p. p.objects ≡ length tables.now.exports.rows + opens admitted.effective ask.now) }
     ensures references { IfOk result (λ p. p.listed.references.items
-        ≡ returned_by tables.now.config.uid tables.now.added tables.now.exports.rows stood effective
-        ask.now) }
+        ≡ returned_by tables.now.config.uid tables.now.added tables.now.exports.rows
+        admitted.stood admitted.effective ask.now) }
     ensures doubtful { IfOk result (λ p. AreInDoubt tables.now.leases now tables.now.exports.waits
-        (taken_by tables.now.exports.waits (id_at tables.now.config.uid tables.now.added) stood
-        p.listed.references.items ask.now) p.listed.doubtful.items) }
+        (taken_by tables.now.exports.waits (id_at tables.now.config.uid tables.now.added)
+        admitted.stood p.listed.references.items ask.now) p.listed.doubtful.items) }
     ensures gone { IfOk result (λ p. p.untold.gone.items
         ≡ map (λ w. w.object) (drop tables.now.reported tables.now.withdrawn.items)) }
     ensures room { IfOk result
@@ -195,24 +184,16 @@ pub(crate) fn prepare(
     ensures spare { IfOk result (λ p. noted ≡ true
         → vec_len p.untold.gone + length p.listed.doubtful.items ≤ vec_capacity p.untold.spare) }
     ensures reply { IfOk result (λ p. p.reply ≡ reply_at tables.now.config tables.now.added
-        tables.now.exports.rows (names_in tables.now.names) stood effective ask.now) }
+        tables.now.exports.rows (names_in tables.now.names) admitted.stood admitted.effective
+        ask.now) }
     ensures refusal { Agrees
-        (await_refusal now tables.now.exports.rows tables.now.exports.waits stood effective ask.now)
-        result }
+        (await_refusal now tables.now.exports.rows tables.now.exports.waits admitted.stood
+        admitted.effective ask.now) result }
 {
-    let opened = opens(effective, ask);
+    let opened = opens(admitted.effective, ask);
     let objects = tables.exports.count() as usize + opened as usize;
-    let (listed, untold) = listed_and_untold(tables, stood, effective, now, noted, ask)?;
-    let reply = reply_at(
-        tables.alloc,
-        &tables.config,
-        tables.added,
-        &tables.exports,
-        &tables.names,
-        stood,
-        effective,
-        ask,
-    )?;
+    let (listed, untold) = listed_and_untold(tables, admitted, now, noted, ask)?;
+    let reply = reply_at(tables, admitted, ask)?;
     Ok(Prepared {
         opened,
         objects,
@@ -222,25 +203,24 @@ pub(crate) fn prepare(
     })
 }
 
-/// The objects that a turn at a moment is about, where the ask's name stands for `stood`, and those that it tells as gone. It is refused where the
-/// references that it returns would pass the limit of those that await.
+/// The objects that an admitted turn at a moment is about, and those that it tells as gone. It is refused where the references that it returns
+/// would pass the limit of those that await.
 fn listed_and_untold(
     tables: &Tables,
-    stood: Option<ObjId>,
-    effective: bool,
+    admitted: Admitted,
     now: u64,
     noted: bool,
     ask: &Ask,
 ) -> Result<(Listed, Untold), Refused>
-    requires countable { tables.now.added + opens effective ask.now < END_OF_OBJECT_COUNT }
+    requires countable { tables.now.added + opens admitted.effective ask.now < END_OF_OBJECT_COUNT }
     requires told { tables.now.withdrawn.told ≤ tables.now.reported }
     requires reported { tables.now.reported ≤ length tables.now.withdrawn.items }
     ensures references { IfOk result (λ x. x.0.references.items
-        ≡ returned_by tables.now.config.uid tables.now.added tables.now.exports.rows stood effective
-        ask.now) }
+        ≡ returned_by tables.now.config.uid tables.now.added tables.now.exports.rows
+        admitted.stood admitted.effective ask.now) }
     ensures doubtful { IfOk result (λ x. AreInDoubt tables.now.leases now tables.now.exports.waits
-        (taken_by tables.now.exports.waits (id_at tables.now.config.uid tables.now.added) stood
-        x.0.references.items ask.now) x.0.doubtful.items) }
+        (taken_by tables.now.exports.waits (id_at tables.now.config.uid tables.now.added)
+        admitted.stood x.0.references.items ask.now) x.0.doubtful.items) }
     ensures gone { IfOk result (λ x. x.1.gone.items
         ≡ map (λ w. w.object) (drop tables.now.reported tables.now.withdrawn.items)) }
     ensures room { IfOk result
@@ -248,58 +228,30 @@ fn listed_and_untold(
     ensures spare { IfOk result (λ x. noted ≡ true
         → vec_len x.1.gone + length x.0.doubtful.items ≤ vec_capacity x.1.spare) }
     ensures refusal { Agrees
-        (await_refusal now tables.now.exports.rows tables.now.exports.waits stood effective ask.now)
-        result }
+        (await_refusal now tables.now.exports.rows tables.now.exports.waits admitted.stood
+        admitted.effective ask.now) result }
 {
-    let listed = listed_by(tables, stood, effective, now, ask)?;
+    let listed = listed_by(tables, admitted, now, ask)?;
     let untold = untold_with(tables, noted, listed.doubtful.len())?;
     Ok((listed, untold))
 }
 
-/// The objects that a turn at a moment is about, where the ask's name stands for `stood`. It is refused where the references that it returns would pass
-/// the limit of those that await.
-fn listed_by(
-    tables: &Tables,
-    stood: Option<ObjId>,
-    effective: bool,
-    now: u64,
-    ask: &Ask,
-) -> Result<Listed, Refused>
-    requires countable { tables.now.added + opens effective ask.now < END_OF_OBJECT_COUNT }
+/// The objects that an admitted turn at a moment is about. It is refused where the references that it returns would pass the limit of those
+/// that await.
+fn listed_by(tables: &Tables, admitted: Admitted, now: u64, ask: &Ask) -> Result<Listed, Refused>
+    requires countable { tables.now.added + opens admitted.effective ask.now < END_OF_OBJECT_COUNT }
     ensures references { IfOk result (λ l. l.references.items
-        ≡ returned_by tables.now.config.uid tables.now.added tables.now.exports.rows stood effective
-        ask.now) }
+        ≡ returned_by tables.now.config.uid tables.now.added tables.now.exports.rows
+        admitted.stood admitted.effective ask.now) }
     ensures doubtful { IfOk result (λ l. AreInDoubt tables.now.leases now tables.now.exports.waits
-        (taken_by tables.now.exports.waits (id_at tables.now.config.uid tables.now.added) stood
-        l.references.items ask.now) l.doubtful.items) }
+        (taken_by tables.now.exports.waits (id_at tables.now.config.uid tables.now.added)
+        admitted.stood l.references.items ask.now) l.doubtful.items) }
     ensures refusal { Agrees
-        (await_refusal now tables.now.exports.rows tables.now.exports.waits stood effective ask.now)
-        result }
+        (await_refusal now tables.now.exports.rows tables.now.exports.waits admitted.stood
+        admitted.effective ask.now) result }
 {
-    let alloc = tables.alloc;
-    let exports = &tables.exports;
-    let uid = tables.config.uid;
-    let references = returned_objects(
-        alloc,
-        uid,
-        tables.added,
-        exports,
-        stood,
-        effective,
-        now,
-        ask,
-    )?;
-    let fresh = id_at(uid, tables.added);
-    let doubtful = in_doubt(
-        alloc,
-        exports,
-        &tables.leases,
-        now,
-        fresh,
-        stood,
-        &references,
-        ask,
-    )?;
+    let references = returned_objects(tables, admitted, now, ask)?;
+    let doubtful = in_doubt(tables, admitted.stood, &references, now, ask)?;
     Ok(Listed {
         references,
         doubtful,

@@ -11,6 +11,8 @@ ghost use Rattle.export_table.specs.Waits.{is_waiting};
 ghost use Rattle.space.specs.Acts.{Agrees, await_refusal, awaiting_after, new_ids, opens, return_refusal, returned_by};
 
 use crate::calls::live_among;
+use crate::prepared::Admitted;
+use crate::tables::Tables;
 use export_table::Exports;
 use history::limits::MAX_AWAITING;
 use history::places::id_at;
@@ -23,23 +25,21 @@ use std::alloc::{AllocError, Global};
 /// So many objects are counted without memory.
 const FEW: usize = 16;
 
-/// The objects to which an ask returns references, where the next object is the space's k-th, and the ask's name
-/// stands for `stood`. It is refused where these references would pass the limit of those that await at a moment.
+/// The objects to which an admitted ask returns references. It is refused where these references would pass the limit
+/// of those that await at a moment.
 pub(crate) fn returned_objects(
-    alloc: Global,
-    space: Uid,
-    k: u64,
-    exports: &Exports,
-    stood: Option<ObjId>,
-    effective: bool,
+    tables: &Tables,
+    admitted: Admitted,
     now: u64,
     ask: &Ask,
 ) -> Result<Vec<ObjId>, Refused>
-    requires { k + opens effective ask.now < END_OF_OBJECT_COUNT }
-    ensures objects { IfOk result
-        (λ objects. objects.items ≡ returned_by space k exports.now.rows stood effective ask.now) }
+    requires { tables.now.added + opens admitted.effective ask.now < END_OF_OBJECT_COUNT }
+    ensures objects { IfOk result (λ objects. objects.items
+        ≡ returned_by tables.now.config.uid tables.now.added tables.now.exports.rows
+        admitted.stood admitted.effective ask.now) }
     ensures refusal { Agrees
-        (await_refusal now exports.now.rows exports.now.waits stood effective ask.now) result }
+        (await_refusal now tables.now.exports.rows tables.now.exports.waits admitted.stood
+        admitted.effective ask.now) result }
 {
     match ask {
         Ask::Finish {
@@ -48,31 +48,30 @@ pub(crate) fn returned_objects(
             listed,
             uid,
         } => {
-            if effective {
-                of_return(alloc, space, k, exports, now, made.as_slice(), listed, uid)
+            if admitted.effective {
+                of_return(tables, now, made.as_slice(), listed, uid)
             } else {
-                Ok(Vec::new(alloc))
+                Ok(Vec::new(tables.alloc))
             }
         }
-        Ask::Lookup { name: _, uid } => of_lookup(alloc, exports, stood, now, uid),
-        _ => Ok(Vec::new(alloc)),
+        Ask::Lookup { name: _, uid } => of_lookup(tables, admitted.stood, now, uid),
+        _ => Ok(Vec::new(tables.alloc)),
     }
 }
 
 /// The object for which a name stands, if it stands for one.
 fn of_lookup(
-    alloc: Global,
-    exports: &Exports,
+    tables: &Tables,
     stood: Option<ObjId>,
     now: u64,
     uid: &Uid,
 ) -> Result<Vec<ObjId>, Refused>
     ensures objects { IfOk result (λ objects. objects.items ≡ option_to_list stood) }
-    ensures refusal { Agrees (return_refusal now uid.now 0 (option_to_list stood) exports.now.waits)
-        result }
+    ensures refusal { Agrees
+        (return_refusal now uid.now 0 (option_to_list stood) tables.now.exports.waits) result }
 {
-    let found = list_of(alloc, stood)?;
-    if is_past(alloc, exports, now, uid, 0, &found) {
+    let found = list_of(tables.alloc, stood)?;
+    if is_past(tables, now, uid, 0, &found) {
         return Err(Refused::Full(FullKind::Awaiting));
     }
     Ok(found)
@@ -89,27 +88,28 @@ pub(crate) fn list_of(alloc: Global, object: Option<ObjId>) -> Result<Vec<ObjId>
     Ok(objects)
 }
 
+/// The objects to which a call that returns these makes references: objects of these kinds, and the listed ones that are exported.
 fn of_return(
-    alloc: Global,
-    space: Uid,
-    k: u64,
-    exports: &Exports,
+    tables: &Tables,
     now: u64,
     made: &[u32],
     listed: &ObjIds,
     uid: &Uid,
 ) -> Result<Vec<ObjId>, Refused>
-    requires { k + length made.now < END_OF_OBJECT_COUNT }
+    requires { tables.now.added + length made.now < END_OF_OBJECT_COUNT }
     ensures objects { IfOk result (λ objects. objects.items
-        ≡ new_ids space k made.now ++ filter (is_exported exports.now.rows) listed.now) }
-    ensures refusal { let live = filter (is_exported exports.now.rows) listed.now in
-        Agrees (return_refusal now uid.now (length made.now) live exports.now.waits) result }
+        ≡ new_ids tables.now.config.uid tables.now.added made.now
+        ++ filter (is_exported tables.now.exports.rows) listed.now) }
+    ensures refusal { let live = filter (is_exported tables.now.exports.rows) listed.now in
+        Agrees (return_refusal now uid.now (length made.now) live tables.now.exports.waits)
+        result }
 {
-    let live = live_among(alloc, exports, listed)?;
-    if is_past(alloc, exports, now, uid, made.len(), live.as_slice()) {
+    let live = live_among(tables.alloc, &tables.exports, listed)?;
+    if is_past(tables, now, uid, made.len(), live.as_slice()) {
         return Err(Refused::Full(FullKind::Awaiting));
     }
-    Ok(new_and(alloc, space, k, made, live.as_slice())?)
+    let space = tables.config.uid;
+    Ok(new_and(tables.alloc, space, tables.added, made, live.as_slice())?)
 }
 
 /// The identifiers of objects of these kinds, the first of them as the space's k-th, and after them those of
@@ -148,21 +148,14 @@ pub(crate) fn new_ids(
 
 /// Returns whether a return would pass the limit of the references that await at a moment. It refers to so many new
 /// objects and to these exported ones.
-fn is_past(
-    alloc: Global,
-    exports: &Exports,
-    now: u64,
-    uid: &Uid,
-    made: usize,
-    live: &[ObjId],
-) -> bool
+fn is_past(tables: &Tables, now: u64, uid: &Uid, made: usize, live: &[ObjId]) -> bool
     ensures { result ≡ nat_lt MAX_AWAITING
-        (awaiting_after now uid.now made live.now exports.now.waits) }
+        (awaiting_after now uid.now made live.now tables.now.exports.waits) }
 {
-    let waiting = u128::from(exports.waiting_count(now)) + made as u128;
+    let waiting = u128::from(tables.exports.waiting_count(now)) + made as u128;
     let most = u128::from(MAX_AWAITING);
     most < waiting + live.len() as u128
-        && most < waiting + new_waits(alloc, exports, now, uid, live) as u128
+        && most < waiting + new_waits(tables.alloc, &tables.exports, now, uid, live) as u128
 }
 
 /// Returns the number of these objects, each counted once, that do not wait at a moment as listed in a return. It

@@ -2,31 +2,33 @@
 ghost use Rattle.std.specs.Prelude.{◌≡◌, ◌≤◌, ◌<◌, ◌+◌, ◌^◌, length, true, IfErr, OnOk};
 ghost use Rattle.history.specs.declared.replies.Refused.TheVariants.{OutOfMemory};
 
+use crate::prepared::Prepared;
 use crate::runs::Runs;
 use crate::withdrawals::Withdrawals;
 use event_log::SpaceEvents;
 use export_table::Exports;
 use history::Refused;
 
-/// Makes room for all that an event adds: itself and a call, so many withdrawals, exported objects, and references that await.
+/// Makes room for all that an event adds: itself and a call, and the withdrawals, the exported objects and the references that await of what was
+/// prepared for it.
 pub(crate) fn room_for_all(
     events: &mut SpaceEvents,
     runs: &mut Runs,
     withdrawn: &mut Withdrawals,
     exports: &mut Exports,
-    objects: usize,
-    opened: u64,
-    returned: usize,
+    ready: &Prepared,
 ) -> Result<(), Refused>
     requires few_runs { length runs.old.items < 2 ^ 32 }
-    requires few_opened { opened < 2 ^ 32 }
+    requires few_opened { ready.now.opened < 2 ^ 32 }
     ensures event { OnOk result
         (length events.new.items + length runs.new.items + 2 ≤ events.new.capacity) }
     ensures spare { OnOk result (events.new.spare ≡ true) }
     ensures run { OnOk result (0 < runs.new.room) }
-    ensures withdrawals { OnOk result (length withdrawn.new.items + objects ≤ withdrawn.new.room) }
-    ensures opened { OnOk result (opened ≤ exports.new.room.exports) }
-    ensures returned { OnOk result (returned ≤ exports.new.room.waits) }
+    ensures withdrawals { OnOk result
+        (length withdrawn.new.items + ready.now.objects ≤ withdrawn.new.room) }
+    ensures opened { OnOk result (ready.now.opened ≤ exports.new.room.exports) }
+    ensures returned { OnOk result
+        (length ready.now.listed.references.items ≤ exports.new.room.waits) }
     ensures refusal { IfErr result (λ refused. refused ≡ OutOfMemory) }
     ensures events { events.new.items ≡ events.old.items }
     ensures runs { runs.new.items ≡ runs.old.items }
@@ -38,8 +40,8 @@ pub(crate) fn room_for_all(
     ensures grow_withdrawn { withdrawn.old.room ≤ withdrawn.new.room }
 {
     room_for_event(events, runs)?;
-    room_for_gone(withdrawn, objects)?;
-    room_in_table(exports, opened, returned)
+    room_for_gone(withdrawn, ready.objects)?;
+    room_in_table(exports, ready.opened, ready.listed.references.len())
 }
 
 /// Makes room for an event, for the events that end the calls that then run, and for a call that it starts.

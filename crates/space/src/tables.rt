@@ -8,6 +8,7 @@ ghost use Rattle.space.specs.Whole.{IsWhole, IsWholeWith};
 
 use crate::acts::act;
 use crate::asks::reported_after;
+use crate::doubts::{Doubt, withdraw};
 use crate::names::settle;
 use crate::prepared::{Admitted, Prepared, admit, prepare};
 use crate::rooms::room_for_all;
@@ -79,15 +80,13 @@ impl Tables {
     {
         let admitted = admit(self, by, ask)?;
         let now = moment.max(self.moment);
-        let ready = prepare(self, admitted.stood, admitted.effective, now, noted, ask)?;
+        let ready = prepare(self, admitted, now, noted, ask)?;
         room_for_all(
             &mut self.events,
             &mut self.runs,
             &mut self.withdrawn,
             &mut self.exports,
-            ready.objects,
-            ready.opened,
-            ready.listed.references.len(),
+            &ready,
         )?;
         settle(
             self.alloc,
@@ -122,26 +121,28 @@ impl Tables {
         ensures events { self.new.events ≡ self.old.events }
         ensures config { self.new.config ≡ self.old.config }
     {
-        let Admitted { stood, effective } = admitted;
         let now = moment.max(self.moment);
         let place = self.events.len() as u64;
         act(
             &mut self.exports,
-            stood,
-            effective,
+            admitted,
             now,
             &ready.listed.references,
             ask,
         );
-        act_on_runs(&mut self.runs, effective, by, ask);
-        self.withdrawn.withdraw_among(
+        act_on_runs(&mut self.runs, admitted.effective, by, ask);
+        let untold = ready.untold.gone.len();
+        withdraw(
             &mut self.exports,
             &mut self.leases,
             now,
-            &ready.listed.doubtful,
-            place,
+            Doubt {
+                all: false,
+                objects: &ready.listed.doubtful,
+            },
             &mut ready.untold.gone,
         );
+        self.withdrawn.note(&ready.untold.gone, untold, place);
         forget_told(&mut self.withdrawn, self.config.stored, ask);
         self.reported = reported_after(self.reported, self.withdrawn.len(), ask);
         self.added += ready.opened;

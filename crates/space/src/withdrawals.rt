@@ -1,15 +1,12 @@
 //! The withdrawals of a space.
-ghost use Rattle.std.specs.Prelude.{◌≡◌, ◌<◌, ◌≤◌, ◌+◌, ◌^◌, ◌++◌, [], List, true, false, max, drop, filter, length, map, replicate, slice_get, IfOk, OnOk, vec_len, vec_capacity};
+ghost use Rattle.std.specs.Prelude.{◌≡◌, ◌<◌, ◌≤◌, ◌+◌, ◌^◌, ◌++◌, [], List, true, false, drop, length, map, replicate, slice_get, IfOk, OnOk, vec_len, vec_capacity};
 ghost use Rattle.object_ids.specs.declared.ids.ObjId.{ObjId};
-ghost use Rattle.dgc_server.specs.Counts.{without_all};
-ghost use Rattle.dgc_server.specs.StandsForCalls.{StandsFor, ForEachLog};
-ghost use Rattle.export_table.specs.ExportRows.{is_row_kept, is_settled_but, held_by, withdrawn_ids};
-ghost use Rattle.export_table.specs.Waits.{still_waiting};
 ghost use Rattle.history.specs.Replies.{is_abandon};
 ghost use Rattle.space.specs.Acts.{withdrawal_at};
 ghost use Rattle.space.specs.Doubts.{HasLog};
+ghost use Rattle.space.specs.Withdrawing.{HasWithdrawn, IsEnough};
 
-use crate::doubts::{join_lists, withdraw_few, withdraw_known};
+use crate::doubts::{Doubt, join_lists, withdraw};
 use crate::told::{MOST_TOLD, ToldWithdrawals};
 use dgc_server::Leases;
 use export_table::Exports;
@@ -140,86 +137,28 @@ impl Withdrawals {
         fill(&mut self.places, gone.len() - from, place);
     }
 
-    /// Withdraws each object that isn't kept at a moment, as `Exports::withdraw` does, appends it to those that a turn tells as gone, and notes that it was
-    /// withdrawn at a place of the history. Those that aren't kept are among `doubtful`. It takes no memory.
-    pub(crate) fn withdraw_among(
-        &mut self,
-        exports: &mut Exports,
-        leases: &mut Leases,
-        now: u64,
-        doubtful: &[ObjId],
-        place: u64,
-        gone: &mut Vec<ObjId>,
-    )
-        requires log { HasLog leases.old }
-        requires room { length self.old.items + length exports.old.rows ≤ self.old.room }
-        requires gone_room { vec_len gone.old + length doubtful.now ≤ vec_capacity gone.old }
-        requires among { ForEachLog leases.old (λ lease moment calls.
-            let held = held_by lease (max now moment) calls in
-            is_settled_but doubtful.now now held exports.old.waits exports.old.rows ≡ true) }
-        ensures kept { ForEachLog leases.old (λ lease moment calls.
-            let held = held_by lease (max now moment) calls in
-            let rows = filter (is_row_kept now held exports.old.waits) exports.old.rows in
-            let waits = still_waiting now exports.old.waits in
-            exports.new
-            ≡ record exports.old { rows = rows; waits = waits; room = exports.new.room }) }
-        ensures gone { ForEachLog leases.old (λ lease moment calls.
-            let held = held_by lease (max now moment) calls in
-            gone.new.items
-            ≡ gone.old.items ++ withdrawn_ids now held exports.old.waits exports.old.rows) }
-        ensures dropped { ForEachLog leases.old (λ lease moment calls.
-            let held = held_by lease (max now moment) calls in
-            let dropped = withdrawn_ids now held exports.old.waits exports.old.rows in
-            StandsFor lease leases.new moment (map (without_all dropped) calls)) }
-        ensures few { length gone.new.items ≤ length gone.old.items + length doubtful.now }
-        ensures noted { self.new.items
-            ≡ self.old.items
-            ++ map (withdrawal_at place) (drop (length gone.old.items) gone.new.items) }
-        ensures room { self.old.room ≤ self.new.room }
-        ensures told { self.new.told ≡ self.old.told }
-    {
-        let untold = gone.len();
-        withdraw_few(exports, leases, now, doubtful, gone);
-        self.note(gone.as_slice(), untold, place);
-    }
-
-    /// Withdraws each object that isn't kept at a moment, as `Exports::withdraw` does, and notes that it was withdrawn at a place of the history. Unless it
-    /// is to look at all, those that aren't kept are among `doubtful`, which are no more than are exported. It takes no memory.
+    /// Withdraws each exported object that isn't kept at a moment, and notes that it was withdrawn at a place of the history. It looks at the
+    /// objects in doubt alone, and takes no memory.
     pub(crate) fn withdraw(
         &mut self,
         exports: &mut Exports,
         leases: &mut Leases,
         now: u64,
-        all: bool,
-        doubtful: &[ObjId],
+        doubt: Doubt<'_>,
         place: u64,
     )
         requires log { HasLog leases.old }
         requires room { length self.old.items + length exports.old.rows ≤ self.old.room }
-        requires few { length doubtful.now ≤ length exports.old.rows }
-        requires among { all ≡ false → ForEachLog leases.old (λ lease moment calls.
-            let held = held_by lease (max now moment) calls in
-            is_settled_but doubtful.now now held exports.old.waits exports.old.rows ≡ true) }
-        ensures kept { ForEachLog leases.old (λ lease moment calls.
-            let held = held_by lease (max now moment) calls in
-            let rows = filter (is_row_kept now held exports.old.waits) exports.old.rows in
-            let waits = still_waiting now exports.old.waits in
-            exports.new
-            ≡ record exports.old { rows = rows; waits = waits; room = exports.new.room }) }
+        requires few { length doubt.objects.now ≤ length exports.old.rows }
+        requires enough { IsEnough leases.old exports.old now doubt }
         ensures goes { (gone : List ObjId)
             × (self.new.items ≡ self.old.items ++ map (withdrawal_at place) gone)
-            × ForEachLog leases.old (λ lease moment calls.
-            let held = held_by lease (max now moment) calls in
-            gone ≡ withdrawn_ids now held exports.old.waits exports.old.rows) }
-        ensures dropped { ForEachLog leases.old (λ lease moment calls.
-            let held = held_by lease (max now moment) calls in
-            let dropped = withdrawn_ids now held exports.old.waits exports.old.rows in
-            StandsFor lease leases.new moment (map (without_all dropped) calls)) }
+            × HasWithdrawn leases.old leases.new exports.old exports.new now [] gone }
         ensures room { self.old.room ≤ self.new.room }
         ensures told { self.new.told ≡ self.old.told }
     {
         let before = self.objects.len();
-        withdraw_known(exports, leases, now, all, doubtful, &mut self.objects);
+        withdraw(exports, leases, now, doubt, &mut self.objects);
         fill(&mut self.places, self.objects.len() - before, place);
     }
 

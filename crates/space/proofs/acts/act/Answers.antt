@@ -12,6 +12,6 @@ end_with-requires-clause-exported c =
     let Q : List ObjId → Type 0 = λ os. AllByRecursion (λ o. is_exported (c.args.exports.now.rows ++ new_rows c.args.exports.now.space c.args.exports.now.added c.in-Finish.made) o ≡ true) os in
     subst P (sym c.as_slice.ensures)
     (subst Q (sym (c.requires.returned
-    ∙ ap (λ v. returned_by c.args.exports.now.space c.args.exports.now.added c.args.exports.now.rows c.args.stood v c.args.ask.now) c.if-effective-2.true
-    ∙ ap (returned_by c.args.exports.now.space c.args.exports.now.added c.args.exports.now.rows c.args.stood true) c.in-Finish.is))
+    ∙ ap (λ v. returned_by c.args.exports.now.space c.args.exports.now.added c.args.exports.now.rows c.args.admitted.stood v c.args.ask.now) c.if-effective-2.true
+    ∙ ap (returned_by c.args.exports.now.space c.args.exports.now.added c.args.exports.now.rows c.args.admitted.stood true) c.in-Finish.is))
     (all-there c.args.exports.now.space c.args.exports.now.added c.args.exports.now.rows c.in-Finish.made c.in-Finish.listed))

@@ -1,4 +1,4 @@
-use Rattle.std.proofs.Common.{◌≡◌, List, ◌∷◌, ◌++◌, [], ℕ, length, refl, ap, sym, subst, ◌∙◌, rules, arith, max, Ok, Err, Result, Option, None}
+use Rattle.std.proofs.Common.{List, ◌∷◌, ◌++◌, [], ℕ, length, refl, ap, sym, subst, ◌∙◌, arith, max, Ok, Err, Result, Option, None}
 use Rattle.std.specs.Prelude.{IfErr, option_and_then}
 use Rattle.object_ids.specs.declared.ids.ObjId.{ObjId}
 use Rattle.history.specs.declared.asks.Event.{Event}
@@ -120,11 +120,10 @@ settle-requires c =
 
 pub take-requires : goal.take-requires
 take-requires c =
-    let count : c.len.result ≡ length c.in_ok-ready.ready.listed.references.items = search rules in
     record {
       ready = is-ready c.args.self.now c.requires.whole c.requires.moment c.max-now.ensures c.in_ok-admitted.ensures.stood c.in_ok-admitted.ensures.effective c.in_ok-admitted.ensures.room
           c.in_ok-ready.ensures.opened c.in_ok-ready.ensures.objects c.in_ok-ready.ensures.references c.in_ok-ready.ensures.doubtful c.in_ok-ready.ensures.gone c.in_ok-ready.ensures.room c.in_ok-ready.ensures.spare c.in_ok-ready.ensures.reply c.in_ok-ready.ensures.refusal
-          count (c.in_ok-room_for_all.ensures {u = tt}).event (c.in_ok-room_for_all.ensures {u = tt}).run (c.in_ok-room_for_all.ensures {u = tt}).withdrawals (c.in_ok-room_for_all.ensures {u = tt}).opened (c.in_ok-room_for_all.ensures {u = tt}).returned
+          (c.in_ok-room_for_all.ensures {u = tt}).event (c.in_ok-room_for_all.ensures {u = tt}).run (c.in_ok-room_for_all.ensures {u = tt}).withdrawals (c.in_ok-room_for_all.ensures {u = tt}).opened (c.in_ok-room_for_all.ensures {u = tt}).returned
           c.room_for_all.ensures.stored c.room_for_all.ensures.told c.room_for_all.ensures.events c.room_for_all.ensures.runs c.room_for_all.ensures.withdrawn c.room_for_all.ensures.rest
           (c.in_ok-settle.ensures {u = tt}).ok (c.in_ok-settle.ensures {u = tt}).names (c.in_ok-settle.ensures {u = tt}).refusal;
     }

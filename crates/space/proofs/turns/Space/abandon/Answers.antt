@@ -10,7 +10,6 @@ use Rattle.space.proofs.Bindings.{bindings-same, names-next}
 use Rattle.space.proofs.EndLaws.{has-log}
 use Rattle.space.proofs.StoredLaws.{stored-kept}
 use Rattle.space.proofs.Settling.{settled-but}
-use Rattle.space.proofs.TurnLaws.{HasWithdrawn}
 use Rattle.space.proofs.turns.Space.abandon.Goals as goal
 
 pub end-requires : goal.end-requires
@@ -41,8 +40,8 @@ withdraw-requires-clause-few c =
     let rows = end-rows c.self.inside.tables.exports c.end.new.self c.args.object c.end.ensures in
     omega (arith, some, rows)
 
-pub withdraw-requires-clause-among : goal.withdraw-requires-clause-among
-withdraw-requires-clause-among c none =
+pub withdraw-requires-clause-enough : goal.withdraw-requires-clause-enough
+withdraw-requires-clause-enough c none =
     let time : c.max-now.result ≡ max c.args.moment c.self.inside.tables.moment = search rules in
     let runs : 0 < running_calls_by (places c.self.inside.tables.config c.self.inside.tables.events.items) c.args.by c.args.object = is-running c.self.inside.tables.config c.self.inside.tables.events.items c.args.by c.args.object c.args.self.now c.self.view_is c.requires.running in
     let acts = end-acted c.self.inside.tables.config c.self.inside.tables.events.items c.args.by c.args.moment c.args.object c.self.inside.tables.leases c.lapse.new.self c.self.inside.tables.exports c.end.new.self c.self.inside.tables.runs.items c.self.inside.tables.withdrawn.items
@@ -56,12 +55,10 @@ invariant_of-self c =
     let runs : 0 < running_calls_by (places c.self.inside.tables.config c.self.inside.tables.events.items) c.args.by c.args.object = is-running c.self.inside.tables.config c.self.inside.tables.events.items c.args.by c.args.object c.args.self.now c.self.view_is c.requires.running in
     let acts = end-acted c.self.inside.tables.config c.self.inside.tables.events.items c.args.by c.args.moment c.args.object c.self.inside.tables.leases c.lapse.new.self c.self.inside.tables.exports c.end.new.self c.self.inside.tables.runs.items c.self.inside.tables.withdrawn.items
     c.self.inside.tables.reported c.self.inside.tables.added c.self.inside.tables.units c.self.inside.tables.moment c.max-now.result c.self.invariant.0 runs c.requires.moment time c.lapse.ensures.stands c.end.ensures in
-    let goes : HasWithdrawn c.lapse.new.self c.withdraw.new.leases c.end.new.self c.withdraw.new.exports c.max-now.result [] c.withdraw.ensures.goes.0 =
-    record { kept = c.withdraw.ensures.kept; gone = c.withdraw.ensures.goes.2; dropped = c.withdraw.ensures.dropped } in
     let place : c.len-place.result ≡ length c.self.inside.tables.events.items = search rules in
     let kept = end-keeps c.self.inside.tables.config c.self.inside.tables.events.items c.args.by c.args.moment c.args.object c.self.inside.tables.leases c.lapse.new.self c.withdraw.new.leases c.self.inside.tables.exports c.end.new.self c.withdraw.new.exports c.self.inside.tables.runs.items c.self.inside.tables.withdrawn.items
     c.self.inside.tables.reported c.self.inside.tables.added c.self.inside.tables.units c.self.inside.tables.moment c.max-now.result c.withdraw.ensures.goes.0 c.len-place.result c.put_event.new.events.items c.end_one.new.self.items c.withdraw.new.self.items
-    acts time goes place c.put_event.ensures.items c.end_one.ensures c.withdraw.ensures.goes.1 in (
+    acts time c.withdraw.ensures.goes.2 place c.put_event.ensures.items c.end_one.ensures c.withdraw.ensures.goes.1 in (
       kept,
       end-room c.self.inside.tables.config c.self.inside.tables.events.items c.put_event.new.events.items c.args.by c.args.moment c.args.object c.self.inside.tables.leases c.withdraw.new.leases c.self.inside.tables.exports c.withdraw.new.exports c.self.inside.tables.runs.items c.end_one.new.self.items
           c.self.inside.tables.withdrawn.items c.withdraw.new.self.items c.self.inside.tables.reported c.self.inside.tables.added c.self.inside.tables.units c.self.inside.tables.moment c.self.inside.tables.reported c.self.inside.tables.added (c.self.inside.tables.units + 1) c.max-now.result
@@ -88,11 +85,9 @@ returns-clause-collector c =
     let runs : 0 < running_calls_by (places c.self.inside.tables.config c.self.inside.tables.events.items) c.args.by c.args.object = is-running c.self.inside.tables.config c.self.inside.tables.events.items c.args.by c.args.object c.args.self.now c.self.view_is c.requires.running in
     let acts = end-acted c.self.inside.tables.config c.self.inside.tables.events.items c.args.by c.args.moment c.args.object c.self.inside.tables.leases c.lapse.new.self c.self.inside.tables.exports c.end.new.self c.self.inside.tables.runs.items c.self.inside.tables.withdrawn.items
     c.self.inside.tables.reported c.self.inside.tables.added c.self.inside.tables.units c.self.inside.tables.moment c.max-now.result c.self.invariant.0 runs c.requires.moment time c.lapse.ensures.stands c.end.ensures in
-    let goes : HasWithdrawn c.lapse.new.self c.withdraw.new.leases c.end.new.self c.withdraw.new.exports c.max-now.result [] c.withdraw.ensures.goes.0 =
-    record { kept = c.withdraw.ensures.kept; gone = c.withdraw.ensures.goes.2; dropped = c.withdraw.ensures.dropped } in
     let place : c.len-place.result ≡ length c.self.inside.tables.events.items = search rules in
     let kept = end-keeps c.self.inside.tables.config c.self.inside.tables.events.items c.args.by c.args.moment c.args.object c.self.inside.tables.leases c.lapse.new.self c.withdraw.new.leases c.self.inside.tables.exports c.end.new.self c.withdraw.new.exports c.self.inside.tables.runs.items c.self.inside.tables.withdrawn.items
     c.self.inside.tables.reported c.self.inside.tables.added c.self.inside.tables.units c.self.inside.tables.moment c.max-now.result c.withdraw.ensures.goes.0 c.len-place.result c.put_event.new.events.items c.end_one.new.self.items c.withdraw.new.self.items
-    acts time goes place c.put_event.ensures.items c.end_one.ensures c.withdraw.ensures.goes.1 in
+    acts time c.withdraw.ensures.goes.2 place c.put_event.ensures.items c.end_one.ensures c.withdraw.ensures.goes.1 in
     appended-collects c.self.inside.tables.config c.self.inside.tables.config c.self.inside.tables.events.items c.put_event.new.events.items c.self.inside.tables.exports.rows c.withdraw.new.exports.rows (event_of c.args.by c.args.moment (Abandon c.args.object)) c.args.self.now c.self.view_is
     c.self.invariant.0.stands.rows_are kept.stands.rows_are refl c.put_event.ensures.items
