@@ -29,7 +29,7 @@ use Rattle.space.specs.Acts.{effective_by, opens, new_rows, new_ids, returned_by
 use Rattle.space.specs.Kept.{Keeps}
 use Rattle.space.specs.Runs.{is_run, is_run_on, object_of}
 use Rattle.export_table.specs.StandsForHistory.{WaitsStand, reference_of, end_of}
-use Rattle.space.proofs.AwaitLaws.{new-length, return-few, lookup-few}
+use Rattle.space.proofs.AwaitLaws.{return-few, lookup-few}
 use Rattle.export_table.proofs.ThereLaws.{running-there}
 use Rattle.space.proofs.TurnLaws.{IsAsked, is-effective, keeps-room}
 use Rattle.export_table.proofs.StandLaws.{exported-has, named-pins, pins-few, pins-there, running-there as rows-running, running-few}

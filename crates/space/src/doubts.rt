@@ -33,18 +33,19 @@ pub(crate) fn in_doubt(
     let freed = tables.leases.freed_objects(tables.alloc, now)?;
     let ended = tables.exports.ended_objects(tables.alloc, now)?;
     let taken = taken_by(tables, stood, returned, ask)?;
-    let passed = join_lists(freed, &ended)?;
-    let objects = join_lists(passed, &taken)?;
+    let passed = join_lists(freed, ended)?;
+    let objects = join_lists(passed, taken)?;
     Ok(objects)
 }
 
-/// A list with others after it; where there are none, the list itself.
-pub(crate) fn join_lists(mut objects: Vec<ObjId>, more: &[ObjId]) -> Result<Vec<ObjId>, AllocError>
-    ensures { IfOk result (λ os. os.items ≡ objects.items ++ more.now) }
+/// A list with another one after it. Where one of them is empty, it is the other one itself.
+fn join_lists(mut objects: Vec<ObjId>, more: Vec<ObjId>) -> Result<Vec<ObjId>, AllocError>
+    ensures { IfOk result (λ os. os.items ≡ objects.items ++ more.items) }
 {
-    if !more.is_empty() {
-        objects.extend_from_slice(more)?;
+    if objects.is_empty() {
+        return Ok(more);
     }
+    objects.extend_from_slice(&more)?;
     Ok(objects)
 }
 
@@ -95,7 +96,8 @@ fn one_and(alloc: Global, object: &ObjId, others: &[ObjId]) -> Result<Vec<ObjId>
     Ok(objects)
 }
 
-fn copy_of_objects(alloc: Global, objects: &[ObjId]) -> Result<Vec<ObjId>, AllocError>
+/// A copy of these objects. It takes no memory where there are none.
+pub(crate) fn copy_of_objects(alloc: Global, objects: &[ObjId]) -> Result<Vec<ObjId>, AllocError>
     ensures { IfOk result (λ os. os.items ≡ objects.now) }
 {
     let mut copy = Vec::new(alloc);

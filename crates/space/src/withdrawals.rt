@@ -6,7 +6,7 @@ ghost use Rattle.space.specs.Acts.{withdrawal_at};
 ghost use Rattle.space.specs.Doubts.{HasLog};
 ghost use Rattle.space.specs.Withdrawing.{HasWithdrawn, IsEnough};
 
-use crate::doubts::{Doubt, join_lists, withdraw};
+use crate::doubts::{Doubt, copy_of_objects, withdraw};
 use crate::told::{MOST_TOLD, ToldWithdrawals};
 use dgc_server::Leases;
 use export_table::Exports;
@@ -197,7 +197,7 @@ fn rest_of(alloc: Global, objects: &[ObjId], from: usize) -> Result<Vec<ObjId>, 
     requires { from ≤ length objects.now }
     ensures { IfOk result (λ rest. rest.items ≡ drop from objects.now) }
 {
-    join_lists(Vec::new(alloc), &objects[from..])
+    copy_of_objects(alloc, &objects[from..])
 }
 
 /// Appends objects to a list that has room for them.

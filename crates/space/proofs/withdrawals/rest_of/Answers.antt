@@ -1,4 +1,4 @@
-use Rattle.std.proofs.Common.{◌≡◌, ◌-◌, ◌++◌, List, length, take, drop, ap, subst, ◌∙◌}
+use Rattle.std.proofs.Common.{◌≡◌, List, subst}
 use Rattle.std.specs.Prelude.{IfOk}
 use Rattle.object_ids.specs.declared.ids.ObjId.{ObjId}
 use Rattle.export_table.proofs.Slices.{slice_from}
@@ -6,7 +6,5 @@ use Rattle.space.proofs.withdrawals.rest_of.Goals as goal
 
 pub returns : goal.returns
 returns c =
-    let P : List ObjId → Type 0 = λ l. IfOk c.join_lists.result (λ rest. rest.items ≡ l) in
-    subst P
-    (ap (λ l. l ++ take (length c.args.objects.now - c.args.from) (drop c.args.from c.args.objects.now)) c.new.ensures.items ∙ slice_from c.args.from c.args.objects.now)
-    c.join_lists.ensures
+    let P : List ObjId → Type 0 = λ l. IfOk c.copy_of_objects.result (λ rest. rest.items ≡ l) in
+    subst P (slice_from c.args.from c.args.objects.now) c.copy_of_objects.ensures
