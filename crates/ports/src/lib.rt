@@ -14,6 +14,11 @@
 //!   (`calls_add_up`).
 //! - Entries lead from a legal history to a legal one (`entries_leave_legal_histories`).
 //! - A turn without memory has no entry.
+//!
+//! # What is not
+//!
+//! That memory is really lacking where a turn answers OutOfMemory, and how much memory a port
+//! takes.
 #![tactic(auto)]
 
 pub mod asked_log;

@@ -28,6 +28,11 @@
 //! Fairness and waiting times. `SeatPort::turn`, `SeatPort::abandon` and `Root::turn` wait for
 //! their turn.
 //!
+//! That memory is really lacking where a turn, `take_recent` or `close_recording` answers
+//! OutOfMemory. So a lock that records might keep no event, and say so whenever it is asked;
+//! `test_lock` tests that it keeps them. When `take_recent` hands an event out: it may lag behind
+//! the turns of other passes, and `close_recording` gives the rest. What `is_crowded` answers.
+//!
 //! # Choices
 //!
 //! A thread draws a ticket once no other has one, or after 4,000 looks; after 500 looks it sleeps

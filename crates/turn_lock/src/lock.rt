@@ -71,8 +71,8 @@ impl TurnLock {
         close_desk(self, root).into_space()
     }
 
-    /// Gives the space as `close` does, with the events from this place on: those that the root did not hand out. OutOfMemory comes only if no event
-    /// is kept any more.
+    /// Gives the space as `close` does, with the events from this place on: those that the root did not hand out. OutOfMemory comes if no event is
+    /// kept any more, since memory was lacking for one.
     pub fn close_recording(self, root: Root, from: u64) -> (Space, Result<EventList, RecentFault>)
         requires own { IsRootOf self root }
         requires all { root.out ≡ 0 }
