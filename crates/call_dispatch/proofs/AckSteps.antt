@@ -31,7 +31,7 @@ use Rattle.call_dispatch.specs.Dialogue.{Opening, Completed, opened, IsAtCode}
 use Rattle.call_dispatch.specs.Progress.{StandsWhole, Talked, StepsTo, end_from}
 use Rattle.call_dispatch.specs.Serving.{Notes, Acknowledges}
 use Rattle.call_dispatch.proofs.Balancing.{balanced_quiet}
-use Rattle.call_dispatch.proofs.Blaming.{counts, blameless, rose_after}
+use Rattle.call_dispatch.proofs.Blaming.{counts, blameless}
 use Rattle.call_dispatch.proofs.MessageSteps.{limit_left}
 use Rattle.call_dispatch.proofs.Steps.{spot_at, talks_on, talks_in, stands_more}
 use Rattle.call_dispatch.specs.declared.messages.TheConstants.{MAX_MESSAGES, MAX_BYTES}
@@ -126,7 +126,7 @@ stop_blames P k p q (faults.Truncated at) h = blameless p.faults q.faults k (end
 stop_blames P k p q (faults.TooLarge Bytes at) h = blameless p.faults q.faults k (ends.TooLarge Bytes at) (omega (arith, h.takes.faults, h.stops.1.faults)) ((λ same. cc), (λ w. w))
 stop_blames P k p q faults.ReadFault h =
     let same_sink : k ≤ k = omega arith in
-    let rose : Rose p.faults q.faults = rose_after p.faults h.mid.faults q.faults h.takes.faults h.stops.1 in
+    let rose : Rose p.faults q.faults = (omega (arith, h.takes.faults, h.stops.1.0), omega (arith, h.takes.faults, h.stops.1.1)) in
     record { read_fault = (λ same. rose); write_fault = (λ w. absurd w); source = rose.0; sink = same_sink }
 stop_blames P k p q (faults.TooLarge Nodes at) h = absurd h
 stop_blames P k p q (faults.TooLarge Depth at) h = absurd h

@@ -36,9 +36,6 @@ pub blameless : (a b k : ℕ) (end : ConnEnd) → a ≤ b → IsBlameless end �
 blameless a b k end le none =
     let same_sink : k ≤ k = omega arith in record { read_fault = (λ same. absurd (none.0 same)); write_fault = (λ w. absurd (none.1 w)); source = le; sink = same_sink }
 
-pub rose_after : (a b c : ℕ) → a ≤ b → Rose b c → Rose a c
-rose_after a b c le h = (omega (arith, h.0), omega (arith, h.1))
-
 -- Reading broke off.
 pub broken_blames : {Y : Type 0} (read : ℕ → List ℕ → Result Y WantFault) (f k : ℕ) (p q : PullState) (fault : FrameFault) → f ≤ p.faults → BreaksIn p q fault read → Blames (counts f k) (counts q.faults k) (end_from fault)
 broken_blames read f k p q (BadHeader at) le h = absurd h
@@ -54,7 +51,7 @@ broken_blames read f k p q (Stream (faults.TooLarge Bytes at)) le h =
 broken_blames read f k p q (Stream (faults.Truncated at)) le h = blameless f q.faults k (ends.Truncated at) (omega (arith, le, h.is.0.takes.faults)) ((λ same. cc), (λ w. w))
 broken_blames read f k p q (Stream faults.ReadFault) le h =
     let same_sink : k ≤ k = omega arith in
-    let rose : Rose f q.faults = rose_after f p.faults q.faults le h.is.1 in
+    let rose : Rose f q.faults = (omega (arith, le, h.is.1.0), omega (arith, le, h.is.1.1)) in
     record { read_fault = (λ same. rose); write_fault = (λ w. absurd w); source = rose.0; sink = same_sink }
 broken_blames read f k p q (Stream faults.OutOfMemory) le h = blameless f q.faults k ends.OutOfMemory (omega (arith, le, h.is.takes.faults)) ((λ same. cc), (λ w. w))
 
@@ -116,7 +113,7 @@ call_blames may moves terms uid head first now a b drawn drew k l sent held held
 pub blames_from : {T : Type 0} (f g k : ℕ) (after : FaultCounts) (result : Result T ConnEnd) → f ≤ g → BlamesIn (counts g k) after result → BlamesIn (counts f k) after result
 blames_from f g k after (Ok x) le h = record { source = omega (arith, le, h.source); sink = h.sink }
 blames_from f g k after (Err end) le h = record {
-  read_fault = (λ same. rose_after f g after.source le (h.read_fault same));
+  read_fault = (λ same. let rose = h.read_fault same in (omega (arith, le, rose.0), omega (arith, le, rose.1)));
   write_fault = h.write_fault;
   source = omega (arith, le, h.source);
   sink = h.sink;

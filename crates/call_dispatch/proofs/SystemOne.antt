@@ -26,6 +26,7 @@ use Rattle.jrmp_frames.proofs.Calls.{Whole, headed, head_then}
 use Rattle.jrmp_frames.proofs.CallLaws.{call_is_one}
 use Rattle.system_objects.specs.declared.book.Kind.{Kind}
 use Rattle.system_objects.specs.declared.request.Rejection.{Rejection}
+use Rattle.system_objects.proofs.SystemAsks.{asked, asked_same, refused}
 use Rattle.call_dispatch.specs.declared.end.ConnEnd.{ConnEnd}
 use Rattle.system_ids.specs.declared.methods.SystemMethod.{SystemMethod}
 use Rattle.call_dispatch.specs.End.{IsSettled}
@@ -107,20 +108,11 @@ turned_same : (m m2 : SystemMethod) (a a2 : Arguments) (k k2 : Ask) (x x2 : ℕ)
 turned_same m m2 a a2 k k2 x x2 r r2 w w2 ms args ks xs rs ws =
     λ i. turned (record { method = ms i; arguments = args i; ask = ks i; moment = xs i; answer = rs i; written = ws i })
 
-abbrev asks : Ask → Result Ask Rejection
-asks ask = Ok ask
+refused_same : (a b : Rejection) → refused a ≡ refused b → a ≡ b
+refused_same a b e = cc
 
-abbrev bars : Rejection → Result Ask Rejection
-bars bar = Err bar
-
-asks_same : (a b : Ask) → asks a ≡ asks b → a ≡ b
-asks_same a b e = cc
-
-bars_same : (a b : Rejection) → bars a ≡ bars b → a ≡ b
-bars_same a b e = cc
-
-not_barred : (ask : Ask) (bar : Rejection) → asks ask ≡ bars bar → ⊥
-not_barred ask bar e = cc
+not_refused : (ask : Ask) (bar : Rejection) → asked ask ≡ refused bar → ⊥
+not_refused ask bar e = cc
 
 abbrev OneSystem : Uid → Uid → System → System → List ℕ → List ℕ → List OutsideAnswer → List OutsideAnswer → Type 0
 OneSystem uid uid2 s s2 bytes bytes2 t t2 = (uid ≡ uid2) × (s ≡ s2) × (bytes ≡ bytes2) × (t ≡ t2)
@@ -136,20 +128,20 @@ system_one terms drawn head bytes bytes2 uid uid2 (rejected rej) unknown rest re
 system_one terms drawn head bytes bytes2 uid uid2 (turned took) unknown rest rest2 t t2 (known, call, is, e, fits, ws) (h, none, is2) input ticking = absurd (no_method took.method (sym known ∙ none))
 system_one terms drawn head bytes bytes2 uid uid2 (rejected rej) (rejected rej2) rest rest2 t t2 (known, call, is, e) (known2, call2, is2, e2) input ticking =
     let read = read_same head rej.method rej2.method rej.arguments rej2.arguments bytes bytes2 rest rest2 known known2 call call2 input in
-    let same = demanded_same terms drawn rej.method rej2.method rej.arguments rej2.arguments uid uid2 (bars rej.rejection) (bars rej2.rejection) read.0 read.1 is is2 e e2 in
-    (same.0, barred_same rej.method rej2.method rej.arguments rej2.arguments rej.rejection rej2.rejection read.0 read.1 (bars_same rej.rejection rej2.rejection same.1), read.2, ticking)
+    let same = demanded_same terms drawn rej.method rej2.method rej.arguments rej2.arguments uid uid2 (refused rej.rejection) (refused rej2.rejection) read.0 read.1 is is2 e e2 in
+    (same.0, barred_same rej.method rej2.method rej.arguments rej2.arguments rej.rejection rej2.rejection read.0 read.1 (refused_same rej.rejection rej2.rejection same.1), read.2, ticking)
 system_one terms drawn head bytes bytes2 uid uid2 (rejected rej) (turned took2) rest rest2 t t2 (known, call, is, e) (known2, call2, is2, e2, fits2, ws2) input ticking =
     let read = read_same head rej.method took2.method rej.arguments took2.arguments bytes bytes2 rest rest2 known known2 call call2 input in
-    let same = demanded_same terms drawn rej.method took2.method rej.arguments took2.arguments uid uid2 (bars rej.rejection) (asks took2.ask) read.0 read.1 is is2 e e2 in
-    absurd (not_barred took2.ask rej.rejection (sym same.1))
+    let same = demanded_same terms drawn rej.method took2.method rej.arguments took2.arguments uid uid2 (refused rej.rejection) (asked took2.ask) read.0 read.1 is is2 e e2 in
+    absurd (not_refused took2.ask rej.rejection (sym same.1))
 system_one terms drawn head bytes bytes2 uid uid2 (turned took) (rejected rej2) rest rest2 t t2 (known, call, is, e, fits, ws) (known2, call2, is2, e2) input ticking =
     let read = read_same head took.method rej2.method took.arguments rej2.arguments bytes bytes2 rest rest2 known known2 call call2 input in
-    let same = demanded_same terms drawn took.method rej2.method took.arguments rej2.arguments uid uid2 (asks took.ask) (bars rej2.rejection) read.0 read.1 is is2 e e2 in
-    absurd (not_barred took.ask rej2.rejection same.1)
+    let same = demanded_same terms drawn took.method rej2.method took.arguments rej2.arguments uid uid2 (asked took.ask) (refused rej2.rejection) read.0 read.1 is is2 e e2 in
+    absurd (not_refused took.ask rej2.rejection same.1)
 system_one terms drawn head bytes bytes2 uid uid2 (turned took) (turned took2) rest rest2 t t2 (known, call, is, e, (other, fits), ws) (known2, call2, is2, e2, (other2, fits2), ws2) input ticking =
     let read = read_same head took.method took2.method took.arguments took2.arguments bytes bytes2 rest rest2 known known2 call call2 input in
-    let same = demanded_same terms drawn took.method took2.method took.arguments took2.arguments uid uid2 (asks took.ask) (asks took2.ask) read.0 read.1 is is2 e e2 in
-    let ask_same : took.ask ≡ took2.ask = asks_same took.ask took2.ask same.1 in
+    let same = demanded_same terms drawn took.method took2.method took.arguments took2.arguments uid uid2 (asked took.ask) (asked took2.ask) read.0 read.1 is is2 e e2 in
+    let ask_same : took.ask ≡ took2.ask = asked_same took.ask took2.ask same.1 in
     let handed : turn_ticks took.moment took.answer ++ t ≡ turn_ticks took2.moment took2.answer ++ t2 =
     ap (λ (l : List OutsideAnswer). l ++ t) (sym (turned_tape took.ask took.moment took.answer other)) ∙ ticking ∙ ap (λ (l : List OutsideAnswer). l ++ t2) (turned_tape took2.ask took2.moment took2.answer other2) in
     let told = ticks_one took.moment took2.moment took.answer took2.answer t t2 handed in

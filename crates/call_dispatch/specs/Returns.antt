@@ -20,15 +20,7 @@ use Rattle.system_objects.specs.ReturnBytes.{wrong_outcome, fault_return}
 
 -- The value is of this primitive type.
 abbrev pub is_of : TypeCode → Value → Bool
-is_of types.Byte (values.Byte v) = true
-is_of types.Char (values.Char v) = true
-is_of types.Double (values.Double v) = true
-is_of types.Float (values.Float v) = true
-is_of types.Int (values.Int v) = true
-is_of types.Long (values.Long v) = true
-is_of types.Short (values.Short v) = true
-is_of types.Boolean (values.Boolean v) = true
-is_of _ _ = false
+is_of code value = is_primitive code && fits_value code value
 
 -- one reference and nothing else
 abbrev pub is_one_reference : List Item → Bool

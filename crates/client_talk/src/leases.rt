@@ -1,7 +1,7 @@
 //! The references that a command holds at a server, and the lease calls that it sends for them.
 ghost use Rattle.std.specs.Prelude.{◌≡◌, ◌≢◌, ◌≤◌, ℕ, List, Option, Err, OnOk, IfOk, false, map};
 ghost use Rattle.dgc_client.specs.declared.limits.TheConstants.{MAX_GRANTED_MS};
-ghost use Rattle.dgc_client.specs.Log.{ClientCall, number_of};
+ghost use Rattle.dgc_client.specs.Log.{ClientCall};
 ghost use Rattle.rmi_client.specs.Sessions.{link_of};
 ghost use Rattle.client_talk.specs.Calling.{Lessee, Keeps, NotesPart, renewal, granting, renews, sends_due, holds, holds_each, releases, releases_each, ids_there};
 ghost use Rattle.client_talk.specs.Contents.{CallAnswer};
@@ -16,7 +16,7 @@ use crate::end::CommandEnd;
 use crate::request::Caller;
 use dgc_client::{ClientRef, ClientTable, Plan};
 use object_ids::{ObjId, ObjIds};
-use rmi_client::Session;
+use rmi_client::{Session, number_of_plan};
 use std::alloc::{AllocError, Global};
 use wire_io::{Clock, Sink, Source};
 
@@ -82,20 +82,6 @@ fn ids_of(alloc: Global, refs: &[ClientRef]) -> Result<ObjIds, AllocError>
     Ok(ids)
 }
 
-/// The number of a lease call.
-fn number_of(plan: &Plan) -> i64
-    ensures { result ≡ number_of plan.now }
-{
-    match plan {
-        Plan::Dirty { number, ids: _ } => *number,
-        Plan::Clean {
-            number,
-            ids: _,
-            strong: _,
-        } => *number,
-    }
-}
-
 /// Sends a lease call. The answer is for how many milliseconds the lease is granted.
 fn send<I: Source, O: Sink>(
     session: &mut Session<I, O>,
@@ -134,7 +120,7 @@ fn renew<I: Source, O: Sink, T: Clock>(
     match send(session, leases, plan) {
         Ok(granted) => {
             let now = ticks.now();
-            leases.table.answered(number_of(plan), granted, now);
+            leases.table.answered(number_of_plan(plan), granted, now);
             Ok(())
         }
         Err(end) => Err(end),

@@ -12,7 +12,6 @@ use Rattle.history.specs.LeaseCalls.{call_with}
 use Rattle.history.specs.Leases.{is_dirty, is_dirty_kind, is_naming}
 use Rattle.history.specs.Places.{has}
 use Rattle.history.specs.declared.calls.Call.{Call}
-use Rattle.history.specs.declared.calls.CallKind.{CallKind}
 use Rattle.history.specs.declared.calls.CallKind.TheVariants.{Dirty as DirtyCall, Weak, Strong}
 use Rattle.history.specs.declared.places.Exported.{Exported}
 use Rattle.history.proofs.ListLemmas.{every-weaker, list_any-filter}
@@ -29,13 +28,10 @@ use Rattle.lease_world.proofs.Turns.{Arrives}
 
 -- ---- the call
 
-abbrev pub kind_of_clean : Bool → CallKind
-kind_of_clean strong = if strong then Strong else Weak
-
 -- The lease call of a plan that arrives at the moment t, with those of its objects that pass a test.
 abbrev pub made_call : (ObjId → Bool) → ℕ → ℕ → ℤ → Plan → Call
 made_call test t c asked (plans.Dirty number ids) = record { moment = t; client = client c; number = number; objects = filter test ids; kind = DirtyCall; asked = asked }
-made_call test t c asked (plans.Clean number ids strong) = record { moment = t; client = client c; number = number; objects = filter test ids; kind = kind_of_clean strong; asked = pos 0 }
+made_call test t c asked (plans.Clean number ids strong) = record { moment = t; client = client c; number = number; objects = filter test ids; kind = if strong then Strong else Weak; asked = pos 0 }
 
 pub call-made : (test : ObjId → Bool) (t c : ℕ) (asked : ℤ) (p : Plan) → call_with test t (ask_as c asked p) ≡ made_call test t c asked p ∷ []
 call-made test t c asked (plans.Dirty number ids) = refl
@@ -53,7 +49,7 @@ pub number-made : (test : ObjId → Bool) (t c : ℕ) (asked : ℤ) (p : Plan) �
 number-made test t c asked (plans.Dirty number ids) = refl
 number-made test t c asked (plans.Clean number ids strong) = refl
 
-not-dirty : (strong : Bool) → is_dirty_kind (kind_of_clean strong) ≡ false
+not-dirty : (strong : Bool) → is_dirty_kind (if strong then Strong else Weak) ≡ false
 not-dirty true = refl
 not-dirty false = refl
 

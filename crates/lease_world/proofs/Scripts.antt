@@ -13,7 +13,7 @@ use Rattle.journal.specs.Parts.{parts, parts_left, Lacks}
 use Rattle.journal.proofs.Splitting.{parts_exist, line_injective}
 use Rattle.lease_world.specs.Stands.{WorldParts, StandsAt, StandsForCourse, ForEachCourse, IsCause, IsTaken, no_deeds}
 use Rattle.lease_world.specs.World.{World, Course, Deed, Taken, CutMake, fault_of, with_deed, world, of_client, nth, client}
-use Rattle.lease_world.specs.Script.{NextLine, SpellsStep, SpellsWorld, SpellsDeeds, course_of, IsPlayed, IsPrinted, IsStopped, StopsAt, BeginsWithoutWorld, BeginsWithoutStep, BeginsWithFault, IsReached, IsFaultAt, end_text, until_line, ref_line, client_lines, clients_lines}
+use Rattle.lease_world.specs.Script.{NextLine, SpellsStep, SpellsWorld, SpellsDeeds, course_of, IsPlayed, IsPrinted, IsStopped, ComesTo, StopsAt, BeginsWithoutWorld, BeginsWithoutStep, BeginsWithFault, IsReached, IsFaultAt, end_text, until_line, ref_line, client_lines, clients_lines}
 use Rattle.lease_world.specs.Words.{IsWorldLine}
 use Rattle.lease_world.specs.declared.fault.WorldFault.{WorldFault}
 use Rattle.lease_world.specs.declared.fault.WorldFault.TheVariants.{BadStep, BadLine, OutOfMemory}
@@ -282,12 +282,7 @@ faults_once course rest f g (inr (other, bad)) (inl (is, inl none)) = absurd (no
 faults_once course rest f g (inr (other, bad)) (inl (is, inr bad2)) = absurd (other (refused_once course rest f BadStep bad bad2))
 faults_once course rest f g (inr (other, bad)) (inr (other2, bad2)) = refused_once course rest f g bad bad2
 
--- What a script comes to: its text, or the fault at which it stops.
-abbrev pub ComesTo : List ℕ → Result (List ℕ) WorldFault → Type 0
-ComesTo script (Ok text) = IsPrinted script text
-ComesTo script (Err fault) = IsStopped script fault
-
-abbrev failed : WorldFault → Result (List ℕ) WorldFault
+abbrev pub failed : WorldFault → Result (List ℕ) WorldFault
 failed fault = Err fault
 
 printed_not_stopped : (script text : List ℕ) (fault : WorldFault) → fault ≢ OutOfMemory → IsPrinted script text → IsStopped script fault → ⊥

@@ -1,5 +1,5 @@
 -- A line spells at most one step, and at most one first line of a world.
-use Rattle.std.proofs.Common.{◌≡◌, ℕ, ◌^◌, List, [], ◌∷◌, refl, ap, sym, subst, ◌∙◌, arith, codes, ℤ, w64}
+use Rattle.std.proofs.Common.{◌≡◌, ℕ, ◌^◌, List, [], ◌∷◌, drop, refl, ap, sym, subst, ◌∙◌, arith, codes, ℤ, w64}
 use Rattle.journal.specs.Grammar.{◌▸◌, End, SpellsSigned, SpellsDuration}
 use Rattle.journal.specs.Parts.{parts}
 use Rattle.journal.proofs.Decimals.{same_number}
@@ -10,20 +10,15 @@ use Rattle.lease_world.specs.declared.step.Step.TheVariants as steps
 
 -- ---- words
 
--- The same of a word and of the words after it.
-same_first : {X : Type 0} (S : X → List ℕ → Type 0) → IsOnce S → (P Q : List (List ℕ) → Type 0) (words : List (List ℕ)) (x y : X) → (S x ▸ P) words → (S y ▸ Q) words
-    → (x ≡ y) × ((rest : List (List ℕ)) × P rest × Q rest)
-same_first S once P Q [] x y of_x of_y = absurd of_x
-same_first S once P Q (word ∷ words) x y of_x of_y = (once.same x y word of_x.0 of_y.0, (words, of_x.1, of_y.1))
+-- The words after the first.
+after : (S : List ℕ → Type 0) (P : List (List ℕ) → Type 0) (words : List (List ℕ)) → (S ▸ P) words → P (drop 1 words)
+after S P [] spells = absurd spells
+after S P (word ∷ words) spells = spells.1
 
-same_one : {X : Type 0} (S : X → List ℕ → Type 0) → IsOnce S → (words : List (List ℕ)) (x y : X) → (S x ▸ End) words → (S y ▸ End) words → x ≡ y
-same_one S once words x y of_x of_y = (same_first S once End End words x y of_x of_y).0
-
-same_two : {X Y : Type 0} (S : X → List ℕ → Type 0) (T : Y → List ℕ → Type 0) → IsOnce S → IsOnce T → (words : List (List ℕ)) (x y : X) (u v : Y)
-    → (S x ▸ T u ▸ End) words → (S y ▸ T v ▸ End) words → (x ≡ y) × (u ≡ v)
-same_two S T once more words x y u v of_x of_y =
-    let first = same_first S once (T u ▸ End) (T v ▸ End) words x y of_x of_y in
-    (first.0, same_one T more first.1.0 u v first.1.1 first.1.2)
+-- The first word spells at most one thing, whatever the words after it spell.
+first_once : {X : Type 0} (S : X → List ℕ → Type 0) → IsOnce S → (P Q : List (List ℕ) → Type 0) (words : List (List ℕ)) (x y : X) → (S x ▸ P) words → (S y ▸ Q) words → x ≡ y
+first_once S once P Q [] x y of_x of_y = absurd of_x
+first_once S once P Q (word ∷ words) x y of_x of_y = once.same x y word of_x.0 of_y.0
 
 count_once : IsOnce SpellsCount
 count_once = below_once (2 ^ 63) (omega arith)
@@ -36,6 +31,16 @@ number_once = signed_once w64 (omega arith)
 
 clients_once : IsOnce SpellsClients
 clients_once = record { same = λ m n word of_m of_n. same_number word m n (omega (arith, of_m.1)) (omega (arith, of_n.1)) of_m.2 of_n.2 }
+
+counts_once : (words : List (List ℕ)) (m n : ℕ) → (SpellsCount m ▸ End) words → (SpellsCount n ▸ End) words → m ≡ n
+counts_once words m n of_m of_n = first_once SpellsCount count_once End End words m n of_m of_n
+
+-- A client, and a number of one of its objects or calls.
+numbered_once : (words : List (List ℕ)) (c d : ℕ) (m n : ℤ) → (SpellsClient c ▸ SpellsSigned w64 m ▸ End) words → (SpellsClient d ▸ SpellsSigned w64 n ▸ End) words → (c ≡ d) × (m ≡ n)
+numbered_once words c d m n of_a of_b = (
+  first_once SpellsClient client_once (SpellsSigned w64 m ▸ End) (SpellsSigned w64 n ▸ End) words c d of_a of_b,
+  first_once (SpellsSigned w64) number_once End End (drop 1 words) m n (after (SpellsClient c) (SpellsSigned w64 m ▸ End) words of_a) (after (SpellsClient d) (SpellsSigned w64 n ▸ End) words of_b),
+)
 
 -- ---- each keyword begins the steps of its kind alone
 
@@ -98,27 +103,27 @@ begun s word keyword rest is spells = subst (λ (w : List ℕ). StepWords s (w �
 
 at_word : (a b : Step) (word : List ℕ) (rest : List (List ℕ)) → StepWords a (word ∷ rest) → StepWords b (word ∷ rest) → a ≡ b
 at_word (steps.At m) b word rest of_a of_b = only_at rest b (begun b word _ rest of_a.0 of_b) (λ n is spells.
-    ap steps.At (same_one SpellsCount count_once rest m n of_a.1 spells) ∙ sym is)
+    ap steps.At (counts_once rest m n of_a.1 spells) ∙ sym is)
 at_word steps.Make b word rest of_a of_b = only_make rest b (begun b word _ rest of_a.0 of_b) (λ is. sym is)
 at_word (steps.Ack m) b word rest of_a of_b = only_ack rest b (begun b word _ rest of_a.0 of_b) (λ n is spells.
-    ap steps.Ack (same_one SpellsCount count_once rest m n of_a.1 spells) ∙ sym is)
+    ap steps.Ack (counts_once rest m n of_a.1 spells) ∙ sym is)
 at_word (steps.Register c m) b word rest of_a of_b = only_register rest b (begun b word _ rest of_a.0 of_b) (λ d n is spells.
-    let both = same_two SpellsClient (SpellsSigned w64) client_once number_once rest c d m n of_a.1 spells in
+    let both = numbered_once rest c d m n of_a.1 spells in
     ap (λ (x : ℕ). steps.Register x m) both.0 ∙ ap (λ (x : ℤ). steps.Register d x) both.1 ∙ sym is)
 at_word (steps.Release c m) b word rest of_a of_b = only_drop rest b (begun b word _ rest of_a.0 of_b) (λ d n is spells.
-    let both = same_two SpellsClient (SpellsSigned w64) client_once number_once rest c d m n of_a.1 spells in
+    let both = numbered_once rest c d m n of_a.1 spells in
     ap (λ (x : ℕ). steps.Release x m) both.0 ∙ ap (λ (x : ℤ). steps.Release d x) both.1 ∙ sym is)
 at_word (steps.Due c) b word rest of_a of_b = only_due rest b (begun b word _ rest of_a.0 of_b) (λ d is spells.
-    ap steps.Due (same_one SpellsClient client_once rest c d of_a.1 spells) ∙ sym is)
+    ap steps.Due (first_once SpellsClient client_once End End rest c d of_a.1 spells) ∙ sym is)
 at_word (steps.Deliver m) b word rest of_a of_b = only_deliver rest b (begun b word _ rest of_a.0 of_b) (λ n is spells.
-    ap steps.Deliver (same_one SpellsCount count_once rest m n of_a.1 spells) ∙ sym is)
+    ap steps.Deliver (counts_once rest m n of_a.1 spells) ∙ sym is)
 at_word (steps.Answer m) b word rest of_a of_b = only_answer rest b (begun b word _ rest of_a.0 of_b) (λ n is spells.
-    ap steps.Answer (same_one SpellsCount count_once rest m n of_a.1 spells) ∙ sym is)
+    ap steps.Answer (counts_once rest m n of_a.1 spells) ∙ sym is)
 at_word (steps.Fail m) b word rest of_a of_b = only_fail rest b (begun b word _ rest of_a.0 of_b) (λ n is spells.
-    ap steps.Fail (same_one SpellsCount count_once rest m n of_a.1 spells) ∙ sym is)
+    ap steps.Fail (counts_once rest m n of_a.1 spells) ∙ sym is)
 at_word steps.Tick b word rest of_a of_b = only_tick rest b (begun b word _ rest of_a.0 of_b) (λ is. sym is)
 at_word (steps.Ask c m) b word rest of_a of_b = only_ask rest b (begun b word _ rest of_a.0 of_b) (λ d n is spells.
-    let both = same_two SpellsClient (SpellsSigned w64) client_once number_once rest c d m n of_a.1 spells in
+    let both = numbered_once rest c d m n of_a.1 spells in
     ap (λ (x : ℕ). steps.Ask x m) both.0 ∙ ap (λ (x : ℤ). steps.Ask d x) both.1 ∙ sym is)
 
 words_once : (a b : Step) (words : List (List ℕ)) → StepWords a words → StepWords b words → a ≡ b
@@ -134,9 +139,14 @@ pub world_once : (lease lease2 ack ack2 clients clients2 : ℕ) (text : List ℕ
     → (lease ≡ lease2) × (ack ≡ ack2) × (clients ≡ clients2)
 world_once lease lease2 ack ack2 clients clients2 text of_a of_b =
     let others = after_world (parts 32 text) of_a of_b in
-    let first = same_first SpellsDuration duration_once (SpellsDuration ack ▸ SpellsClients clients ▸ End) (SpellsDuration ack2 ▸ SpellsClients clients2 ▸ End) others.0 lease lease2 others.1 others.2 in
-    let both = same_two SpellsDuration SpellsClients duration_once clients_once first.1.0 ack ack2 clients clients2 first.1.1 first.1.2 in
-    (first.0, both.0, both.1)
+    let words = others.0 in
+    let of_ack = after (SpellsDuration lease) (SpellsDuration ack ▸ SpellsClients clients ▸ End) words others.1 in
+    let of_ack2 = after (SpellsDuration lease2) (SpellsDuration ack2 ▸ SpellsClients clients2 ▸ End) words others.2 in (
+      first_once SpellsDuration duration_once (SpellsDuration ack ▸ SpellsClients clients ▸ End) (SpellsDuration ack2 ▸ SpellsClients clients2 ▸ End) words lease lease2 others.1 others.2,
+      first_once SpellsDuration duration_once (SpellsClients clients ▸ End) (SpellsClients clients2 ▸ End) (drop 1 words) ack ack2 of_ack of_ack2,
+      first_once SpellsClients clients_once End End (drop 1 (drop 1 words)) clients clients2
+      (after (SpellsDuration ack) (SpellsClients clients ▸ End) (drop 1 words) of_ack) (after (SpellsDuration ack2) (SpellsClients clients2 ▸ End) (drop 1 words) of_ack2),
+    )
   where
     after_world : (words : List (List ℕ)) → WorldWords lease ack clients words → WorldWords lease2 ack2 clients2 words
         → (rest : List (List ℕ)) × (SpellsDuration lease ▸ SpellsDuration ack ▸ SpellsClients clients ▸ End) rest × (SpellsDuration lease2 ▸ SpellsDuration ack2 ▸ SpellsClients clients2 ▸ End) rest

@@ -4,7 +4,7 @@ use Rattle.std.proofs.Common.{◌≡◌, ◌⊎◌, inl, inr, ℕ, ◌+◌, ◌�
 use Rattle.std.specs.Prelude.{ℤ, Bool, true, false, ◌&&◌, ◌||◌, filter, max, reverse}
 use Rattle.std.specs.List.{list_any}
 use Rattle.std.specs.Ordering.{int_eq}
-use Rattle.std.proofs.lemmas.Bool.{or_cases, or_left, or_right, and_parts, and_from}
+use Rattle.std.proofs.lemmas.Bool.{or_cases, or_left, or_parts, or_right, and_parts, and_from}
 use Rattle.std.proofs.lemmas.List.Folds.{list_any-append}
 use Rattle.object_ids.specs.Client.{Client}
 use Rattle.object_ids.specs.Same.{same_id, same_client}
@@ -28,6 +28,7 @@ use Rattle.history.proofs.NamedCalls.{call_with-alike}
 use Rattle.history.proofs.NamedLaws.{stays, in-front}
 use Rattle.history.proofs.NumberLaws.{NumberedFrom, adds-numbered, ever_exported_back-numbered, has-greater, table-exported}
 use Rattle.history.proofs.TableLaws.{places-push, table-place, ever_exported-push}
+use Rattle.space.proofs.Named.{lease_calls-push}
 use Rattle.lease_world.specs.World.{is_dirty_for}
 use Rattle.lease_world.proofs.Lists.{any-weaker}
 
@@ -38,10 +39,6 @@ table_calls (p ∷ before) = call_with (has p.table_before) p.moment p.event.ask
 pub table_calls-push : (config : SpaceConfig) (h : History) (e : Event) → table_calls (place_of config h e ∷ h) ≡ call_with (has (table config h)) (max e.moment (now h)) e.ask ++ table_calls h
 unfolding table_calls place_of
 table_calls-push config h e = refl
-
-lease_calls-push : (config : SpaceConfig) (h : History) (e : Event) → lease_calls (place_of config h e ∷ h) ≡ call_with (has (ever_exported h)) (max e.moment (now h)) e.ask ++ lease_calls h
-unfolding lease_calls place_of
-lease_calls-push config h e = refl
 
 -- ---- what the table has was there since its export
 
@@ -77,13 +74,9 @@ not-there config h o never = go (has (table config h) o) refl
 
 never-before : (config : SpaceConfig) (es : List Event) (e : Event) (o : ObjId) → has (ever_exported (places_back config (e ∷ es))) o ≡ false → has (ever_exported (places_back config es)) o ≡ false
 unfolding places_back
-never-before config es e o never = left (has (ever_exported (places_back config es)) o) (has (place_of config (places_back config es) e).exported_here o)
+never-before config es e o never = (or_parts (has (ever_exported (places_back config es)) o) (has (place_of config (places_back config es) e).exported_here o)
     (sym (list_any-append (λ (x : Exported). same_id x.id o) (ever_exported (places_back config es)) (place_of config (places_back config es) e).exported_here)
-    ∙ sym (ap (λ l. has l o) (ever_exported-push (place_of config (places_back config es) e) (places_back config es))) ∙ never)
-  where
-    left : (a b : Bool) → (a || b) ≡ false → a ≡ false
-    left false b e = refl
-    left true b e = e
+    ∙ sym (ap (λ l. has l o) (ever_exported-push (place_of config (places_back config es) e) (places_back config es))) ∙ never)).0
 
 -- One more event: where the two lists of objects agree on the object, and the calls before are alike.
 alike-push : (config : SpaceConfig) (h : History) (e : Event) (o : ObjId) → has (ever_exported h) o ≡ has (table config h) o → AllAlike o (lease_calls h) (table_calls h) →

@@ -162,15 +162,12 @@ CleanBelow v o n x = is_of v x ≡ true → is_naming o x ≡ true → is_dirty 
 abbrev below : ℤ → Call → Bool
 below n x = is_dirty x || int_lt x.number n
 
-int-less : (a b : ℤ) → a <ℤ b → int_lt a b ≡ true
-int-less a b h = grind (arith, ints)
-
 below-is : (n : ℤ) (x : Call) → (is_dirty x ≡ false → x.number <ℤ n) → below n x ≡ true
 below-is n x f = go (is_dirty x) f
   where
     go : (d : Bool) → (d ≡ false → x.number <ℤ n) → (d || int_lt x.number n) ≡ true
     go true f = refl
-    go false f = int-less x.number n (f refl)
+    go false f = let less : x.number <ℤ n = f refl in grind (arith, ints)
 
 all-below : (lease : ℕ) (calls : List Call) (v : Client) (o : ObjId) (n : ℤ) → AllByRecursion (CleanBelow v o n) calls → list_all (below n) (counting_calls lease (calls_of v calls) o) ≡ true
 unfolding counting_calls calls_of

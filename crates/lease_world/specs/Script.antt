@@ -1,5 +1,5 @@
 -- The script of a world: its lines, what they spell, and what is printed at the end. A line ends with LF, and its words are separated by one space.
-use Rattle.std.specs.Prelude.{◌≡◌, ◌≢◌, ◌⊎◌, ◌≤◌, ◌^◌, ◌+◌, ℕ, pos, zero, suc, Bool, List, [], ◌∷◌, ◌++◌, length, codes, decimal, flat_map, Some, None, if◌then◌else◌}
+use Rattle.std.specs.Prelude.{◌≡◌, ◌≢◌, ◌⊎◌, ◌≤◌, ◌^◌, ◌+◌, ℕ, pos, zero, suc, Bool, List, [], ◌∷◌, ◌++◌, length, codes, decimal, flat_map, Some, None, Result, Ok, Err, if◌then◌else◌}
 use Rattle.std.specs.Int.{w64}
 use Rattle.std.specs.Fmt.{signed_decimal}
 use Rattle.history.specs.Outline.{outline}
@@ -151,6 +151,12 @@ abbrev pub IsStopped : List ℕ → WorldFault → Type 0
 IsStopped script fault =
     (fault ≡ OutOfMemory)
     ⊎ (((fault ≡ BadLine 1) × BeginsWithoutWorld script) ⊎ IsStoppedAt script fault)
+
+-- What a script comes to: the end of a world, which is printed, or a fault. In the world that is printed each object that is promised to a client is
+-- exported. Want of memory says nothing of the script.
+abbrev pub ComesTo : List ℕ → Result (List ℕ) WorldFault → Type 0
+ComesTo script (Ok text) = IsPrinted script text
+ComesTo script (Err fault) = IsStopped script fault
 
 -- ---- how far a script was played
 

@@ -20,39 +20,6 @@ use Rattle.rmi_caller.specs.declared.argument.Argument.TheVariants.{Boolean, Byt
 use Rattle.rmi_caller.specs.declared.arguments.Draft.{Draft}
 use Rattle.rmi_caller.specs.Arguments.{AddsItem, AreSent, HasPut, IsSent, before_items}
 
--- ---- block data before items
-
-put_both : (p q : List ℕ) (is : List Item) → put_block (p ++ q) is ≡ put_block p (put_block q is)
-put_both [] q is = refl
-put_both (x ∷ p) [] is = ap (λ (b : List ℕ). put_block b is) (append-nil (x ∷ p))
-put_both (x ∷ p) (y ∷ q) [] = refl
-put_both (x ∷ p) (y ∷ q) (items.Bytes r ∷ is) = ap (λ (b : List ℕ). items.Bytes b ∷ is) (append_assoc (x ∷ p) (y ∷ q) r)
-put_both (x ∷ p) (y ∷ q) (items.Ref s ∷ is) = refl
-
-put_apart : (p : List ℕ) (s : Slot) (more : List Item) → put_block p (items.Ref s ∷ more) ≡ put_block p [] ++ items.Ref s ∷ more
-put_apart [] s more = refl
-put_apart (x ∷ p) s more = refl
-
--- A run that is not empty becomes an item.
-pub run_ends : (is : List Item) (run : List ℕ) (new : List Item) → run ≢ [] → new ≡ is ++ items.Bytes run ∷ [] → new ≡ is ++ put_block run []
-run_ends is [] new some is_new = absurd (some refl)
-run_ends is (x ∷ run) new some is_new = is_new
-
--- One that is empty becomes none.
-pub no_run : (is : List Item) (run : List ℕ) → run ≡ [] → is ≡ is ++ put_block run []
-no_run is run none = rw none (sym (append-nil is))
-
--- ---- one item more
-
-pub slot_added : (is : List Item) (run : List ℕ) (s : Slot) (mid new : List Item) → mid ≡ is ++ put_block run [] → new ≡ mid ++ items.Ref s ∷ []
-    → (more : List Item) → new ++ more ≡ is ++ put_block run (items.Ref s ∷ more)
-slot_added is run s mid new ended added more =
-    ap (λ (l : List Item). l ++ more) added ∙ append_assoc mid (items.Ref s ∷ []) more ∙ ap (λ (l : List Item). l ++ items.Ref s ∷ more) ended
-    ∙ append_assoc is (put_block run []) (items.Ref s ∷ more) ∙ ap (λ (l : List Item). is ++ l) (sym (put_apart run s more))
-
-pub bytes_added : (is : List Item) (old new bytes : List ℕ) → new ≡ old ++ bytes → (more : List Item) → is ++ put_block new (joined more) ≡ is ++ put_block old (joined (items.Bytes bytes ∷ more))
-bytes_added is old new bytes longer more = ap (λ (l : List Item). is ++ l) (ap (λ (b : List ℕ). put_block b (joined more)) longer ∙ put_both old bytes (joined more))
-
 -- ---- what is sent stays so as more is put
 
 proxy_grown : {n : ℕ} {a b : List Node} (g : Grows n a b) (interface bytes : List ℕ) (s : Slot) → ProxyAt a interface bytes s → ProxyAt b interface bytes s

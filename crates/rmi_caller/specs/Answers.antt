@@ -1,5 +1,5 @@
 -- What an author reads of a result.
-use Rattle.std.specs.Prelude.{◌≡◌, ◌⊎◌, ℕ, ℤ, Bool, List, [], ◌∷◌, Option, Some, None, Result, Ok, Err}
+use Rattle.std.specs.Prelude.{◌≡◌, ◌≢◌, ◌⊎◌, List, [], ◌∷◌, Option, Some, None, Result, Ok, Err}
 use Rattle.class_desc.specs.declared.slot.Slot.{Slot}
 use Rattle.class_desc.specs.declared.slot.Item.{Item}
 use Rattle.class_desc.specs.declared.slot.Item.TheVariants as items
@@ -8,7 +8,6 @@ use Rattle.java_shapes.specs.declared.fault.ShapeFault.TheVariants as shapes
 use Rattle.jrmp_frames.specs.declared.message.Body.{Body}
 use Rattle.jrmp_frames.specs.declared.message.Body.TheVariants.{Void, Prim, Tree}
 use Rattle.ser_values.specs.declared.value.Value.{Value}
-use Rattle.ser_values.specs.declared.value.Value.TheVariants.{Boolean, Byte, Char, Short, Int, Long}
 use Rattle.ser_values.specs.declared.node.Node.{Node}
 use Rattle.rmi_caller.specs.declared.error.Wanted.{Wanted}
 use Rattle.rmi_caller.specs.declared.error.CallError.{CallError}
@@ -42,36 +41,17 @@ nodes_in (Tree graph) = graph.nodes
 nodes_in Void = []
 nodes_in (Prim value) = []
 
-abbrev pub boolean_in : Option Value → Option Bool
-boolean_in (Some (Boolean value)) = Some value
-boolean_in _ = None
-
-abbrev pub byte_in : Option Value → Option ℕ
-byte_in (Some (Byte value)) = Some value
-byte_in _ = None
-
-abbrev pub char_in : Option Value → Option ℕ
-char_in (Some (Char value)) = Some value
-char_in _ = None
-
-abbrev pub short_in : Option Value → Option ℤ
-short_in (Some (Short value)) = Some value
-short_in _ = None
-
-abbrev pub int_in : Option Value → Option ℤ
-int_in (Some (Int value)) = Some value
-int_in _ = None
-
-abbrev pub long_in : Option Value → Option ℤ
-long_in (Some (Long value)) = Some value
-long_in _ = None
-
 -- ---- what a reader answers
 
 -- The value that is wanted, or the error that names the type, exactly where there is none.
 abbrev pub Reads : {T : Type 0} → Wanted → Option T → Result T CallError → Type 0
 Reads wanted (Some value) result = result ≡ Ok value
 Reads wanted None result = result ≡ Err (WrongAnswer wanted)
+
+-- The number, character or truth value of a kind, as `Int`, or the error that names the type, exactly where there is none of the kind.
+abbrev pub ReadsValue : {T : Type 0} → (T → Value) → Wanted → Option Value → Result T CallError → Type 0
+ReadsValue {T} kind wanted value (Ok x) = value ≡ Some (kind x)
+ReadsValue {T} kind wanted value (Err error) = (error ≡ WrongAnswer wanted) × ((x : T) → value ≢ Some (kind x))
 
 -- The same of what a reference is viewed as; there may be no memory for that.
 abbrev pub ReadsAt : {T : Type 0} → (Slot → Option T) → Wanted → Option Slot → Result T CallError → Type 0

@@ -2,7 +2,8 @@
 ghost use Rattle.std.specs.Prelude.{◌≡◌, ◌≢◌, Err, option_map, IfSome};
 ghost use Rattle.java_shapes.specs.LiveRefs.{live_ref_at};
 ghost use Rattle.java_shapes.specs.Objects.{text_at};
-ghost use Rattle.rmi_caller.specs.Answers.{shape_error, Reads, ReadsAt, nothing_in, value_in, boolean_in, byte_in, char_in, short_in, int_in, long_in, nodes_in, slot_in};
+ghost use Rattle.rmi_caller.specs.Answers.{shape_error, Reads, ReadsAt, ReadsValue, nothing_in, value_in, nodes_in, slot_in};
+ghost use Rattle.ser_values.specs.declared.value.Value.TheVariants as values;
 ghost use Rattle.rmi_caller.specs.declared.error.Wanted.TheVariants as wanted_kinds;
 ghost use Rattle.rmi_caller.specs.declared.error.CallError.TheVariants as errors;
 
@@ -99,7 +100,7 @@ impl Answer {
 
     /// The `boolean` that the result is.
     pub fn boolean(&self) -> Result<bool, CallError>
-        ensures { Reads wanted_kinds.Boolean (boolean_in (value_in self.now.heard.body)) result }
+        ensures { ReadsValue values.Boolean wanted_kinds.Boolean (value_in self.now.heard.body) result }
     {
         match self.value() {
             Some(Value::Boolean(value)) => Ok(value),
@@ -109,7 +110,7 @@ impl Answer {
 
     /// The bits of the `byte` that the result is.
     pub fn byte(&self) -> Result<u8, CallError>
-        ensures { Reads wanted_kinds.Byte (byte_in (value_in self.now.heard.body)) result }
+        ensures { ReadsValue values.Byte wanted_kinds.Byte (value_in self.now.heard.body) result }
     {
         match self.value() {
             Some(Value::Byte(value)) => Ok(value),
@@ -119,7 +120,7 @@ impl Answer {
 
     /// The `char` that the result is.
     pub fn char(&self) -> Result<u16, CallError>
-        ensures { Reads wanted_kinds.Char (char_in (value_in self.now.heard.body)) result }
+        ensures { ReadsValue values.Char wanted_kinds.Char (value_in self.now.heard.body) result }
     {
         match self.value() {
             Some(Value::Char(value)) => Ok(value),
@@ -129,7 +130,7 @@ impl Answer {
 
     /// The `short` that the result is.
     pub fn short(&self) -> Result<i16, CallError>
-        ensures { Reads wanted_kinds.Short (short_in (value_in self.now.heard.body)) result }
+        ensures { ReadsValue values.Short wanted_kinds.Short (value_in self.now.heard.body) result }
     {
         match self.value() {
             Some(Value::Short(value)) => Ok(value),
@@ -139,7 +140,7 @@ impl Answer {
 
     /// The `int` that the result is.
     pub fn int(&self) -> Result<i32, CallError>
-        ensures { Reads wanted_kinds.Int (int_in (value_in self.now.heard.body)) result }
+        ensures { ReadsValue values.Int wanted_kinds.Int (value_in self.now.heard.body) result }
     {
         match self.value() {
             Some(Value::Int(value)) => Ok(value),
@@ -149,7 +150,7 @@ impl Answer {
 
     /// The `long` that the result is.
     pub fn long(&self) -> Result<i64, CallError>
-        ensures { Reads wanted_kinds.Long (long_in (value_in self.now.heard.body)) result }
+        ensures { ReadsValue values.Long wanted_kinds.Long (value_in self.now.heard.body) result }
     {
         match self.value() {
             Some(Value::Long(value)) => Ok(value),

@@ -19,6 +19,7 @@ use crate::text::units_of_text;
 use class_desc::{Item, Items, Slot};
 use java_shapes::{LiveRef, put_live_ref};
 use mod_utf::utf::encoded_len;
+use rmi_client::sent_ref;
 use sequence::ByteList;
 use ser_values::{BuildFault, Builder, Graph, Value};
 use ser_write::put_primitive;
@@ -56,18 +57,6 @@ fn put_text(alloc: Global, builder: &mut Builder, text: &str) -> Result<Slot, Bu
     ensures grown { OnOk result (Grows 16 builder.old builder.new) }
 {
     builder.text(units_of_text(alloc, text)?)
-}
-
-/// Returns a reference as it is sent in a call: it was not made for a result.
-fn sent_ref(alloc: Global, reference: &LiveRef) -> Result<LiveRef, AllocError>
-    ensures { IfOk result (λ sent. sent ≡ sent_ref reference.now) }
-{
-    Ok(LiveRef {
-        host: reference.host.copy(alloc)?,
-        port: reference.port,
-        id: reference.id,
-        result: false,
-    })
 }
 
 /// Puts a reference, as a proxy of an interface.

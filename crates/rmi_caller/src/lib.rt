@@ -24,7 +24,8 @@
 //!   moment, if any, and note what became of it (`leases`). So the numbers of lease calls rise
 //!   strictly (`dgc_client::laws::numbers_rise`).
 //! - `DialFault` comes only if the dialer's count of faults rose (`fault`).
-//! - Readers answer exactly if the result is of their type (`Reads`, `ReadsAt`).
+//! - Readers answer exactly if the result is of their type (`Reads`, `ReadsAt`,
+//!   `ReadsValue`).
 //!
 //! # What is not
 //!

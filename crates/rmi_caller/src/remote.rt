@@ -1,7 +1,7 @@
 //! Remote objects that a client holds.
 ghost use Rattle.std.specs.Prelude.{◌≡◌, ◌≢◌, ◌⊎◌, ◌∷◌, [], ℕ, ℤ, negsuc, List, false, true, Ok, Err, IfOk, IfErr, OnOk, OnErr};
 ghost use Rattle.wire_io.specs.Wire.{Gave, Rose};
-ghost use Rattle.dgc_client.specs.Log.{Registers, Drops, Dues, number_of};
+ghost use Rattle.dgc_client.specs.Log.{Registers, Drops, Dues};
 ghost use Rattle.dgc_client.specs.StandsForLog.{StandsFor, ForEachLog, is_usable_after, until_told};
 ghost use Rattle.object_ids.specs.Client.{Client as Holder};
 ghost use Rattle.rmi_client.specs.Sessions.{link_of};
@@ -23,6 +23,7 @@ use dgc_client::{ClientTable, MAX_GRANTED_MS, Plan};
 use java_shapes::LiveRef;
 use jrmp_frames::CallHead;
 use object_ids::{ObjId, Vmid};
+use rmi_client::number_of_plan;
 use std::alloc::Global;
 use wire_io::{Clock, Dialer};
 
@@ -225,11 +226,11 @@ impl<D: Dialer> Remote<D> {
             Ok(granted) => {
                 let now = self.clock.now();
                 self.table
-                    .answered(number_of(plan), granted.min(MAX_GRANTED_MS), now);
+                    .answered(number_of_plan(plan), granted.min(MAX_GRANTED_MS), now);
                 Ok(())
             }
             Err(end) => {
-                self.table.failed(number_of(plan));
+                self.table.failed(number_of_plan(plan));
                 Err(error_of(self.alloc, end))
             }
         }
@@ -270,19 +271,5 @@ fn head_of(object: &ObjId, prepared: &Prepared) -> CallHead
         id: *object,
         operation: -1,
         hash: prepared.hash,
-    }
-}
-
-/// The number of a lease call.
-fn number_of(plan: &Plan) -> i64
-    ensures { result ≡ number_of plan.now }
-{
-    match plan {
-        Plan::Dirty { number, ids: _ } => *number,
-        Plan::Clean {
-            number,
-            ids: _,
-            strong: _,
-        } => *number,
     }
 }

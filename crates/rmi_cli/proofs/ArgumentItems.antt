@@ -17,6 +17,7 @@ use Rattle.ser_values.specs.Fronts.{put_block}
 use Rattle.ser_values.specs.Renumber.{Renaming, item_by, node_by, node_or_by, place_in, reordered}
 use Rattle.ser_values.specs.Visits.{VisitAll, a_null, again, fresh, Visits}
 use Rattle.ser_values.proofs.FrontLaws.{put_wants}
+use Rattle.ser_values.proofs.Lists.{slice_get-append_seam}
 use Rattle.ser_write.specs.Canonical.{value_bytes}
 use Rattle.stream_grammar.specs.Spelled.{joined}
 use Rattle.rmi_words.specs.declared.call_words.Argument.{Argument}
@@ -33,26 +34,7 @@ put_both (x ∷ p) (y ∷ q) [] = refl
 put_both (x ∷ p) (y ∷ q) (items.Bytes r ∷ is) = ap (λ (b : List ℕ). items.Bytes b ∷ is) (append_assoc (x ∷ p) (y ∷ q) r)
 put_both (x ∷ p) (y ∷ q) (items.Ref s ∷ is) = refl
 
-put_apart : (p : List ℕ) (s : Slot) (more : List Item) → put_block p (items.Ref s ∷ more) ≡ put_block p [] ++ items.Ref s ∷ more
-put_apart [] s more = refl
-put_apart (x ∷ p) s more = refl
-
--- A run that is not empty becomes an item.
-pub run_ends : (is : List Item) (run : List ℕ) (new : List Item) → run ≢ [] → new ≡ is ++ items.Bytes run ∷ [] → new ≡ is ++ put_block run []
-run_ends is [] new some is_new = absurd (some refl)
-run_ends is (x ∷ run) new some is_new = is_new
-
--- One that is empty becomes none.
-pub no_run : (is : List Item) (run : List ℕ) → run ≡ [] → is ≡ is ++ put_block run []
-no_run is run none = rw none (sym (append-nil is))
-
 -- ---- one argument more
-
-pub string_added : (is : List Item) (run : List ℕ) (s : Slot) (mid new : List Item) → mid ≡ is ++ put_block run [] → new ≡ mid ++ items.Ref s ∷ []
-    → (more : List Item) → new ++ more ≡ is ++ put_block run (items.Ref s ∷ more)
-string_added is run s mid new ended added more =
-    ap (λ (l : List Item). l ++ more) added ∙ append_assoc mid (items.Ref s ∷ []) more ∙ ap (λ (l : List Item). l ++ items.Ref s ∷ more) ended
-    ∙ append_assoc is (put_block run []) (items.Ref s ∷ more) ∙ ap (λ (l : List Item). is ++ l) (sym (put_apart run s more))
 
 pub add_number : (draft : ItemDraft) (a : Argument) (v : Value) (run : List ℕ) → a ≡ Prim v → run ≡ draft.run ++ value_bytes v
     → (more : List Argument) → with_arguments (record draft { run = run }) more ≡ with_arguments draft (a ∷ more)
@@ -144,10 +126,6 @@ wants_are k [] = refl
 wants_are k (Prim v ∷ more) = put_wants (value_bytes v) (joined (answers_from k more)) ∙ wants_are k more
 wants_are k (Text t ∷ more) = ap (λ (l : List Want). (Reference, slots.Node k) ∷ l) (wants_are (suc k) more)
 
-seam : (front rest : List Node) (i : Node) → slice_get (front ++ i ∷ rest) (length front) ≡ Some i
-seam [] rest i = refl
-seam (x ∷ front) rest i = seam front rest i
-
 -- A string gets the next number.
 string_visited : (loose : List Node) (d k : ℕ) (t : List ℕ) (order order2 : List ℕ) → slice_get loose k ≡ Some (nodes.Text t) → has order k ≡ false
     → Visits loose (suc d) [] (Reference, slots.Node k) order order2 → order2 ≡ order ++ k ∷ []
@@ -170,7 +148,7 @@ visited d k front [] order order2 long is all = all ∙ is ∙ ap (upto 0) (omeg
 visited d k front (Prim v ∷ more) order order2 long is all = visited d k front more order order2 long is all
 visited d k front (Text t ∷ more) order order2 long is (mid, one, all) =
     let loose = front ++ nodes.Text t ∷ argument_nodes more in
-    let here : slice_get loose k ≡ Some (nodes.Text t) = subst (λ n. slice_get loose n ≡ Some (nodes.Text t)) long (seam front (argument_nodes more) (nodes.Text t)) in
+    let here : slice_get loose k ≡ Some (nodes.Text t) = subst (λ n. slice_get loose n ≡ Some (nodes.Text t)) long (slice_get-append_seam front (nodes.Text t) (argument_nodes more)) in
     let new : has order k ≡ false = ap (λ (o : List ℕ). has o k) is ∙ beyond 0 k k (omega arith) in
     let next : mid ≡ upto 0 (suc k) = string_visited loose d k t order mid here new one ∙ ap (λ (o : List ℕ). o ++ k ∷ []) is ∙ ap (λ (j : ℕ). upto 0 k ++ j ∷ []) (omega arith) ∙ upto_more 0 k in
     let whole : loose ≡ (front ++ nodes.Text t ∷ []) ++ argument_nodes more = sym (append_assoc front (nodes.Text t ∷ []) (argument_nodes more)) in
@@ -186,7 +164,7 @@ in_order f front [] = refl
 in_order f front (Prim v ∷ more) = in_order f front more
 in_order f front (Text t ∷ more) =
     let loose = front ++ nodes.Text t ∷ argument_nodes more in
-    let one : node_or_by f (slice_get loose (length front)) ≡ nodes.Text t = ap (node_or_by f) (seam front (argument_nodes more) (nodes.Text t)) in
+    let one : node_or_by f (slice_get loose (length front)) ≡ nodes.Text t = ap (node_or_by f) (slice_get-append_seam front (nodes.Text t) (argument_nodes more)) in
     let whole : loose ≡ (front ++ nodes.Text t ∷ []) ++ argument_nodes more = sym (append_assoc front (nodes.Text t ∷ []) (argument_nodes more)) in
     let longer : suc (length front) ≡ length (front ++ nodes.Text t ∷ []) = omega (arith, length-append front (nodes.Text t ∷ [])) in
     let rest : map (λ j. node_or_by f (slice_get loose j)) (upto (suc (length front)) (length (argument_nodes more))) ≡ argument_nodes more =

@@ -5,6 +5,7 @@ use Rattle.ser_values.specs.declared.node.Node.{Node}
 use Rattle.stream_grammar.specs.Spelled.{IsStream}
 use Rattle.stream_grammar.specs.Reading.{Fault, short, bad, too_many, too_deep, stream_of}
 use Rattle.stream_grammar.proofs.Complete.{stream_complete}
+use Rattle.stream_grammar.proofs.Sound.{Answer}
 use Rattle.ser_read.specs.declared.fault.StreamKind.{StreamKind}
 use Rattle.ser_read.specs.declared.fault.StreamKind.TheVariants as kinds
 use Rattle.ser_read.specs.declared.fault.StreamFault.{StreamFault}
@@ -14,18 +15,19 @@ use Rattle.ser_read.specs.Here.{Fails, IsInBytes, kind_of}
 use Rattle.ser_read.specs.Whole.{stream_at, going_on}
 use Rattle.graph_text.specs.GraphText.{graph_text}
 use Rattle.wire_io.specs.Wire.{Wires, with_end}
+use Rattle.rmi_client.specs.Ends.{stream_kind}
 use Rattle.rmi_cli.specs.declared.end.RunEnd.{RunEnd}
 use Rattle.rmi_cli.specs.declared.end.RunEnd.TheVariants as ends
 use Rattle.rmi_cli.specs.Answer.{IsOutsideStatus}
 use Rattle.rmi_cli.specs.Line.{status_of_fault}
 use Rattle.ser_values.specs.declared.limits.TheConstants.{MESSAGE_BYTES}
-use Rattle.rmi_cli.specs.Shown.{TakesGraph, ShowEnds, told_kind, told_fault, EndsExactly, ShowsExactly}
+use Rattle.rmi_cli.specs.Shown.{TakesGraph, ShowEnds, told_fault, EndsExactly, ShowsExactly}
 use Rattle.rmi_cli.specs.Told.{Reported, TellsExactly, TellsEnd}
 use Rattle.rmi_cli.proofs.Once.{whole_is}
 
 -- ---- faults
 
-same_kind : (kind : StreamKind) → IsInBytes kind → told_kind (kind_of kind) ≡ kind
+same_kind : (kind : StreamKind) → IsInBytes kind → stream_kind (kind_of kind) ≡ kind
 same_kind kinds.BadMagic is = refl
 same_kind kinds.BadCode is = refl
 same_kind kinds.BadHandle is = refl
@@ -70,9 +72,6 @@ read_or_outside after (faults.TooLarge Depth at) y is = absurd (no_stop y (too_d
 read_or_outside after (faults.Bad kind at) y is = absurd (no_stop y (bad (kind_of kind) at) is.0)
 
 -- ---- the whole input
-
-abbrev Answer : Type 0
-Answer = List Node × List Item
 
 record TookAll (left : Option (List ℕ)) (nodes : List Node) (items : List Item) (input : List ℕ) : Type 0 where
   within : length input ≤ MESSAGE_BYTES

@@ -1,6 +1,7 @@
 -- What a world's script comes to is determined by the script.
 use Rattle.std.proofs.Common.{◌≡◌, ◌≢◌, ℕ, ◌≤◌, ◌<◌, List, [], length, Some, Result, Ok, Err, ◌⊎◌, inl, inr, ap, sym, subst, ◌∙◌, arith}
-use Rattle.lease_world.proofs.Scripts.{comes_once}
+use Rattle.lease_world.proofs.Scripts.{comes_once, failed}
+use Rattle.lease_world.specs.Script.{ComesTo}
 use Rattle.lease_world.specs.declared.fault.WorldFault.{WorldFault}
 use Rattle.lease_world.specs.declared.fault.WorldFault.TheVariants as faults
 use Rattle.wire_io.specs.Wire.{Wires, with_end, with_end-nothing}
@@ -11,15 +12,12 @@ use Rattle.rmi_cli.specs.Answer.{IsOutsideStatus}
 use Rattle.rmi_cli.specs.Replayed.{TakesWhole}
 use Rattle.rmi_cli.specs.Told.{Reported, TellsExactly, TellsEnd}
 use Rattle.rmi_cli.specs.Line.{status_of_run}
-use Rattle.rmi_cli.specs.Worlds.{ComesTo, MakesWorldExactly, PrintsKeptWorld, StopsSo, WorldEnds, end_of, end_of_fault, text_of}
+use Rattle.rmi_cli.specs.Worlds.{MakesWorldExactly, PrintsKeptWorld, StopsSo, WorldEnds, end_of, end_of_fault, text_of}
 use Rattle.rmi_cli.proofs.Once.{all_taken, front_short, no_room}
 
 -- The end is told as the answer's.
 abbrev Ends : Wires → Wires → Reported → Result (List ℕ) WorldFault → Type 0
 Ends old new told answer = TellsExactly told (end_of answer) × (new.left ≡ Some []) × (new.held ≡ with_end old.held (text_of answer))
-
-abbrev failed : WorldFault → Result (List ℕ) WorldFault
-failed fault = Err fault
 
 abbrev printed : List ℕ → Result (List ℕ) WorldFault
 printed text = Ok text

@@ -7,15 +7,14 @@ use Rattle.ser_values.specs.declared.limits.TheConstants.{MESSAGE_BYTES, PARTS}
 use Rattle.ser_values.specs.declared.node.Node.{Node}
 use Rattle.ser_values.specs.Shape.{refs_in, parts_in}
 use Rattle.stream_grammar.specs.Spelled.{IsStream}
-use Rattle.stream_grammar.specs.Reading.{stream_of, Fault, short, bad, too_many, too_deep, FaultKind, bad_magic, bad_code, bad_handle, wrong_handle_kind, bad_desc, bad_utf, negative_length, reset, inner_exception, old_external}
+use Rattle.stream_grammar.specs.Reading.{stream_of, Fault, short, bad, too_many, too_deep}
 use Rattle.ser_read.specs.declared.fault.StreamFault.{StreamFault}
 use Rattle.ser_read.specs.declared.fault.StreamFault.TheVariants as faults
 use Rattle.ser_read.specs.declared.fault.Large.TheVariants.{Bytes, Nodes, Depth}
-use Rattle.ser_read.specs.declared.fault.StreamKind.{StreamKind}
-use Rattle.ser_read.specs.declared.fault.StreamKind.TheVariants as kinds
 use Rattle.ser_read.specs.Here.{Fails}
 use Rattle.ser_read.specs.Whole.{stream_at, going_on, BreaksWhole}
 use Rattle.graph_text.specs.GraphText.{graph_text}
+use Rattle.rmi_client.specs.Ends.{stream_kind}
 use Rattle.rmi_cli.specs.Answer.{IsOutsideStatus}
 use Rattle.rmi_cli.specs.Line.{status_of_run}
 use Rattle.rmi_cli.specs.Told.{Failures, Ran, Reported, TellsExactly}
@@ -69,23 +68,10 @@ ShowEnds old new OutOfMemory = (nodes : List Node) × (items : List Item) × Tak
 abbrev pub ShowsInput : Wires → Wires → Failures → Failures → Reported → Type 0
 ShowsInput old new = Ran (ShowEnds old new)
 
--- How what is wrong in the bytes of a stream is named.
-abbrev pub told_kind : FaultKind → StreamKind
-told_kind bad_magic = kinds.BadMagic
-told_kind bad_code = kinds.BadCode
-told_kind bad_handle = kinds.BadHandle
-told_kind wrong_handle_kind = kinds.WrongHandleKind
-told_kind bad_desc = kinds.BadDesc
-told_kind bad_utf = kinds.BadUtf
-told_kind negative_length = kinds.NegativeLength
-told_kind reset = kinds.Reset
-told_kind inner_exception = kinds.InnerException
-told_kind old_external = kinds.OldExternal
-
 -- The fault that is told where reading stops at one; `after` is the fault of who wants one byte more.
 abbrev pub told_fault : StreamFault → Fault → StreamFault
 told_fault after short = after
-told_fault after (bad kind at) = faults.Bad (told_kind kind) at
+told_fault after (bad kind at) = faults.Bad (stream_kind kind) at
 told_fault after (too_many at) = faults.TooLarge Nodes at
 told_fault after (too_deep at) = faults.TooLarge Depth at
 

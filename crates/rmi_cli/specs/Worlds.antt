@@ -1,6 +1,6 @@
 -- What `rmi world` takes and writes.
 use Rattle.std.specs.Prelude.{◌≡◌, ◌≢◌, ℕ, ◌+◌, ◌<◌, ◌≤◌, ◌⊎◌, List, [], length, take, Some, Result, Ok, Err}
-use Rattle.lease_world.specs.Script.{IsPlayed, IsPrinted, IsStopped, end_text}
+use Rattle.lease_world.specs.Script.{ComesTo, IsPlayed, end_text}
 use Rattle.lease_world.specs.World.{Course, WorldKeepsPromise, world}
 use Rattle.lease_world.specs.declared.fault.WorldFault.{WorldFault}
 use Rattle.lease_world.specs.declared.fault.WorldFault.TheVariants as faults
@@ -12,12 +12,6 @@ use Rattle.rmi_cli.specs.Told.{Failures, Ran, Reported, TellsExactly}
 use Rattle.rmi_cli.specs.declared.journal_input.TheConstants.{JOURNAL_BYTES}
 use Rattle.rmi_cli.specs.declared.end.RunEnd.{RunEnd}
 use Rattle.rmi_cli.specs.declared.end.RunEnd.TheVariants.{Done, Usage, Answered, Talked, BadLine, Refused, TooLarge, NotShown, ListenFault, AcceptFault, ReadFault, WriteFault, OutOfMemory}
-
--- What a script comes to: the end of a world, which is printed, or a fault. In the world that is printed each object that is promised to a client is
--- exported. Want of memory says nothing of the script.
-abbrev pub ComesTo : List ℕ → Result (List ℕ) WorldFault → Type 0
-ComesTo script (Ok text) = IsPrinted script text
-ComesTo script (Err fault) = IsStopped script fault
 
 -- How a run ends where a script has this fault. A script's bad step is a bad line.
 abbrev pub end_of_fault : WorldFault → RunEnd

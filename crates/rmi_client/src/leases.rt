@@ -1,5 +1,6 @@
 //! Lease calls of the collector (Java RMI Specification, 9.1).
 ghost use Rattle.std.specs.Prelude.{◌≡◌, option_map, true, false, None, Some, Err};
+ghost use Rattle.dgc_client.specs.Log.{number_of};
 ghost use Rattle.java_shapes.specs.Ids.{lease_at};
 ghost use Rattle.java_shapes.specs.ViewAnswers.{Views};
 ghost use Rattle.rmi_client.specs.Ends.{is_end};
@@ -48,6 +49,20 @@ fn granted_in(alloc: Global, answer: &Answer, at: u64) -> Result<u64, ClientEnd>
     match lease_of(alloc, &answer.body) {
         Ok(lease) => Ok(granted_ms(&lease.value)),
         Err(fault) => Err(shape_end(fault, at)),
+    }
+}
+
+/// Returns the number of a plan's lease call.
+pub fn number_of_plan(plan: &Plan) -> i64
+    ensures { result ≡ number_of plan.now }
+{
+    match plan {
+        Plan::Dirty { number, ids: _ } => *number,
+        Plan::Clean {
+            number,
+            ids: _,
+            strong: _,
+        } => *number,
     }
 }
 

@@ -45,5 +45,7 @@ mod session;
 
 pub use end::{ClientEnd, ReplyKind};
 pub use hear::{hear_ack, hear_answer, hear_ping};
+pub use leases::number_of_plan;
 pub use reply::Answer;
+pub use requests::sent_ref;
 pub use session::{Refusal, Session};

@@ -100,8 +100,8 @@ pub(crate) fn list_call(alloc: Global) -> Result<ByteList, BuildFault>
     )
 }
 
-/// A reference as a client sends it.
-fn sent_ref(alloc: Global, reference: &LiveRef) -> Result<LiveRef, AllocError>
+/// Returns a reference as it is sent in a call: it was not made for a result.
+pub fn sent_ref(alloc: Global, reference: &LiveRef) -> Result<LiveRef, AllocError>
     ensures { IfOk result (λ sent. sent ≡ sent_ref reference.now) }
 {
     Ok(LiveRef {

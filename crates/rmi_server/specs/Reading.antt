@@ -1,5 +1,5 @@
 -- What a service reads of a call's arguments.
-use Rattle.std.specs.Prelude.{◌≡◌, ◌⊎◌, ℕ, ℤ, Bool, List, [], ◌∷◌, slice_get, Option, Some, None, Result, Ok, Err}
+use Rattle.std.specs.Prelude.{◌≡◌, ◌≢◌, ◌⊎◌, ℕ, List, [], ◌∷◌, slice_get, Option, Some, None, Result, Ok, Err}
 use Rattle.class_desc.specs.declared.slot.Slot.{Slot}
 use Rattle.class_desc.specs.declared.slot.Item.TheVariants as contents
 use Rattle.java_shapes.specs.declared.fault.ShapeFault.{ShapeFault}
@@ -7,7 +7,6 @@ use Rattle.java_shapes.specs.declared.fault.ShapeFault.TheVariants as shapes
 use Rattle.jrmp_frames.specs.declared.arguments.Arg.{Arg}
 use Rattle.jrmp_frames.specs.declared.arguments.Arg.TheVariants as arguments
 use Rattle.ser_values.specs.declared.value.Value.{Value}
-use Rattle.ser_values.specs.declared.value.Value.TheVariants.{Boolean, Byte, Char, Short, Int, Long}
 use Rattle.ser_values.specs.declared.node.Node.{Node}
 use Rattle.ser_values.specs.declared.graph.Graph.{Graph}
 use Rattle.ser_values.specs.Finished.{IsGraphOf, IsOrder}
@@ -35,48 +34,6 @@ slot_in _ = None
 abbrev pub slot_at : List Arg → ℕ → Option Slot
 slot_at args place = slot_in (slice_get args place)
 
-abbrev pub boolean_in : Option Value → Option Bool
-boolean_in (Some (Boolean value)) = Some value
-boolean_in _ = None
-
-abbrev pub byte_in : Option Value → Option ℕ
-byte_in (Some (Byte value)) = Some value
-byte_in _ = None
-
-abbrev pub char_in : Option Value → Option ℕ
-char_in (Some (Char value)) = Some value
-char_in _ = None
-
-abbrev pub short_in : Option Value → Option ℤ
-short_in (Some (Short value)) = Some value
-short_in _ = None
-
-abbrev pub int_in : Option Value → Option ℤ
-int_in (Some (Int value)) = Some value
-int_in _ = None
-
-abbrev pub long_in : Option Value → Option ℤ
-long_in (Some (Long value)) = Some value
-long_in _ = None
-
-abbrev pub boolean_at : List Arg → ℕ → Option Bool
-boolean_at args place = boolean_in (value_at args place)
-
-abbrev pub byte_at : List Arg → ℕ → Option ℕ
-byte_at args place = byte_in (value_at args place)
-
-abbrev pub char_at : List Arg → ℕ → Option ℕ
-char_at args place = char_in (value_at args place)
-
-abbrev pub short_at : List Arg → ℕ → Option ℤ
-short_at args place = short_in (value_at args place)
-
-abbrev pub int_at : List Arg → ℕ → Option ℤ
-int_at args place = int_in (value_at args place)
-
-abbrev pub long_at : List Arg → ℕ → Option ℤ
-long_at args place = long_in (value_at args place)
-
 -- What the reference reaches of these nodes is no graph: a rule of graphs is broken, or it is too deep.
 abbrev pub IsNoGraph : List Node → Slot → Type 0
 IsNoGraph nodes slot = (order : List ℕ) → ¬ IsOrder nodes LEVELS (contents.Ref slot ∷ []) order
@@ -87,6 +44,11 @@ IsNoGraph nodes slot = (order : List ℕ) → ¬ IsOrder nodes LEVELS (contents.
 abbrev pub Reads : {T : Type 0} → Wanted → ℕ → Option T → Result T CallFault → Type 0
 Reads wanted place (Some value) result = result ≡ Ok value
 Reads wanted place None result = result ≡ Err (WrongArgument place wanted)
+
+-- The number, character or truth value of a kind, as `Int`, or the fault that names the place and the type, exactly where there is none of the kind.
+abbrev pub ReadsValue : {T : Type 0} → (T → Value) → Wanted → ℕ → Option Value → Result T CallFault → Type 0
+ReadsValue {T} kind wanted place value (Ok x) = value ≡ Some (kind x)
+ReadsValue {T} kind wanted place value (Err fault) = (fault ≡ WrongArgument place wanted) × ((x : T) → value ≢ Some (kind x))
 
 -- The same of what a reference is viewed as; there may be no memory for that.
 abbrev pub ReadsAt : {T : Type 0} → (Slot → Option T) → Wanted → ℕ → Option Slot → Result T CallFault → Type 0

@@ -2,7 +2,8 @@
 ghost use Rattle.std.specs.Prelude.{◌≡◌};
 ghost use Rattle.java_shapes.specs.LiveRefs.{live_ref_at};
 ghost use Rattle.java_shapes.specs.Objects.{text_at};
-ghost use Rattle.rmi_server.specs.Reading.{Reads, ReadsAt, ReadsGraph, boolean_at, byte_at, char_at, int_at, long_at, short_at, slot_at, shape_fault, value_at};
+ghost use Rattle.rmi_server.specs.Reading.{ReadsAt, ReadsGraph, ReadsValue, slot_at, shape_fault, value_at};
+ghost use Rattle.ser_values.specs.declared.value.Value.TheVariants as values;
 ghost use Rattle.rmi_server.specs.declared.fault.Wanted.TheVariants as wanted_kinds;
 
 use crate::fault::{CallFault, Wanted};
@@ -78,8 +79,8 @@ impl Call<'_> {
 
     /// The `boolean` at a place. WrongArgument comes exactly where there is none.
     pub fn boolean(&self, place: usize) -> Result<bool, CallFault>
-        ensures { Reads wanted_kinds.Boolean place
-            (boolean_at self.now.invocation.now.arguments.values place) result }
+        ensures { ReadsValue values.Boolean wanted_kinds.Boolean place
+            (value_at self.now.invocation.now.arguments.values place) result }
     {
         match self.value(place) {
             Some(Value::Boolean(value)) => Ok(value),
@@ -89,8 +90,8 @@ impl Call<'_> {
 
     /// The bits of the `byte` at a place. WrongArgument comes exactly where there is none.
     pub fn byte(&self, place: usize) -> Result<u8, CallFault>
-        ensures { Reads wanted_kinds.Byte place
-            (byte_at self.now.invocation.now.arguments.values place) result }
+        ensures { ReadsValue values.Byte wanted_kinds.Byte place
+            (value_at self.now.invocation.now.arguments.values place) result }
     {
         match self.value(place) {
             Some(Value::Byte(value)) => Ok(value),
@@ -100,8 +101,8 @@ impl Call<'_> {
 
     /// The `char` at a place. WrongArgument comes exactly where there is none.
     pub fn char(&self, place: usize) -> Result<u16, CallFault>
-        ensures { Reads wanted_kinds.Char place
-            (char_at self.now.invocation.now.arguments.values place) result }
+        ensures { ReadsValue values.Char wanted_kinds.Char place
+            (value_at self.now.invocation.now.arguments.values place) result }
     {
         match self.value(place) {
             Some(Value::Char(value)) => Ok(value),
@@ -111,8 +112,8 @@ impl Call<'_> {
 
     /// The `short` at a place. WrongArgument comes exactly where there is none.
     pub fn short(&self, place: usize) -> Result<i16, CallFault>
-        ensures { Reads wanted_kinds.Short place
-            (short_at self.now.invocation.now.arguments.values place) result }
+        ensures { ReadsValue values.Short wanted_kinds.Short place
+            (value_at self.now.invocation.now.arguments.values place) result }
     {
         match self.value(place) {
             Some(Value::Short(value)) => Ok(value),
@@ -122,8 +123,8 @@ impl Call<'_> {
 
     /// The `int` at a place. WrongArgument comes exactly where there is none.
     pub fn int(&self, place: usize) -> Result<i32, CallFault>
-        ensures { Reads wanted_kinds.Int place
-            (int_at self.now.invocation.now.arguments.values place) result }
+        ensures { ReadsValue values.Int wanted_kinds.Int place
+            (value_at self.now.invocation.now.arguments.values place) result }
     {
         match self.value(place) {
             Some(Value::Int(value)) => Ok(value),
@@ -133,8 +134,8 @@ impl Call<'_> {
 
     /// The `long` at a place. WrongArgument comes exactly where there is none.
     pub fn long(&self, place: usize) -> Result<i64, CallFault>
-        ensures { Reads wanted_kinds.Long place
-            (long_at self.now.invocation.now.arguments.values place) result }
+        ensures { ReadsValue values.Long wanted_kinds.Long place
+            (value_at self.now.invocation.now.arguments.values place) result }
     {
         match self.value(place) {
             Some(Value::Long(value)) => Ok(value),

@@ -42,11 +42,10 @@ plain_by : (w : List ℕ) → (get_or w 0 0 ≡ 45 → ⊥) → is_option w ≡ 
 plain_by [] never = refl
 plain_by (x ∷ xs) never = not_true (x == 45) (λ e. never ((Decides-eqb x 45).0 e))
 
-own : IsNumeralModel (AllDigits 10) (digits_value 10)
-own = numerals_by_value (AllDigits 10) tells_digits
-
 plain_number : (n : ℕ) → n < 2 ^ 64 → is_option (decimal n) ≡ false
-plain_number n fits = plain_by (decimal n) (not_in_digits own (decimal n) 45 (digits_decimal own n fits) (λ h. omega (arith, h)) 0 (decimal_nonempty n fits))
+plain_number n fits =
+    let model : IsNumeralModel (AllDigits 10) (digits_value 10) = numerals_by_value (AllDigits 10) tells_digits in
+    plain_by (decimal n) (not_in_digits model (decimal n) 45 (digits_decimal model n fits) (λ h. omega (arith, h)) 0 (decimal_nonempty n fits))
 
 plain_spelled : (most n : ℕ) (w : List ℕ) → most < 2 ^ 64 → SpellsUpTo most n w → is_option w ≡ false
 plain_spelled most n w short spells = ap is_option spells.2 ∙ plain_number n (omega (arith, spells.1, short))

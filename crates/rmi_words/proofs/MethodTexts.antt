@@ -15,21 +15,18 @@ use Rattle.rmi_words.specs.CallWords.{IsMethodIn, IsMethodOf, is_printed, is_sai
 
 -- ---- lists that end at a mark
 
-head_is : (b c : ℕ) (t u : List ℕ) → b ∷ t ≡ c ∷ u → b ≡ c
-head_is b c t u e = cc
-
-tail_is : (b c : ℕ) (t u : List ℕ) → b ∷ t ≡ c ∷ u → t ≡ u
-tail_is b c t u e = cc
+same_front : {b c : ℕ} {t u : List ℕ} → b ∷ t ≡ c ∷ u → (b ≡ c) × (t ≡ u)
+same_front e = (cc, cc)
 
 -- The front that passes a test, up to a mark that doesn't, is one.
 until : (test : ℕ → Bool) (m : ℕ) → test m ≡ false → (xs ys t u : List ℕ) → AllByRecursion (λ b. test b ≡ true) xs → AllByRecursion (λ b. test b ≡ true) ys
     → xs ++ m ∷ t ≡ ys ++ m ∷ u → (xs ≡ ys) × (t ≡ u)
-until test m fails [] [] t u a b e = (refl, tail_is m m t u e)
-until test m fails [] (y ∷ ys) t u a b e = absurd (true≢false (sym b.0 ∙ ap test (sym (head_is m y _ _ e)) ∙ fails))
-until test m fails (x ∷ xs) [] t u a b e = absurd (true≢false (sym a.0 ∙ ap test (head_is x m _ _ e) ∙ fails))
+until test m fails [] [] t u a b e = (refl, (same_front e).1)
+until test m fails [] (y ∷ ys) t u a b e = absurd (true≢false (sym b.0 ∙ ap test (sym ((same_front e).0)) ∙ fails))
+until test m fails (x ∷ xs) [] t u a b e = absurd (true≢false (sym a.0 ∙ ap test ((same_front e).0) ∙ fails))
 until test m fails (x ∷ xs) (y ∷ ys) t u a b e =
-    let rest = until test m fails xs ys t u a.1 b.1 (tail_is x y _ _ e) in
-    (ap₂ (λ z zs. z ∷ zs) (head_is x y _ _ e) rest.0, rest.1)
+    let rest = until test m fails xs ys t u a.1 b.1 (same_front e).1 in
+    (ap₂ (λ z zs. z ∷ zs) (same_front e).0 rest.0, rest.1)
 
 -- ---- types
 
@@ -82,14 +79,14 @@ type_ends (c ∷ t) [] r s a b e = absurd b
 type_ends (c ∷ t) (d ∷ u) r s a b e =
     let first = kind_of c t a in
     let second = kind_of d u b in
-    let same : first.0 ≡ second.0 = one_letter first.0 second.0 (sym first.1 ∙ head_is c d _ _ e ∙ second.1) in
-    tail_ends first.0 t u r s (type_ends t u r s) first.2 (subst (λ code. IsTail code u) (sym same) second.2) (tail_is c d _ _ e)
+    let same : first.0 ≡ second.0 = one_letter first.0 second.0 (sym first.1 ∙ (same_front e).0 ∙ second.1) in
+    tail_ends first.0 t u r s (type_ends t u r s) first.2 (subst (λ code. IsTail code u) (sym same) second.2) (same_front e).1
 
 one_type : (a b : TypeCode) (t u r s : List ℕ) → HasType a t → HasType b u → t ++ r ≡ u ++ s → (a ≡ b) × (r ≡ s)
 one_type a b t u r s x y e =
     let spelled : letter a ∷ (x.0 ++ r) ≡ letter b ∷ (y.0 ++ s) = ap (λ l. l ++ r) (sym x.1) ∙ e ∙ ap (λ l. l ++ s) y.1 in
-    let same : a ≡ b = one_letter a b (head_is _ _ _ _ spelled) in
-    (same, tail_ends a x.0 y.0 r s (type_ends x.0 y.0 r s) x.2 (subst (λ code. IsTail code y.0) (sym same) y.2) (tail_is _ _ _ _ spelled))
+    let same : a ≡ b = one_letter a b (same_front spelled).0 in
+    (same, tail_ends a x.0 y.0 r s (type_ends x.0 y.0 r s) x.2 (subst (λ code. IsTail code y.0) (sym same) y.2) (same_front spelled).1)
 
 no_letter : (n : ℕ) (code : TypeCode) → code_of n ≡ None → n ≡ letter code → ⊥
 no_letter n code none e = let both : None ≡ Some code = sym none ∙ ap code_of e ∙ letter_code code in cc
@@ -98,15 +95,15 @@ no_letter n code none e = let both : None ≡ Some code = sym none ∙ ap code_o
 
 one_types : (ps qs : List TypeCode) (t u r s : List ℕ) → AreTypes ps t → AreTypes qs u → t ++ 0x29 ∷ r ≡ u ++ 0x29 ∷ s → (ps ≡ qs) × (r ≡ s)
 one_types [] [] t u r s x y e =
-    (refl, tail_is _ _ _ _ (ap (λ l. l ++ 0x29 ∷ r) (sym x) ∙ e ∙ ap (λ l. l ++ 0x29 ∷ s) y))
+    (refl, (same_front (ap (λ l. l ++ 0x29 ∷ r) (sym x) ∙ e ∙ ap (λ l. l ++ 0x29 ∷ s) y)).1)
 one_types [] (q ∷ qs) t u r s x y e =
     let spelled : 0x29 ∷ r ≡ letter q ∷ ((y.2.0 ++ y.1) ++ 0x29 ∷ s) =
     ap (λ l. l ++ 0x29 ∷ r) (sym x) ∙ e ∙ ap (λ l. l ++ 0x29 ∷ s) (y.4 ∙ ap (λ l. l ++ y.1) y.2.1) in
-    absurd (no_letter 0x29 q refl (head_is _ _ _ _ spelled))
+    absurd (no_letter 0x29 q refl (same_front spelled).0)
 one_types (p ∷ ps) [] t u r s x y e =
     let spelled : 0x29 ∷ s ≡ letter p ∷ ((x.2.0 ++ x.1) ++ 0x29 ∷ r) =
     ap (λ l. l ++ 0x29 ∷ s) (sym y) ∙ sym e ∙ ap (λ l. l ++ 0x29 ∷ r) (x.4 ∙ ap (λ l. l ++ x.1) x.2.1) in
-    absurd (no_letter 0x29 p refl (head_is _ _ _ _ spelled))
+    absurd (no_letter 0x29 p refl (same_front spelled).0)
 one_types (p ∷ ps) (q ∷ qs) t u r s x y e =
     let parted : x.0 ++ (x.1 ++ 0x29 ∷ r) ≡ y.0 ++ (y.1 ++ 0x29 ∷ s) =
     sym (append_assoc x.0 x.1 (0x29 ∷ r)) ∙ ap (λ l. l ++ 0x29 ∷ r) (sym x.4) ∙ e ∙ ap (λ l. l ++ 0x29 ∷ s) y.4 ∙ append_assoc y.0 y.1 (0x29 ∷ s) in
@@ -116,8 +113,8 @@ one_types (p ∷ ps) (q ∷ qs) t u r s x y e =
 
 one_result : (a b : Option TypeCode) (t u : List ℕ) → Returns a t → Returns b u → t ≡ u → a ≡ b
 one_result None None t u x y e = refl
-one_result None (Some b) t u x y e = absurd (no_letter 0x56 b refl (head_is _ _ _ _ (sym x ∙ e ∙ y.1)))
-one_result (Some a) None t u x y e = absurd (no_letter 0x56 a refl (head_is _ _ _ _ (sym y ∙ sym e ∙ x.1)))
+one_result None (Some b) t u x y e = absurd (no_letter 0x56 b refl (same_front (sym x ∙ e ∙ y.1)).0)
+one_result (Some a) None t u x y e = absurd (no_letter 0x56 a refl (same_front (sym y ∙ sym e ∙ x.1)).0)
 one_result (Some a) (Some b) t u x y e = ap Some (one_type a b t u [] [] x y (ap (λ l. l ++ []) e)).0
 
 -- ---- methods

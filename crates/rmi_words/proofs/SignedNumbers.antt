@@ -7,12 +7,11 @@ use Rattle.std.proofs.lemmas.Str.Parse.{IsNumeralModel, numerals_by_value, tells
 use Rattle.std.proofs.lemmas.Fmt.{decimal_nonempty, decimal_injective, digits_decimal}
 use Rattle.rmi_words.specs.CallWords.{SpellsNumber, number_word}
 
-own : IsNumeralModel (AllDigits 10) (digits_value 10)
-own = numerals_by_value (AllDigits 10) tells_digits
-
 -- Digits begin with no tilde.
 no_tilde : (n : ℕ) → n < 2 ^ 64 → get_or (decimal n) 0 0 ≢ 126
-no_tilde n fits = not_in_digits own (decimal n) 126 (digits_decimal own n fits) (λ h. omega (arith, h)) 0 (decimal_nonempty n fits)
+no_tilde n fits =
+    let model : IsNumeralModel (AllDigits 10) (digits_value 10) = numerals_by_value (AllDigits 10) tells_digits in
+    not_in_digits model (decimal n) 126 (digits_decimal model n fits) (λ h. omega (arith, h)) 0 (decimal_nonempty n fits)
 
 -- What a tilde and digits spell.
 pub negative_word : (word digits : List ℕ) (first : ℕ) → word ≡ first ∷ digits → get_or word 0 0 ≡ 126 → (n : ℤ) → SpellsNumber w64 n word

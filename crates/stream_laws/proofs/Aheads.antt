@@ -1,6 +1,6 @@
 -- What comes where block data or a reference is wanted, by cases that other crates may name.
 use Rattle.std.proofs.Common.{◌≡◌, ◌≢◌, ◌⊎◌, ◌<◌, ◌≤◌, ◌+◌, ◌-◌, ◌^◌, ℕ, zero, suc, Bool, true, false, cond, eqb, List, [], ◌∷◌, ◌++◌, length, Result, Ok, Err, refl, sym, ap, subst, ◌∙◌, append_assoc, arith, inl, inr}
-use Rattle.std.proofs.lemmas.Bool.{eqb-true, eqb-false, ne_eqb}
+use Rattle.std.proofs.lemmas.Bool.{cases_Bool, eqb-true, eqb-false, ne_eqb}
 use Rattle.std.proofs.lemmas.List.{length-append}
 use Rattle.std.specs.Int.{w32, to_be_bytes}
 use Rattle.ser_values.specs.declared.node.SlotPlace.TheVariants as places
@@ -48,10 +48,6 @@ abbrev pub as_slot : ℕ → Progress → Ahead × List ℕ → Result (Slot × 
 as_slot end now (of_block n, bs) = Err (block_left (end - length bs))
 as_slot end now (of_code code at, bs) = lift_fault (counted_at end at code now bs)
 
-pub test_cases : (b : Bool) → (b ≡ true) ⊎ (b ≡ false)
-test_cases true = inl refl
-test_cases false = inr refl
-
 number_cases : (n : ℕ) → (n ≡ 0) ⊎ ((k : ℕ) × (n ≡ suc k))
 number_cases zero = inl refl
 number_cases (suc n) = inr (n, refl)
@@ -66,7 +62,7 @@ pub same_block : (end most : ℕ) (bs : List ℕ) → (lift_fault (head_within e
 unfolding head_within any_head one_head within_ahead any_ahead
 same_block end zero bs = refl
 same_block end (suc most) [] = refl
-same_block end (suc most) (c ∷ bs) = elim (test_cases (eqb c 0x77)) [
+same_block end (suc most) (c ∷ bs) = elim (cases_Bool (eqb c 0x77)) [
   | inl p ↦ rw p (elim (plain_cases (byte_at bs)) [
     | inl e ↦ rw e.1 refl
     | inr x ↦ rw x.2 (elim (number_cases x.0) [
@@ -74,7 +70,7 @@ same_block end (suc most) (c ∷ bs) = elim (test_cases (eqb c 0x77)) [
       | inr k ↦ rw k.1 refl
     ])
   ])
-  | inr p ↦ rw p (elim (test_cases (eqb c 0x7A)) [
+  | inr p ↦ rw p (elim (cases_Bool (eqb c 0x7A)) [
     | inr q ↦ rw q refl
     | inl q ↦ rw q (elim (plain_cases (size_at end w32 (2 ^ 31) bs)) [
       | inl e ↦ rw e.1 refl
@@ -90,7 +86,7 @@ pub same_slot : (end most : ℕ) (now : Progress) (bs : List ℕ) → (lift_faul
 unfolding head_within any_head one_head within_ahead any_ahead
 same_slot end zero now bs = refl
 same_slot end (suc most) now [] = refl
-same_slot end (suc most) now (c ∷ bs) = elim (test_cases (eqb c 0x77)) [
+same_slot end (suc most) now (c ∷ bs) = elim (cases_Bool (eqb c 0x77)) [
   | inl p ↦ rw p (elim (plain_cases (byte_at bs)) [
     | inl e ↦ rw e.1 refl
     | inr x ↦ rw x.2 (elim (number_cases x.0) [
@@ -98,7 +94,7 @@ same_slot end (suc most) now (c ∷ bs) = elim (test_cases (eqb c 0x77)) [
       | inr k ↦ rw k.1 refl
     ])
   ])
-  | inr p ↦ rw p (elim (test_cases (eqb c 0x7A)) [
+  | inr p ↦ rw p (elim (cases_Bool (eqb c 0x7A)) [
     | inr q ↦ rw q refl
     | inl q ↦ rw q (elim (plain_cases (size_at end w32 (2 ^ 31) bs)) [
       | inl e ↦ rw e.1 refl

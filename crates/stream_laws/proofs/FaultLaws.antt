@@ -17,7 +17,7 @@ use Rattle.std.proofs.lemmas.List.{length-append}
 use Rattle.std.proofs.Math.Seq.{drop-append_seam}
 use Rattle.std.proofs.lemmas.Bool.{cases_lt}
 use Rattle.class_desc.specs.declared.slot.Slot.TheVariants as slots
-use Rattle.stream_grammar.proofs.Sound.{slots_sound}
+use Rattle.stream_grammar.proofs.Sound.{Answer, slots_sound}
 use Rattle.stream_grammar.proofs.Mirror.{Ready}
 use Rattle.stream_grammar.proofs.Complete.{Given, slots_complete}
 use Rattle.stream_grammar.proofs.OneReading.{same_list}
@@ -161,9 +161,6 @@ headed_faults_are_shown end n head bytes left wants more e h bs firm =
 
 -- ---- whole streams
 
-abbrev Whole : Type 0
-Whole = List Node × List Item
-
 stream_shown : (end : ℕ) (bytes : List ℕ) (f : Fault) → f ≢ short → stream_at end bytes ≡ Err f → Shows end bytes f
 unfolding stream_at
 stream_shown end bytes f firm h = elim (bind_err (magic_at end (0xAC ∷ 0xED ∷ 0x00 ∷ 0x05 ∷ []) bytes) _ f h) [
@@ -183,12 +180,12 @@ pub faults_are_shown : FaultsAreShown
 faults_are_shown end bytes f firm = (λ h. stream_shown end bytes f firm h, λ h. shown_stream end bytes f firm h)
 
 pub fault_is_one : FaultIsOne
-fault_is_one end bytes f other firm firm2 shown shown2 = err_is {A = Whole} other f (sym (shown_stream end bytes other firm2 shown2) ∙ shown_stream end bytes f firm shown)
+fault_is_one end bytes f other firm firm2 shown shown2 = err_is {A = Answer} other f (sym (shown_stream end bytes other firm2 shown2) ∙ shown_stream end bytes f firm shown)
 
-abbrev read_as : Whole → Result Whole Fault
+abbrev read_as : Answer → Result Answer Fault
 read_as y = Ok y
 
-read_no_fault : (y : Whole) (f : Fault) → read_as y ≡ Err f → ⊥
+read_no_fault : (y : Answer) (f : Fault) → read_as y ≡ Err f → ⊥
 read_no_fault y f h = cc
 
 ends_or_firm : (f : Fault) → (f ≡ short) ⊎ (f ≢ short)
@@ -198,9 +195,9 @@ ends_or_firm (too_many at) = inr (λ same. cc)
 ends_or_firm (too_deep at) = inr (λ same. cc)
 
 pub short_shows_none : ShortShowsNone
-short_shows_none end bytes bs = (λ h. (λ nodes contents s. read_no_fault _ _ (sym (stream_at_complete end nodes contents bytes s) ∙ h), λ f firm shown. firm (err_is {A = Whole} f short (sym (shown_stream end bytes f firm shown) ∙ h))), λ h. by (stream_at end bytes) refl h.0 h.1)
+short_shows_none end bytes bs = (λ h. (λ nodes contents s. read_no_fault _ _ (sym (stream_at_complete end nodes contents bytes s) ∙ h), λ f firm shown. firm (err_is {A = Answer} f short (sym (shown_stream end bytes f firm shown) ∙ h))), λ h. by (stream_at end bytes) refl h.0 h.1)
   where
-    by : (r : Result Whole Fault) → stream_at end bytes ≡ r → ((nodes : List Node) (contents : List Item) → IsStream nodes contents bytes → ⊥) → ((f : Fault) → f ≢ short → Shows end bytes f → ⊥) → stream_at end bytes ≡ Err short
+    by : (r : Result Answer Fault) → stream_at end bytes ≡ r → ((nodes : List Node) (contents : List Item) → IsStream nodes contents bytes → ⊥) → ((f : Fault) → f ≢ short → Shows end bytes f → ⊥) → stream_at end bytes ≡ Err short
     by (Ok y) is none no_fault = absurd (none y.0 y.1 (stream_at_sound end bytes y bs is))
     by (Err f) is none no_fault = elim (ends_or_firm f) [
       | inl same ↦ is ∙ ap (λ z. Err z) same

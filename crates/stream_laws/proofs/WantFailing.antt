@@ -1,6 +1,6 @@
 -- Reading lists of wants answers a fault exactly where the bytes show it.
 use Rattle.std.proofs.Common.{◌≡◌, ◌≢◌, ◌⊎◌, ◌<◌, ◌≤◌, ◌+◌, ◌-◌, ◌^◌, ◌&&◌, ℕ, zero, suc, true, false, eqb, ltb, leb, List, [], ◌∷◌, ◌++◌, length, Result, Ok, Err, refl, sym, ap, subst, ◌∙◌, append_assoc, append-nil, arith, inl, inr}
-use Rattle.std.proofs.lemmas.Bool.{eqb-true, eqb-false, ne_eqb, ltb-true, lt-ltb, leb-true, le-leb, cases_lt, and_parts, true≢false}
+use Rattle.std.proofs.lemmas.Bool.{cases_Bool, eqb-true, eqb-false, ne_eqb, ltb-true, lt-ltb, leb-true, le-leb, cases_lt, and_parts, true≢false}
 use Rattle.std.proofs.lemmas.List.Elements.{All-nil}
 use Rattle.std.specs.Int.{w32}
 use Rattle.class_desc.specs.declared.slot.Slot.{Slot}
@@ -36,7 +36,7 @@ use Rattle.ser_read.proofs.Given.{asked_complete}
 use Rattle.ser_read.proofs.WantLaws.{served_after}
 use Rattle.stream_laws.specs.Reads.{BeginsReference}
 use Rattle.stream_laws.specs.WantFails.{Opens, Runs, HasReference, Serves, Behind, ReferenceWanted, BytesWanted, LeftInBlock, so_far, WantFails, of_reference, of_part, of_length, of_reset, of_exception, of_code, of_no_block, of_next_block, of_block, of_last_block, DiffersAt}
-use Rattle.stream_laws.proofs.Aheads.{Ahead, of_block, of_code, ahead_at, within_ahead, as_block, as_slot, is_none, same_block, same_slot, found, ahead_fault, ahead_passed, full_here, code_here, long_here, test_cases}
+use Rattle.stream_laws.proofs.Aheads.{Ahead, of_block, of_code, ahead_at, within_ahead, as_block, as_slot, is_none, same_block, same_slot, found, ahead_fault, ahead_passed, full_here, code_here, long_here}
 use Rattle.stream_laws.proofs.Reading.{ok_first, room_of, with_room, byte_has, has_byte}
 use Rattle.stream_laws.proofs.Giving.{same_references}
 use Rattle.stream_laws.proofs.Failing.{err_is, bind_err, err_first, byte_firm, size_fault, size_faulty, levels}
@@ -758,7 +758,7 @@ block_codes code at out =
     rw (ne_eqb code 0x79 a, ne_eqb code 0x7B b, c) refl
   where
     no_range : (code : ℕ) → (code < 0x70) ⊎ (0x7E < code) → (leb 0x70 code && leb code 0x7E) ≡ false
-    no_range code out = elim (test_cases (leb 0x70 code && leb code 0x7E)) [
+    no_range code out = elim (cases_Bool (leb 0x70 code && leb code 0x7E)) [
       | inr p ↦ p
       | inl p ↦ (
           let b = and_parts (leb 0x70 code) (leb code 0x7E) p in

@@ -12,7 +12,7 @@ use Rattle.object_ids.specs.declared.ids.Uid.{Uid}
 use Rattle.object_ids.specs.Bytes.{signed_bytes}
 use Rattle.object_ids.specs.Client.{Client}
 use Rattle.java_shapes.specs.declared.ref_views.LiveRef.{LiveRef}
-use Rattle.ser_write.specs.Canonical.{Written, before_more, short_bytes, write_items, write_all, write_one, write_at, tokens_before, tokens_after, contents, pieces, pieces_in, blocks}
+use Rattle.ser_write.specs.Canonical.{Written, before_more, interface_bytes, short_bytes, write_items, write_all, write_one, write_at, tokens_before, tokens_after, contents, pieces, pieces_in, blocks}
 use Rattle.ser_write.proofs.Writes.{write_all-append, write_all-elements, write_all-raw}
 use Rattle.class_desc.specs.declared.known_class.KnownClass.TheVariants as known
 use Rattle.ser_values.specs.declared.node.Node.TheVariants.{Text, Object, Proxy}
@@ -26,7 +26,7 @@ use Rattle.java_shapes.specs.RefGraph.{handler_classes, handler_last, noted_node
 use Rattle.java_shapes.specs.RefNotes.{ref_note}
 use Rattle.jrmp_frames.specs.Messages.{return_front}
 use Rattle.system_objects.specs.ReturnBytes.{graph_return}
-use Rattle.system_objects.specs.FixedReturns.{return_start, lease_head, lease_start, client_head, array_head, uid_head, array_object, uid_object, uid_values, client_object, lease_object, proxy_head, handler_head, interface_bytes, proxy_object, handler_object, reference_object}
+use Rattle.system_objects.specs.FixedReturns.{return_start, lease_head, lease_start, client_head, array_head, uid_head, array_object, uid_object, uid_values, client_object, lease_object, proxy_head, handler_head, proxy_object, handler_object, reference_object}
 
 -- ---- leases
 
@@ -67,7 +67,7 @@ named_nodes names bytes =
 
 -- the class of the proxy
 class_written : (names : List (List ℕ)) (bytes : List ℕ) → write_at 199 (named_nodes names bytes) 0 (slots.Node 0) ≡ (0x7D ∷ (interface_bytes names ++ proxy_head), 3)
-unfolding write_at write_one write_all write_items tokens_before tokens_after part_tokens writers named_nodes interface_bytes proxy_head
+unfolding write_at write_one write_all write_items tokens_before tokens_after part_tokens writers named_nodes proxy_head
 class_written names bytes =
     let inner = write_at 198 (named_nodes names bytes) in
     let rest = note no_codebase ∷ want (places.Parent, slots.Node 1) ∷ [] in
@@ -103,12 +103,10 @@ abbrev tested : Bool → List ℕ → List (List ℕ)
 tested test interface = if test then interface ∷ [] else codes "java.rmi.Remote" ∷ interface ∷ []
 
 one_tested : (test : Bool) (interface : List ℕ) → test ≡ true → (0 ∷ 0 ∷ 0 ∷ 1 ∷ []) ++ short_bytes interface ≡ interface_bytes (tested test interface)
-unfolding interface_bytes
 one_tested true interface is = ap (λ (l : List ℕ). 0 ∷ 0 ∷ 0 ∷ 1 ∷ l) (sym (append-nil (short_bytes interface)))
 one_tested false interface is = absurd cc
 
 two_tested : (test : Bool) (interface : List ℕ) → test ≡ false → (0 ∷ 0 ∷ 0 ∷ 2 ∷ 0 ∷ 15 ∷ codes "java.rmi.Remote") ++ short_bytes interface ≡ interface_bytes (tested test interface)
-unfolding interface_bytes
 two_tested true interface is = absurd cc
 two_tested false interface is = ap (λ (l : List ℕ). (0 ∷ 0 ∷ 0 ∷ 2 ∷ 0 ∷ 15 ∷ codes "java.rmi.Remote") ++ l) (sym (append-nil (short_bytes interface)))
 

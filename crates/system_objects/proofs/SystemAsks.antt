@@ -22,13 +22,13 @@ use Rattle.system_objects.specs.Terms.{Terms, terms_of}
 
 -- ---- no such call begins or ends a call
 
-abbrev asked : Ask → Result Ask Rejection
+abbrev pub asked : Ask → Result Ask Rejection
 asked ask = Ok ask
 
-abbrev refused : Rejection → Result Ask Rejection
+abbrev pub refused : Rejection → Result Ask Rejection
 refused bar = Err bar
 
-asked_same : (a b : Ask) → asked a ≡ asked b → a ≡ b
+pub asked_same : (a b : Ask) → asked a ≡ asked b → a ≡ b
 asked_same a b e = cc
 
 quiet_is : (a b : Ask) → IsQuiet a → asked a ≡ asked b → IsQuiet b

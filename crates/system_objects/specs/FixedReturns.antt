@@ -1,11 +1,10 @@
 -- The bytes of leases and of references: all are known, but for some numbers and texts.
 use Rattle.std.specs.Prelude.{ℕ, ℤ, List, [], ◌∷◌, ◌++◌, codes, length}
-use Rattle.std.specs.List.{flat_map}
 use Rattle.std.specs.Int.{w16, w32, w64, to_be_bytes}
 use Rattle.object_ids.specs.Bytes.{signed_bytes, bytes_of_uid}
 use Rattle.object_ids.specs.declared.ids.Uid.{Uid}
 use Rattle.object_ids.specs.Client.{Client}
-use Rattle.ser_write.specs.Canonical.{blocks, short_bytes}
+use Rattle.ser_write.specs.Canonical.{blocks, interface_bytes}
 use Rattle.java_shapes.specs.Proxies.{interfaces}
 
 -- what a normal Return begins with, up to its result
@@ -63,10 +62,6 @@ proxy_head = 0x70 ∷ 0x78 ∷ 0x72 ∷ 0x00 ∷ 0x17 ∷ (codes "java.lang.refl
 -- a reference's handler, up to its note
 unfoldable pub handler_head : List ℕ
 handler_head = 0x73 ∷ 0x72 ∷ 0x00 ∷ 0x2D ∷ (codes "java.rmi.server.RemoteObjectInvocationHandler" ++ (0x00 ∷ 0x00 ∷ 0x00 ∷ 0x00 ∷ 0x00 ∷ 0x00 ∷ 0x00 ∷ 0x02 ∷ 0x02 ∷ 0x00 ∷ 0x00 ∷ 0x70 ∷ 0x78 ∷ 0x72 ∷ 0x00 ∷ 0x1C ∷ (codes "java.rmi.server.RemoteObject" ++ (0xD3 ∷ 0x61 ∷ 0xB4 ∷ 0x91 ∷ 0x0C ∷ 0x61 ∷ 0x33 ∷ 0x1E ∷ 0x03 ∷ 0x00 ∷ 0x00 ∷ 0x70 ∷ 0x78 ∷ 0x70 ∷ []))))
-
--- the interfaces of a proxy
-unfoldable pub interface_bytes : List (List ℕ) → List ℕ
-interface_bytes names = to_be_bytes w32 (length names) ++ flat_map short_bytes names
 
 -- a proxy of an interface of this name, up to its handler
 unfoldable pub proxy_object : List ℕ → List ℕ

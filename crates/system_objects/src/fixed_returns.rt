@@ -4,12 +4,12 @@ ghost use Rattle.std.specs.Prelude.{◌≡◌, ◌↔◌, ◌∷◌, ◌++◌, �
 ghost use Rattle.std.specs.Int.{w32};
 ghost use Rattle.mod_utf.specs.Utf.{unit_bytes, utf};
 ghost use Rattle.object_ids.specs.Bytes.{bytes_of_objid, signed_bytes};
-ghost use Rattle.ser_write.specs.Canonical.{short_bytes};
+ghost use Rattle.ser_write.specs.Canonical.{interface_bytes, short_bytes};
 ghost use Rattle.java_shapes.specs.LeaseGraph.{lease_items, lease_nodes};
 ghost use Rattle.java_shapes.specs.Objects.{same_text};
 ghost use Rattle.java_shapes.specs.Proxies.{interfaces};
 ghost use Rattle.java_shapes.specs.RefNotes.{plain_kind, ref_note, text_bytes};
-ghost use Rattle.system_objects.specs.FixedReturns.{array_head, array_object, client_head, client_object, handler_head, handler_object, interface_bytes, lease_head, lease_object, lease_start, proxy_head, proxy_object, reference_object, return_start, uid_head, uid_object, uid_values};
+ghost use Rattle.system_objects.specs.FixedReturns.{array_head, array_object, client_head, client_object, handler_head, handler_object, lease_head, lease_object, lease_start, proxy_head, proxy_object, reference_object, return_start, uid_head, uid_object, uid_values};
 ghost use Rattle.system_objects.specs.ReturnBytes.{graph_return, own_return, reference_to};
 ghost use Rattle.system_objects.specs.Terms.{terms_of};
 
