@@ -63,42 +63,20 @@ pub(crate) fn act(
     let Admitted { stood, effective } = admitted;
     match ask {
         Ask::Open { kind, pinned } => add(exports, *kind, *pinned),
-        Ask::Begin { object } => {
-            if effective {
-                let _exported = exports.begin(*object);
-            }
+        Ask::Begin { object } if effective => {
+            let _exported = exports.begin(*object);
         }
         Ask::Finish {
             object,
             made,
             listed: _,
             uid,
-        } => {
-            if effective {
-                end_with(exports, now, object, made.as_slice(), returned, uid);
-            }
-        }
-        Ask::Abandon { object } => {
-            if effective {
-                exports.end(*object);
-            }
-        }
+        } if effective => end_with(exports, now, object, made.as_slice(), returned, uid),
+        Ask::Abandon { object } if effective => exports.end(*object),
         Ask::Ack { uid } => exports.ack(*uid),
-        Ask::Bind { name: _, object } => {
-            if effective {
-                pin_for_name(exports, object, stood);
-            }
-        }
-        Ask::Rebind { name: _, object } => {
-            if effective {
-                pin_for_name(exports, object, stood);
-            }
-        }
-        Ask::Unbind { name: _ } => {
-            if effective {
-                unpin(exports, stood);
-            }
-        }
+        Ask::Bind { name: _, object } if effective => pin_for_name(exports, object, stood),
+        Ask::Rebind { name: _, object } if effective => pin_for_name(exports, object, stood),
+        Ask::Unbind { name: _ } if effective => unpin(exports, stood),
         Ask::Lookup { name: _, uid } => await_all(exports, now, returned, uid),
         _ => {}
     }

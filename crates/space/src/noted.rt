@@ -10,7 +10,7 @@ ghost use Rattle.history.specs.Table.{places};
 ghost use Rattle.history.specs.declared.limits.TheConstants.{END_OF_TIME};
 ghost use Rattle.space.specs.Acts.{event_of};
 ghost use Rattle.space.specs.Entries.{entry_of};
-ghost use Rattle.space.specs.Noted.{NoteFits, made_by, turn_answer};
+ghost use Rattle.space.specs.Noted.{HasRoomFor, NoteFits, made_by, turn_answer};
 ghost use Rattle.space.specs.TurnAnswers.{IsAnswerTo};
 ghost use Rattle.rmi_registry.specs.Bindings.{names_in, IsRegistry};
 
@@ -145,9 +145,7 @@ fn with_entry(
 /// A copy of a turn, where these are the objects that it tells as gone. There is room for its identifiers, and `names` are those that it
 /// answers.
 fn copy_of_turn(turn: &Turn, ids: Vec<ObjId>, gone: ObjIds, names: NameList) -> Turn
-    requires ids { (os : List ObjId) → turn.now.reply ≡ Finished os → length os ≤ vec_capacity ids }
-    requires gone { gone ≡ turn.now.gone }
-    requires names { (ns : List (List ℕ)) → turn.now.reply ≡ NamesReply ns → names ≡ ns }
+    requires { HasRoomFor turn.now gone (vec_capacity ids) names }
     ensures { result ≡ turn.now }
 {
     Turn {
