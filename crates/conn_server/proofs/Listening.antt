@@ -1,8 +1,8 @@
 -- What a listener tells as links are accepted one after another.
-use Rattle.std.proofs.Common.{◌≡◌, Bool, true, false, List, [], ◌∷◌, ◌++◌, refl, ap, sym, ◌∙◌, append_assoc, append-nil, arith, true≢false}
+use Rattle.std.proofs.Common.{◌≡◌, ◌≤◌, ◌+◌, ℕ, Bool, true, false, List, [], ◌∷◌, ◌++◌, refl, ap, sym, ◌∙◌, append_assoc, append-nil, arith, true≢false}
 use Rattle.std.proofs.lemmas.List.{map_push}
 use Rattle.std.specs.Prelude.{Option, Some, None}
-use Rattle.wire_io.specs.Links.{Accepted, Listening, Looks, with_next}
+use Rattle.wire_io.specs.Links.{Accepted, Listening, Looks, quiets_after, with_next}
 use Rattle.space.specs.declared.asked.Asked.{Asked}
 use Rattle.conn_server.specs.Accepts.{TicksOn, links_of, ticks_of, with_all}
 use Rattle.conn_server.specs.Hosts.{IsLike}
@@ -38,8 +38,24 @@ still_untold : (old new answer : Bool) → new ≡ answer → answer ≡ false �
 still_untold true new answer is untold once = absurd (true≢false (sym (once refl) ∙ untold))
 still_untold false new answer is untold once = is ∙ untold
 
+-- A look raises the count of answers without a link and without a stop by one at most,
+counted_once : (quiets new : ℕ) (answer : Bool) → new ≡ quiets_after quiets answer → new ≤ quiets + 1
+counted_once quiets new true is = omega (arith, is)
+counted_once quiets new false is = omega (arith, is)
+
+-- and leaves it where it found that the listener was told to.
+pub counted_told : (quiets new : ℕ) (answer : Bool) → new ≡ quiets_after quiets answer → answer ≡ true → new ≡ quiets
+counted_told quiets new true is told = is
+counted_told quiets new false is untold = absurd (true≢false (sym untold))
+
 -- A look found that the listener wasn't told to stop.
 pub like_looked : (l l2 : Listening) (answer : Bool) → Looks l l2 answer → answer ≡ false → IsLike l l2
 like_looked l l2 answer looks untold =
     let same = looks.2 in
-    record { accepted = looks.1; faults = omega (arith, same); same_told = still_untold l.told l2.told answer looks.3 untold looks.4; same_ports = looks.0 }
+    record {
+      accepted = looks.1;
+      faults = omega (arith, same);
+      quiets = counted_once l.quiets l2.quiets answer looks.4;
+      same_told = still_untold l.told l2.told answer looks.3 untold looks.5;
+      same_ports = looks.0;
+    }

@@ -1,5 +1,5 @@
 -- Ticks of quiet seconds, one after another.
-use Rattle.std.proofs.Common.{◌≡◌, ◌⊎◌, ℕ, ◌+◌, ◌<◌, Bool, true, false, List, [], ◌∷◌, ◌++◌, length, inl, inr, refl, ap, sym, ◌∙◌, subst, append_assoc, append-nil, length-append, arith, true≢false}
+use Rattle.std.proofs.Common.{◌≡◌, ◌⊎◌, ℕ, ◌+◌, ◌<◌, ◌≤◌, Bool, true, false, List, [], ◌∷◌, ◌++◌, length, inl, inr, refl, ap, sym, ◌∙◌, subst, append_assoc, append-nil, length-append, arith, true≢false}
 use Rattle.std.proofs.lemmas.Grind.{flat_map-append}
 use Rattle.std.specs.List.{flat_map}
 use Rattle.std.specs.Prelude.{Option, Some, None, Result, Ok, Err, IfSome, IfNone, option_to_list}
@@ -55,6 +55,11 @@ behind_on P made (s ∷ steps) x each is =
 behind_more : (P Q : List Asked → Step → Type 0) (made : List Asked) (steps : List Step) → ((l : List Asked) (s : Step) → P l s → Q l s) → EachBehind P made steps → EachBehind Q made steps
 behind_more P Q made [] more each = tt
 behind_more P Q made (s ∷ steps) more each = (more made s each.0, behind_more P Q (made ++ step_entry s) steps more each.1)
+
+-- One more look was made.
+looks_on : (steps : List Step) (x : Step) (look : ℕ) → look_moment x ≡ look ∷ [] → length (flat_map look_moment (steps ++ x ∷ [])) ≡ length (flat_map look_moment steps) + 1
+looks_on steps x look is =
+    ap length (flat_map-append look_moment steps (x ∷ []) ∙ ap (λ (l : List ℕ). flat_map look_moment steps ++ l) (append-nil (look_moment x) ∙ is)) ∙ length-append (flat_map look_moment steps) (look ∷ [])
 
 -- ---- what was seen at a moment
 
@@ -182,69 +187,96 @@ module _ {H : Type 0} (shown : H → WorkerState) (moves : States → Call → S
   -- ---- a server's own turns
 
   -- At first there are none.
-  pub quiet_first : (opening : SpaceHistory) (events : Events) (missed : Bool) (gave : Option (List ℕ)) (before_links ticks : List Asked) → missed ≡ false → before_links ≡ [] → ticks ≡ [] → TicksQuietly shown moves opening events missed gave gave before_links ticks None
-  quiet_first opening events missed gave before_links ticks none no_link no_turn = record {
+  pub quiet_first : (opening : SpaceHistory) (events : Events) (missed : Bool) (gave : Option (List ℕ)) (quiets : ℕ) (before_links ticks : List Asked) → missed ≡ false → before_links ≡ [] → ticks ≡ [] → TicksQuietly shown moves opening events missed gave gave quiets quiets before_links ticks None
+  quiet_first opening events missed gave quiets before_links ticks none no_link no_turn = record {
     course = [];
     links = sym no_link;
     made = sym no_turn;
     each = tt;
     told = refl;
     gave = Gave-nothing gave;
+    asked = omega arith;
     cause = λ is. absurd (true≢false (sym is ∙ none));
   }
 
   -- A Tick was made before a link.
-  pub quiet_link : (opening : SpaceHistory) (events : Events) (missed : Bool) (gave_first gave_last : Option (List ℕ)) (before_links before_links_after ticks ticks_after : List Asked) (hand : Option H)
-      → TicksQuietly shown moves opening events missed gave_first gave_last before_links ticks hand → TicksOn ticks ticks_after before_links before_links_after → TicksQuietly shown moves opening events missed gave_first gave_last before_links_after ticks_after hand
-  quiet_link opening events missed gave_first gave_last before_links before_links_after ticks ticks_after hand t (tick, one, other) =
+  pub quiet_link : (opening : SpaceHistory) (events : Events) (missed : Bool) (gave_first gave_last : Option (List ℕ)) (quiets_first quiets_last : ℕ) (before_links before_links_after ticks ticks_after : List Asked) (hand : Option H)
+      → TicksQuietly shown moves opening events missed gave_first gave_last quiets_first quiets_last before_links ticks hand → TicksOn ticks ticks_after before_links before_links_after
+      → TicksQuietly shown moves opening events missed gave_first gave_last quiets_first quiets_last before_links_after ticks_after hand
+  quiet_link opening events missed gave_first gave_last quiets_first quiets_last before_links before_links_after ticks ticks_after hand t (tick, one, other) =
       let step = link_tick tick in
+      let looks : flat_map look_moment (t.course ++ step ∷ []) ≡ flat_map look_moment t.course = flat_map-append look_moment t.course (step ∷ []) ∙ append-nil (flat_map look_moment t.course) in
       record {
         course = t.course ++ step ∷ [];
         links = flat_map-append link_entry t.course (step ∷ []) ∙ (ap (λ l. l ++ tick ∷ []) t.links ∙ sym other);
         made = flat_map-append step_entry t.course (step ∷ []) ∙ (ap (λ l. l ++ tick ∷ []) t.made ∙ sym one);
         each = behind_on (IsStep opening events missed) [] t.course step t.each tt;
         told = subst (λ (l : List Asked). HaveTold shown moves l hand) (sym (flat_map-append look_entry t.course (step ∷ []) ∙ append-nil (flat_map look_entry t.course))) t.told;
-        gave = subst (λ (l : List ℕ). Gave gave_first gave_last l) (sym (flat_map-append look_moment t.course (step ∷ []) ∙ append-nil (flat_map look_moment t.course))) t.gave;
+        gave = subst (λ (l : List ℕ). Gave gave_first gave_last l) (sym looks) t.gave;
+        asked = subst (λ (l : List ℕ). quiets_last ≤ quiets_first + length l) (sym looks) t.asked;
         cause = λ is. subst (λ (l : List ℕ). 0 < length l) (sym (flat_map-append passed_moment t.course (step ∷ []) ∙ append-nil (flat_map passed_moment t.course))) (t.cause is);
       }
 
   -- The same lists by other names.
-  pub quiet_same : (opening : SpaceHistory) (events : Events) (missed : Bool) (gave_first gave_last : Option (List ℕ)) (before_links before_links_after ticks ticks_after : List Asked) (hand : Option H)
-      → TicksQuietly shown moves opening events missed gave_first gave_last before_links ticks hand → ticks_after ≡ ticks → before_links_after ≡ before_links → TicksQuietly shown moves opening events missed gave_first gave_last before_links_after ticks_after hand
-  quiet_same opening events missed gave_first gave_last before_links before_links_after ticks ticks_after hand t same other =
-      subst (λ (x : List Asked × List Asked). TicksQuietly shown moves opening events missed gave_first gave_last x.0 x.1 hand) (λ i. (sym other i, sym same i)) t
+  pub quiet_same : (opening : SpaceHistory) (events : Events) (missed : Bool) (gave_first gave_last : Option (List ℕ)) (quiets_first quiets_last : ℕ) (before_links before_links_after ticks ticks_after : List Asked) (hand : Option H)
+      → TicksQuietly shown moves opening events missed gave_first gave_last quiets_first quiets_last before_links ticks hand → ticks_after ≡ ticks → before_links_after ≡ before_links
+      → TicksQuietly shown moves opening events missed gave_first gave_last quiets_first quiets_last before_links_after ticks_after hand
+  quiet_same opening events missed gave_first gave_last quiets_first quiets_last before_links before_links_after ticks ticks_after hand t same other =
+      subst (λ (x : List Asked × List Asked). TicksQuietly shown moves opening events missed gave_first gave_last quiets_first quiets_last x.0 x.1 hand) (λ i. (sym other i, sym same i)) t
 
   -- More was seen.
-  pub quiet_later : (opening : SpaceHistory) (events events_after : Events) (missed : Bool) (gave_first gave_last : Option (List ℕ)) (before_links ticks : List Asked) (hand : Option H) → ((front : Events) → StartsWith events front → StartsWith events_after front)
-      → TicksQuietly shown moves opening events missed gave_first gave_last before_links ticks hand → TicksQuietly shown moves opening events_after missed gave_first gave_last before_links ticks hand
-  quiet_later opening events events_after missed gave_first gave_last before_links ticks hand begins t = record {
+  pub quiet_later : (opening : SpaceHistory) (events events_after : Events) (missed : Bool) (gave_first gave_last : Option (List ℕ)) (quiets_first quiets_last : ℕ) (before_links ticks : List Asked) (hand : Option H)
+      → ((front : Events) → StartsWith events front → StartsWith events_after front)
+      → TicksQuietly shown moves opening events missed gave_first gave_last quiets_first quiets_last before_links ticks hand → TicksQuietly shown moves opening events_after missed gave_first gave_last quiets_first quiets_last before_links ticks hand
+  quiet_later opening events events_after missed gave_first gave_last quiets_first quiets_last before_links ticks hand begins t = record {
     course = t.course;
     links = t.links;
     made = t.made;
     each = behind_more (IsStep opening events missed) (IsStep opening events_after missed) [] t.course (step_on opening events events_after missed missed begins (λ is. is)) t.each;
     told = t.told;
     gave = t.gave;
+    asked = t.asked;
     cause = t.cause;
   }
 
+  -- The listener gave such an answer less often.
+  pub quiet_fewer : (opening : SpaceHistory) (events : Events) (missed : Bool) (gave_first gave_last : Option (List ℕ)) (quiets_first quiets_last quiets_then : ℕ) (before_links ticks : List Asked) (hand : Option H) → quiets_then ≤ quiets_last
+      → TicksQuietly shown moves opening events missed gave_first gave_last quiets_first quiets_last before_links ticks hand → TicksQuietly shown moves opening events missed gave_first gave_last quiets_first quiets_then before_links ticks hand
+  quiet_fewer opening events missed gave_first gave_last quiets_first quiets_last quiets_then before_links ticks hand fewer t =
+      let asked = t.asked in
+      record {
+        course = t.course;
+        links = t.links;
+        made = t.made;
+        each = t.each;
+        told = t.told;
+        gave = t.gave;
+        asked = omega (arith, asked, fewer);
+        cause = t.cause;
+      }
+
   -- The lock was closed, and the same is known by other names.
-  pub quiet_closed : (opening : SpaceHistory) (seen events : Events) (missed missed_after : Bool) (gave_first gave_last : Option (List ℕ)) (before_links ticks ticks_after : List Asked) (hand hand_after : Option H)
+  pub quiet_closed : (opening : SpaceHistory) (seen events : Events) (missed missed_after : Bool) (gave_first gave_last : Option (List ℕ)) (quiets_first quiets_last : ℕ) (before_links ticks ticks_after : List Asked) (hand hand_after : Option H)
       → StartsWith events seen → missed_after ≡ missed → ticks_after ≡ ticks → hand_after ≡ hand
-      → TicksQuietly shown moves opening seen missed gave_first gave_last before_links ticks hand → TicksQuietly shown moves opening events missed_after gave_first gave_last before_links ticks_after hand_after
-  quiet_closed opening seen events missed missed_after gave_first gave_last before_links ticks ticks_after hand hand_after more same_missed same same_hand t =
-      let later = quiet_later opening seen events missed gave_first gave_last before_links ticks hand (λ front begins. starts_on events seen front more begins) t in
-      subst (λ (x : List Asked × Option H × Bool). TicksQuietly shown moves opening events x.2 gave_first gave_last before_links x.0 x.1) (λ i. (sym same i, sym same_hand i, sym same_missed i)) later
+      → TicksQuietly shown moves opening seen missed gave_first gave_last quiets_first quiets_last before_links ticks hand
+      → TicksQuietly shown moves opening events missed_after gave_first gave_last quiets_first quiets_last before_links ticks_after hand_after
+  quiet_closed opening seen events missed missed_after gave_first gave_last quiets_first quiets_last before_links ticks ticks_after hand hand_after more same_missed same same_hand t =
+      let later = quiet_later opening seen events missed gave_first gave_last quiets_first quiets_last before_links ticks hand (λ front begins. starts_on events seen front more begins) t in
+      subst (λ (x : List Asked × Option H × Bool). TicksQuietly shown moves opening events x.2 gave_first gave_last quiets_first quiets_last before_links x.0 x.1) (λ i. (sym same i, sym same_hand i, sym same_missed i)) later
 
   -- A look passed without a Tick.
-  passed : (opening : SpaceHistory) (events events_after : Events) (missed missed_after : Bool) (gave_first gave_last gave_then : Option (List ℕ)) (look : ℕ) (before_links ticks ticks_after : List Asked) (own own_after : Option H)
+  passed : (opening : SpaceHistory) (events events_after : Events) (missed missed_after : Bool) (gave_first gave_last gave_then : Option (List ℕ)) (quiets_first quiets_last : ℕ) (look : ℕ) (before_links ticks ticks_after : List Asked) (own own_after : Option H)
       → ((front : Events) → StartsWith events front → StartsWith events_after front) → (missed ≡ true → missed_after ≡ true) → MayPass opening events_after missed_after ticks look → Gave gave_last gave_then (look ∷ []) → ticks_after ≡ ticks
       → ((entries : List Asked) → HaveTold shown moves entries own → HaveTold shown moves entries own_after)
-      → TicksQuietly shown moves opening events missed gave_first gave_last before_links ticks own → TicksQuietly shown moves opening events_after missed_after gave_first gave_then before_links ticks_after own_after
-  passed opening events events_after missed missed_after gave_first gave_last gave_then look before_links ticks ticks_after own own_after begins still may gave same has t =
+      → TicksQuietly shown moves opening events missed gave_first gave_last quiets_first quiets_last before_links ticks own
+      → TicksQuietly shown moves opening events_after missed_after gave_first gave_then quiets_first (quiets_last + 1) before_links ticks_after own_after
+  passed opening events events_after missed missed_after gave_first gave_last gave_then quiets_first quiets_last look before_links ticks ticks_after own own_after begins still may gave same has t =
       let step = without_tick look in
       let each = behind_more (IsStep opening events missed) (IsStep opening events_after missed_after) [] t.course (step_on opening events events_after missed missed_after begins still) t.each in
       let longer = flat_map-append passed_moment t.course (step ∷ []) in
       let count : length (flat_map passed_moment (t.course ++ step ∷ [])) ≡ length (flat_map passed_moment t.course) + 1 = ap length longer ∙ length-append (flat_map passed_moment t.course) (look ∷ []) in
+      let looks : length (flat_map look_moment (t.course ++ step ∷ [])) ≡ length (flat_map look_moment t.course) + 1 = looks_on t.course step look refl in
+      let asked = t.asked in
       record {
         course = t.course ++ step ∷ [];
         links = flat_map-append link_entry t.course (step ∷ []) ∙ (append-nil (flat_map link_entry t.course) ∙ t.links);
@@ -252,32 +284,35 @@ module _ {H : Type 0} (shown : H → WorkerState) (moves : States → Call → S
         each = behind_on (IsStep opening events_after missed_after) [] t.course step each (subst (λ (l : List Asked). MayPass opening events_after missed_after l look) (sym t.made) may);
         told = has _ (subst (λ (l : List Asked). HaveTold shown moves l own) (sym (flat_map-append look_entry t.course (step ∷ []) ∙ append-nil (flat_map look_entry t.course))) t.told);
         gave = subst (λ (l : List ℕ). Gave gave_first gave_then l) (sym (flat_map-append look_moment t.course (step ∷ []))) (Gave-append gave_first gave_last gave_then (flat_map look_moment t.course) (look ∷ []) t.gave gave);
+        asked = omega (arith, asked, looks);
         cause = λ is. omega (arith, count);
       }
 
   -- A second passed in which there was no memory: any moment may pass then.
-  pub quiet_missed : (opening : SpaceHistory) (events events_after : Events) (missed missed_after : Bool) (gave_first gave_last gave_then : Option (List ℕ)) (look : ℕ) (before_links ticks ticks_after : List Asked) (hand hand_after : Option H)
+  pub quiet_missed : (opening : SpaceHistory) (events events_after : Events) (missed missed_after : Bool) (gave_first gave_last gave_then : Option (List ℕ)) (quiets_first quiets_last : ℕ) (look : ℕ) (before_links ticks ticks_after : List Asked) (hand hand_after : Option H)
       → ((front : Events) → StartsWith events front → StartsWith events_after front) → missed_after ≡ true → Gave gave_last gave_then (look ∷ []) → ticks_after ≡ ticks → hand_after ≡ hand
-      → TicksQuietly shown moves opening events missed gave_first gave_last before_links ticks hand → TicksQuietly shown moves opening events_after missed_after gave_first gave_then before_links ticks_after hand_after
-  quiet_missed opening events events_after missed missed_after gave_first gave_last gave_then look before_links ticks ticks_after hand hand_after begins is gave same same_hand t =
-      passed opening events events_after missed missed_after gave_first gave_last gave_then look before_links ticks ticks_after hand hand_after begins (λ was. is) (inl is) gave same
+      → TicksQuietly shown moves opening events missed gave_first gave_last quiets_first quiets_last before_links ticks hand
+      → TicksQuietly shown moves opening events_after missed_after gave_first gave_then quiets_first (quiets_last + 1) before_links ticks_after hand_after
+  quiet_missed opening events events_after missed missed_after gave_first gave_last gave_then quiets_first quiets_last look before_links ticks ticks_after hand hand_after begins is gave same same_hand t =
+      passed opening events events_after missed missed_after gave_first gave_last gave_then quiets_first quiets_last look before_links ticks ticks_after hand hand_after begins (λ was. is) (inl is) gave same
       (λ entries told. subst (λ (o : Option H). HaveTold shown moves entries o) (sym same_hand) told) t
 
   -- A Tick was made at a look, or none.
-  pub quiet_on : (opening : SpaceHistory) (events events_after : Events) (missed missed_now missed_after : Bool) (gave_first gave_last gave_then : Option (List ℕ)) (before_links ticks ticks_after : List Asked) (own : Option H) (a b : H)
+  pub quiet_on : (opening : SpaceHistory) (events events_after : Events) (missed missed_now missed_after : Bool) (gave_first gave_last gave_then : Option (List ℕ)) (quiets_first quiets_last : ℕ) (before_links ticks ticks_after : List Asked) (own : Option H) (a b : H)
       → ((front : Events) → StartsWith events front → StartsWith events_after front) → (missed ≡ true → missed_after ≡ true) → (missed_now ≡ true → missed_after ≡ true) → (missed_after ≡ true → (missed ≡ true) ⊎ (missed_now ≡ true))
-      → TicksQuietly shown moves opening events missed gave_first gave_last before_links ticks own
+      → TicksQuietly shown moves opening events missed gave_first gave_last quiets_first quiets_last before_links ticks own
       → ((entries : List Asked) → HaveTold shown moves entries own → HasTold shown moves entries a)
-      → TicksOnce shown moves opening events_after missed_now gave_last gave_then ticks ticks_after a b → TicksQuietly shown moves opening events_after missed_after gave_first gave_then before_links ticks_after (Some b)
-  quiet_on opening events events_after missed missed_now missed_after gave_first gave_last gave_then before_links ticks ticks_after own a b begins still still_now either t has once = more once.entry refl
+      → TicksOnce shown moves opening events_after missed_now gave_last gave_then ticks ticks_after a b
+      → TicksQuietly shown moves opening events_after missed_after gave_first gave_then quiets_first (quiets_last + 1) before_links ticks_after (Some b)
+  quiet_on opening events events_after missed missed_now missed_after gave_first gave_last gave_then quiets_first quiets_last before_links ticks ticks_after own a b begins still still_now either t has once = more once.entry refl
     where
       told_more : (entries : List Asked) → HaveTold shown moves entries own → HasTold shown moves (entries ++ option_to_list once.entry) b
       told_more entries told = told_on entries (option_to_list once.entry) a b (has entries told) once.seen once.state once.same_calls once.same_number
 
-      more : (entry : Option Asked) → once.entry ≡ entry → TicksQuietly shown moves opening events_after missed_after gave_first gave_then before_links ticks_after (Some b)
+      more : (entry : Option Asked) → once.entry ≡ entry → TicksQuietly shown moves opening events_after missed_after gave_first gave_then quiets_first (quiets_last + 1) before_links ticks_after (Some b)
       more None is =
           let may = subst (λ (o : Option Asked). IfNone o (MayPass opening events_after missed_now ticks once.look)) is once.passes in
-          passed opening events events_after missed missed_after gave_first gave_last gave_then once.look before_links ticks ticks_after own (Some b) begins still
+          passed opening events events_after missed missed_after gave_first gave_last gave_then quiets_first quiets_last once.look before_links ticks ticks_after own (Some b) begins still
           (passes_on opening events_after events_after missed_now missed_after ticks once.look (λ front was. was) still_now may) once.gave (once.longer ∙ (ap (λ e. ticks ++ option_to_list e) is ∙ append-nil ticks))
           (λ entries told. subst (λ (l : List Asked). HasTold shown moves l b) (ap (λ e. entries ++ option_to_list e) is ∙ append-nil entries) (told_more entries told)) t
       more (Some e) is =
@@ -287,6 +322,8 @@ module _ {H : Type 0} (shown : H → WorkerState) (moves : States → Call → S
           let due : WasDue opening events_after ticks e.moment = subst (λ (o : Option Asked). IfSome o (λ x. WasDue opening events_after ticks x.moment)) is once.due in
           let each = behind_more (IsStep opening events missed) (IsStep opening events_after missed_after) [] t.course (step_on opening events events_after missed missed_after begins still) t.each in
           let here = subst (λ (l : List Asked). WasDue opening events_after l e.moment) (sym t.made) due in
+          let looks : length (flat_map look_moment (t.course ++ step ∷ [])) ≡ length (flat_map look_moment t.course) + 1 = looks_on t.course step e.moment refl in
+          let asked = t.asked in
           let caused : missed_after ≡ true → 0 < length (flat_map passed_moment t.course) = λ after. by (either after) in
           record {
             course = t.course ++ step ∷ [];
@@ -296,6 +333,7 @@ module _ {H : Type 0} (shown : H → WorkerState) (moves : States → Call → S
             told = subst (λ (l : List Asked). HasTold shown moves l b) (ap (λ o. flat_map look_entry t.course ++ option_to_list o) is ∙ sym (flat_map-append look_entry t.course (step ∷ []))) (told_more (flat_map look_entry t.course) t.told);
             gave = subst (λ (l : List ℕ). Gave gave_first gave_then l) (ap (λ m. flat_map look_moment t.course ++ m ∷ []) (sym at_look) ∙ sym (flat_map-append look_moment t.course (step ∷ [])))
                 (Gave-append gave_first gave_last gave_then (flat_map look_moment t.course) (once.look ∷ []) t.gave once.gave);
+            asked = omega (arith, asked, looks);
             cause = λ after. subst (λ (l : List ℕ). 0 < length l) (sym (flat_map-append passed_moment t.course (step ∷ []) ∙ append-nil (flat_map passed_moment t.course))) (caused after);
           }
         where

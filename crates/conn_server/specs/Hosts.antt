@@ -1,8 +1,8 @@
 -- What holds of a server that runs until its listener is told to stop.
-use Rattle.std.specs.Prelude.{◌≡◌, ◌≢◌, ◌<◌, ◌≤◌, ℕ, true, false, List, [], ◌++◌, length, Option, Some, None}
+use Rattle.std.specs.Prelude.{◌≡◌, ◌≢◌, ◌<◌, ◌≤◌, ◌+◌, ◌-◌, ◌^◌, min, ℕ, true, false, List, [], ◌++◌, length, Option, Some, None}
 use Rattle.std.specs.List.Sorted.{IsPermutation}
 use Rattle.wire_io.specs.Links.{Accepted, Listening}
-use Rattle.wire_io.specs.Wire.{ReadHalf, WriteHalf, Rose}
+use Rattle.wire_io.specs.Wire.{ReadHalf, WriteHalf}
 use Rattle.history.specs.Steps.{IsLegal}
 use Rattle.space.specs.Built.{SpaceHistory}
 use Rattle.space.specs.EventLists.{CollectsEach}
@@ -27,30 +27,36 @@ use Rattle.conn_server.specs.declared.accept_loop.Stop.TheVariants.{AcceptFault,
 use Rattle.conn_server.specs.declared.admission.Acceptor.{Acceptor}
 use Rattle.conn_server.specs.declared.admission.LostLink.{LostLink}
 use Rattle.conn_server.specs.declared.host_loop.Halt.{Halt}
+use Rattle.conn_server.specs.declared.host_loop.TheConstants.{MAX_IDLE_TRIES}
 use Rattle.conn_server.specs.declared.link_task.LinkReport.{LinkReport}
 use Rattle.conn_server.specs.declared.plan.ServePlan.{ServePlan}
 use Rattle.conn_server.specs.declared.quiet_second.OwnHand.{OwnHand}
 use Rattle.conn_server.specs.declared.server.Hosted.{Hosted}
 use Rattle.conn_server.specs.declared.server.HostJoined.{HostJoined}
 
+-- A listener failed at least so many times: its count of faults rose by so many, or stands at the greatest u64, where it stays.
+abbrev pub FailedTimes : ℕ → ℕ → ℕ → Type 0
+FailedTimes tries old new = (old ≤ new) × (min (old + tries) (2 ^ 64 - 1) ≤ new)
+
 -- Links are accepted: since the listener told l0 and the clock of quiet seconds had given the first moments, these links were begun, and the root
--- made these turns of its own. The listener tells l1 now.
+-- made these turns of its own. The listener tells l1 now, and failed at least so many times since l0.
 pub record IsHosting {I O T H C : Type 0} (read_half : I → ReadHalf) (write_half : O → WriteHalf) (given : T → Option (List ℕ)) (shown : H → WorkerState) (may : Invocation → Outcome → Type 0) (moves : States → Call → States → Type 0)
     (taken : C → Taken (LinkReport I O T H)) (expects : C → LinkReport I O T H → Type 0) (lock : TurnLock) (kinds : List Kind) (plan : ServePlan) (l0 l1 : Listening) (gave_first gave_last : Option (List ℕ))
-    (a : Acceptor I O T H C) (own : OwnHand H) : Type 0 where
+    (a : Acceptor I O T H C) (own : OwnHand H) (tries : ℕ) : Type 0 where
   pub is : IsAccepting (TalksOver read_half write_half given shown may moves kinds) (IsMadeFor read_half write_half given shown moves plan) shown taken expects lock kinds a
   pub hosts : a.keeps ≡ false
   pub few : a.begun ≤ plan.count
-  pub quiet : TicksQuietly shown moves (opening_of lock) (view_of a.root.pass).seen own.missed gave_first gave_last (ticks_of (shown_all read_half write_half given a.all)) (taken a.taker).ticks own.hand
+  pub quiet : TicksQuietly shown moves (opening_of lock) (view_of a.root.pass).seen own.missed gave_first gave_last l0.quiets l1.quiets (ticks_of (shown_all read_half write_half given a.all)) (taken a.taker).ticks own.hand
   pub links : l1.accepted ≡ with_all l0.accepted (links_of (shown_all read_half write_half given a.all))
-  pub faults : l0.faults ≤ l1.faults
+  pub failed : FailedTimes tries l0.faults l1.faults
   pub same_told : l1.told ≡ l0.told
   pub same_ports : l1.ports ≡ l0.ports
 
--- A listener gave no link between two moments, and wasn't told to stop. It may have failed.
+-- A listener gave no link between two moments, and wasn't told to stop. It may have failed, and answered that once at most.
 pub record IsLike (l1 l2 : Listening) : Type 0 where
   pub accepted : l2.accepted ≡ l1.accepted
   pub faults : l1.faults ≤ l2.faults
+  pub quiets : l2.quiets ≤ l1.quiets + 1
   pub same_told : l2.told ≡ l1.told
   pub same_ports : l2.ports ≡ l1.ports
 
@@ -60,23 +66,23 @@ pub record IsHalted {I O T H C : Type 0} (read_half : I → ReadHalf) (write_hal
     (a : Acceptor I O T H C) (own : OwnHand H) (halt : Halt I O T) : Type 0 where
   pub is : IsAccepting (TalksOver read_half write_half given shown may moves kinds) (IsMadeFor read_half write_half given shown moves plan) shown taken expects lock kinds a
   pub hosts : a.keeps ≡ false
-  pub quiet : TicksQuietly shown moves (opening_of lock) (view_of a.root.pass).seen own.missed gave_first gave_last (ticks_of (shown_all read_half write_half given a.all)) (taken a.taker).ticks own.hand
+  pub quiet : TicksQuietly shown moves (opening_of lock) (view_of a.root.pass).seen own.missed gave_first gave_last l0.quiets l1.quiets (ticks_of (shown_all read_half write_half given a.all)) (taken a.taker).ticks own.hand
   pub missed : List Accepted
   pub links : l1.accepted ≡ with_all l0.accepted (links_of (shown_all read_half write_half given a.all) ++ missed)
   pub stopped : HostStopped halt.stop l1.told plan.count a.begun missed
   pub back : AreGivenBack (IsLostLink read_half write_half given) missed halt.lost
-  pub fault : halt.stop ≡ AcceptFault → Rose l0.faults l1.faults
+  pub fault : halt.stop ≡ AcceptFault → FailedTimes (MAX_IDLE_TRIES + 1) l0.faults l1.faults
   pub faults : l0.faults ≤ l1.faults
   pub untold : halt.stop ≢ Told → l1.told ≡ l0.told
   pub same_ports : l1.ports ≡ l0.ports
 
--- A step came to this: further links are accepted, or no more are.
+-- A step came to this: further links are accepted, and the listener failed so many times at least, or no more links are.
 abbrev pub GoesOn : {I O T H C : Type 0} → (I → ReadHalf) → (O → WriteHalf) → (T → Option (List ℕ)) → (H → WorkerState) → (Invocation → Outcome → Type 0) → (States → Call → States → Type 0)
     → (C → Taken (LinkReport I O T H)) → (C → LinkReport I O T H → Type 0) → TurnLock → List Kind → ServePlan → Listening → Listening → Option (List ℕ) → Option (List ℕ)
-    → Acceptor I O T H C → OwnHand H → Option (Halt I O T) → Type 0
-GoesOn read_half write_half given shown may moves taken expects lock kinds plan l0 l1 gave_first gave_last a own None =
-    IsHosting read_half write_half given shown may moves taken expects lock kinds plan l0 l1 gave_first gave_last a own
-GoesOn read_half write_half given shown may moves taken expects lock kinds plan l0 l1 gave_first gave_last a own (Some halt) =
+    → Acceptor I O T H C → OwnHand H → ℕ → Option (Halt I O T) → Type 0
+GoesOn read_half write_half given shown may moves taken expects lock kinds plan l0 l1 gave_first gave_last a own tries None =
+    IsHosting read_half write_half given shown may moves taken expects lock kinds plan l0 l1 gave_first gave_last a own tries
+GoesOn read_half write_half given shown may moves taken expects lock kinds plan l0 l1 gave_first gave_last a own tries (Some halt) =
     IsHalted read_half write_half given shown may moves taken expects lock kinds plan l0 l1 gave_first gave_last a own halt
 
 -- All threads of a host were joined: the links that were served, their reports, each of which the taker was given once, the root's own turns, and
@@ -88,7 +94,7 @@ pub record IsHosted {I O T H C : Type 0} (IsLink : ℕ → Accepted × Asked →
   pub missed : List Accepted
   pub joined : IsAllJoined IsLink lock served o.root links (taken o.taker).ticks
   pub handed_on : AreHanded lock (view_of o.root.pass) (taken o.taker).events o.handed
-  pub quiet : TicksQuietly shown moves (opening_of lock) (view_of o.root.pass).seen o.own.missed gave_first gave_last (ticks_of served) (taken o.taker).ticks o.own.hand
+  pub quiet : TicksQuietly shown moves (opening_of lock) (view_of o.root.pass).seen o.own.missed gave_first gave_last before.quiets after.quiets (ticks_of served) (taken o.taker).ticks o.own.hand
   pub reports : IsPermutation links (taken o.taker).reports
   pub told_links : after.accepted ≡ with_all before.accepted (links_of served ++ missed)
   pub stopped : HostStopped o.stop after.told count (length links) missed
@@ -99,7 +105,9 @@ pub record IsHosted {I O T H C : Type 0} (IsLink : ℕ → Accepted × Asked →
 -- and goes on from the opening, and its rows are what the collector of the space made of none at each of its events. Each link that was accepted has
 -- its Tick and its report, which the taker was given once, but the one, if any, for which there was no memory, which is given back.
 -- The server's own turns are those Ticks and the Ticks at looks at a clock, and there are no turns but these and the links'. A look had a Tick only where
--- something had ended, and none only where nothing had ended then, or where the server says that it missed a Tick. The events that the taker was given are the
+-- something had ended, and none only where nothing had ended then, or where the server says that it missed a Tick. The clock was looked at for each answer of
+-- the listener that no link came, or that it was not told to stop. It gave the listener up only where that had failed more than MAX_IDLE_TRIES times. The
+-- events that the taker was given are the
 -- first after the opening's, in their order, and all of them where the server says so.
 pub record HostsLinks {I O T H C : Type 0} (IsLink : ℕ → Accepted × Asked → LinkReport I O T H → Type 0) (IsLost : Accepted → LostLink I O T → Type 0) (shown : H → WorkerState) (moves : States → Call → States → Type 0)
     (taken : C → Taken (LinkReport I O T H)) (opening : SpaceHistory) (count : ℕ) (before after : Listening) (gave_first gave_last : Option (List ℕ)) (h : Hosted I O T C H) : Type 0 where
@@ -114,9 +122,10 @@ pub record HostsLinks {I O T H C : Type 0} (IsLink : ℕ → Accepted × Asked �
   pub reported : Paired (IsReportOf IsLink opening h.space) 1 served links
   pub reports : IsPermutation links (taken h.taker).reports
   pub ticks : AreTurnsOf opening 0 (taken h.taker).ticks h.space
-  pub quiet : TicksQuietly shown moves opening h.space.events h.tick_missed gave_first gave_last (ticks_of served) (taken h.taker).ticks h.hand
+  pub quiet : TicksQuietly shown moves opening h.space.events h.tick_missed gave_first gave_last before.quiets after.quiets (ticks_of served) (taken h.taker).ticks h.hand
   pub others : (n : ℕ) → length links < n → events_after opening n h.space ≡ []
   pub stopped : HostStopped h.stop after.told count (length links) missed
+  pub fault : h.stop ≡ AcceptFault → FailedTimes (MAX_IDLE_TRIES + 1) before.faults after.faults
   pub back : AreGivenBack IsLost missed h.lost
   pub untold : h.stop ≢ Told → after.told ≡ before.told
   pub handed : StartsWith h.space.events (opening.events ++ (taken h.taker).events)

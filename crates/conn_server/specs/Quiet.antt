@@ -1,5 +1,5 @@
 -- Ticks that a server makes in seconds without a link.
-use Rattle.std.specs.Prelude.{◌≡◌, ◌⊎◌, ◌<◌, ℕ, Bool, true, List, [], ◌∷◌, ◌++◌, length, Option, Some, None, IfSome, IfNone, option_to_list}
+use Rattle.std.specs.Prelude.{◌≡◌, ◌⊎◌, ◌<◌, ◌≤◌, ◌+◌, ℕ, Bool, true, List, [], ◌∷◌, ◌++◌, length, Option, Some, None, IfSome, IfNone, option_to_list}
 use Rattle.std.specs.List.{flat_map}
 use Rattle.wire_io.specs.Wire.{Gave}
 use Rattle.history.specs.declared.asks.Ask.TheVariants.{Tick}
@@ -105,14 +105,16 @@ IsStep opening events missed made (without_tick moment) = MayPass opening events
 
 -- A server's own turns have these entries, in their order: those of the Ticks before its links, and those of its looks at a clock. The latter are Ticks at moments
 -- of the clock at which something had ended. At the other moments that the clock gave no Tick was made, and each of them may pass. If the server says that it
--- missed a Tick, then there is such a moment. The server's own hand, if it has one, was told what the Ticks at looks withdrew.
-pub record TicksQuietly {H : Type 0} (shown : H → WorkerState) (moves : States → Call → States → Type 0) (opening : SpaceHistory) (events : Events) (missed : Bool) (gave_first gave_last : Option (List ℕ)) (before_links ticks : List Asked) (hand : Option H) : Type 0 where
+-- missed a Tick, then there is such a moment. The server's own hand, if it has one, was told what the Ticks at looks withdrew. For each answer of the listener
+-- that no link came, or that it was not told to stop, the clock was looked at: so often at least as the listener's count of these answers rose.
+pub record TicksQuietly {H : Type 0} (shown : H → WorkerState) (moves : States → Call → States → Type 0) (opening : SpaceHistory) (events : Events) (missed : Bool) (gave_first gave_last : Option (List ℕ)) (quiets_first quiets_last : ℕ) (before_links ticks : List Asked) (hand : Option H) : Type 0 where
   pub course : List Step
   pub links : flat_map link_entry course ≡ before_links
   pub made : flat_map step_entry course ≡ ticks
   pub each : EachBehind (IsStep opening events missed) [] course
   pub told : HaveTold shown moves (flat_map look_entry course) hand
   pub gave : Gave gave_first gave_last (flat_map look_moment course)
+  pub asked : quiets_last ≤ quiets_first + length (flat_map look_moment course)
   pub cause : missed ≡ true → 0 < length (flat_map passed_moment course)
 
 -- The clock was looked at once. One Tick was made at that moment, as connection 0, where something had ended, and the hand was told what it withdrew. Or none was

@@ -1,5 +1,5 @@
 //! Accepting links until the listener is told to stop.
-ghost use Rattle.std.specs.Prelude.{◌≡◌, ◌≤◌, ◌<◌, ℕ, List, [], length, Option, None, Ok, false};
+ghost use Rattle.std.specs.Prelude.{◌≡◌, ◌≤◌, ◌<◌, ◌+◌, ℕ, List, [], length, Option, None, Ok, false, true};
 ghost use Rattle.mod_utf.specs.Utf.{utf};
 ghost use Rattle.wire_io.specs.Links.{Listening, Waits, IfCame, accepted_as};
 ghost use Rattle.wire_io.specs.Wire.{AreNewHalves};
@@ -28,7 +28,7 @@ use wire_io::{Clock, Link, Listener, Sink, Source, Waited};
 pub const MAX_LIVE: usize = 8_192;
 
 /// The most times that a failing listener is asked again while no link is live. With a pause of 50 milliseconds each that takes three seconds.
-const MAX_IDLE_TRIES: u32 = 60;
+pub const MAX_IDLE_TRIES: u32 = 60;
 
 /// The most short rounds, of 10 milliseconds each, before the listener is asked to wait again.
 const SHORT_ROUNDS: u32 = 100;
@@ -101,6 +101,8 @@ impl<
     fn gives_up(&mut self) -> bool
         ensures acceptor { self.new.acceptor ≡ self.old.acceptor }
         ensures own { self.new.own ≡ self.old.own }
+        ensures raised { self.new.idle_tries ≤ self.old.idle_tries + 1 }
+        ensures many { result ≡ true → MAX_IDLE_TRIES < self.new.idle_tries }
     {
         if self.acceptor.live.is_empty() {
             self.idle_tries = self.idle_tries.saturating_add(1);
@@ -134,11 +136,12 @@ impl<
         ensures goes_on { (l0 l1 l2 : Listening) (gave_first : Option (List ℕ))
             → IsHosting I.half O.half T.given H.shown H.may H.moves C.taken C.expects
             shared.now.lock.now shared.now.book.now shared.now.plan.now
-            l0 l1 gave_first (Q.given ticks.old) self.old.acceptor self.old.own
+            l0 l1 gave_first (Q.given ticks.old) self.old.acceptor self.old.own self.old.idle_tries
             → Waits {E = Failed} (accepted_as I.half O.half T.given) l1 l2 (Ok waited) → l2.ports ≡ l1.ports
             → GoesOn I.half O.half T.given H.shown H.may H.moves C.taken C.expects
             shared.now.lock.now shared.now.book.now shared.now.plan.now
-            l0 l2 gave_first (Q.given ticks.new) self.new.acceptor self.new.own result }
+            l0 l2 gave_first (Q.given ticks.new) self.new.acceptor self.new.own self.new.idle_tries
+            result }
     {
         self.idle_tries = 0;
         let crowded = shared.lock.is_crowded();
@@ -178,14 +181,16 @@ impl<
             H.shown C.taken C.expects shared.now.lock.now shared.now.book.now self.old.acceptor }
         ensures keeps { Keeps C.holds C.stays self.old.acceptor.taker self.new.acceptor.taker }
         ensures begun { self.new.acceptor.begun ≡ self.old.acceptor.begun }
+        ensures idle_tries { self.new.idle_tries ≡ self.old.idle_tries }
         ensures goes_on { (l0 l1 l2 : Listening) (gave_first : Option (List ℕ))
             → IsHosting I.half O.half T.given H.shown H.may H.moves C.taken C.expects
             shared.now.lock.now shared.now.book.now shared.now.plan.now
-            l0 l1 gave_first (Q.given ticks.old) self.old.acceptor self.old.own
+            l0 l1 gave_first (Q.given ticks.old) self.old.acceptor self.old.own self.old.idle_tries
             → IsLike l1 l2
             → IsHosting I.half O.half T.given H.shown H.may H.moves C.taken C.expects
             shared.now.lock.now shared.now.book.now shared.now.plan.now
-            l0 l2 gave_first (Q.given ticks.new) self.new.acceptor self.new.own }
+            l0 l2 gave_first (Q.given ticks.new) self.new.acceptor self.new.own
+            self.new.idle_tries }
     {
         let seen = shared.ended.count();
         let live = self.acceptor.live.len();
@@ -236,10 +241,12 @@ impl<
         ensures goes_on { (l0 : Listening) (gave_first : Option (List ℕ))
             → IsHosting I.half O.half T.given H.shown H.may H.moves C.taken C.expects
             shared.now.lock.now shared.now.book.now shared.now.plan.now
-            l0 (L.listening listener.old) gave_first (Q.given ticks.old) self.old.acceptor self.old.own
+            l0 (L.listening listener.old) gave_first (Q.given ticks.old) self.old.acceptor
+            self.old.own self.old.idle_tries
             → GoesOn I.half O.half T.given H.shown H.may H.moves C.taken C.expects
             shared.now.lock.now shared.now.book.now shared.now.plan.now
-            l0 (L.listening listener.new) gave_first (Q.given ticks.new) self.new.acceptor self.new.own result }
+            l0 (L.listening listener.new) gave_first (Q.given ticks.new) self.new.acceptor
+            self.new.own self.new.idle_tries result }
     {
         if self.acceptor.begun >= count_of(shared.plan) {
             return Some(Halt {
@@ -303,6 +310,7 @@ impl<
             × ((C.taken self.old.acceptor.taker).ticks ≡ []) }
         requires unused { (self.old.own.hand ≡ None) × (self.old.own.missed ≡ false) }
         requires hosts { self.old.acceptor.keeps ≡ false }
+        requires untried { self.old.idle_tries ≡ 0 }
         ensures keeps { Keeps C.holds C.stays self.old.acceptor.taker self.new.acceptor.taker }
         ensures halted { IsHalted I.half O.half T.given H.shown H.may H.moves C.taken C.expects
             shared.now.lock.now shared.now.book.now shared.now.plan.now

@@ -14,21 +14,28 @@
 //!   are what `Collects` makes. Other events are the server's own Ticks, one before each link.
 //! - A read or write fault has its cause (`halves`). Whole messages are answered to their end
 //!   (`complete`). A link for which there is no memory is shut and given back (`lost`).
-//! - The stop is `All` exactly if the count was served, and `AcceptFault` only if the listener failed.
+//! - The stop is `All` exactly if the count was served, and `AcceptFault` only if the listener failed:
+//!   once at least for `serve`, and more than 60 times for `host` (`fault`).
 //! - `given` of `serve_with`: the same, and the taker is given each report once.
 //! - `hosts` of `host` (`specs/Hosts`, `specs/Quiet`): the same. The server also makes Ticks in seconds
 //!   without a link. At each moment of its clock there is a Tick if something had ended, and none if
-//!   nothing had, or the result says `tick_missed`. It says that only if some moment had no Tick. The
-//!   hand of number 0 is told each object that these Ticks withdraw once (`told`). The stop is `Told`
-//!   only if the listener was told. A host that records gives its taker the events after the
-//!   opening's in order (`handed`), and all of them if it says `whole`.
+//!   nothing had, or the result says `tick_missed`. It says that only if some moment had no Tick. It
+//!   looks at its clock for each answer of the listener that no link came, or that it was not told to
+//!   stop (`asked`). The hand of number 0 is told each object that these Ticks withdraw once (`told`).
+//!   The stop is `Told` only if the listener was told. A host that records gives its taker the events
+//!   after the opening's in order (`handed`), and all of them if it says `whole`.
 //!
 //! # What is not
 //!
 //! - When a link begins, how long it waits, or how long a stop takes. That a host asks its listener,
-//!   or reads its clock in a quiet second. That memory grows with live links alone. `test_server`
-//!   tests most of these.
-//! - Who is told of objects that the end of a call withdraws after its link has ended: nobody is.
+//!   or looks at its clock while the listener fails. That memory grows with live links alone, or that
+//!   no more than `most_live` are live. `test_server` tests most of these.
+//! - By which history a look at the clock judges: it is one that has the server's own turns so far,
+//!   and may lack turns of links. Listener, clock and taker share no list. So no clause says that a
+//!   look, a report or a part comes before the stop. `test_server` tests it.
+//! - That `close` of the listener is called at the end: contracts see no change.
+//! - Who is told of objects that the end of a call withdraws after its link has ended: the next turn
+//!   tells them. If there is none, nobody does.
 //!
 //! # Choices and cost
 //!

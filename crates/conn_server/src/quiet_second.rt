@@ -1,5 +1,5 @@
 //! Ticks where a lease or a wait has ended, in seconds without a link and while no link is accepted.
-ghost use Rattle.std.specs.Prelude.{◌≡◌, ◌<◌, ◌⊎◌, List, [], ◌∷◌, length, MatchBool, MatchOption, IfSome, None, Option, option_to_list, ℕ, true, false};
+ghost use Rattle.std.specs.Prelude.{◌≡◌, ◌<◌, ◌+◌, ◌⊎◌, List, [], ◌∷◌, length, MatchBool, MatchOption, IfSome, None, Option, option_to_list, ℕ, true, false};
 ghost use Rattle.std.specs.List.{flat_map};
 ghost use Rattle.wire_io.specs.Wire.{Gave};
 ghost use Rattle.space.specs.declared.asked.Asked.{Asked};
@@ -200,14 +200,15 @@ impl<
         ensures follows { Follows self.old self.new }
         ensures begun { self.new.begun ≡ self.old.begun }
         ensures all { self.new.all ≡ self.old.all }
-        ensures quiet { (gave_first : Option (List ℕ)) (before_links : List Asked)
+        ensures quiet { (gave_first : Option (List ℕ)) (quiets_first quiets_last : ℕ)
+            (before_links : List Asked)
             → TicksQuietly H.shown H.moves
             (opening_of shared.now.lock.now) (view_of self.old.root.pass).seen own.old.missed
-            gave_first (Q.given clock.old)
+            gave_first (Q.given clock.old) quiets_first quiets_last
             before_links (C.taken self.old.taker).ticks own.old.hand
             → TicksQuietly H.shown H.moves
             (opening_of shared.now.lock.now) (view_of self.new.root.pass).seen own.new.missed
-            gave_first (Q.given clock.new)
+            gave_first (Q.given clock.new) quiets_first (quiets_last + 1)
             before_links (C.taken self.new.taker).ticks own.new.hand }
     {
         if !self.with_tick_room() {

@@ -1,5 +1,5 @@
 //! The server.
-ghost use Rattle.std.specs.Prelude.{◌≡◌, ◌≤◌, ◌⊎◌, List, [], ◌++◌, length, IfSome, true, false};
+ghost use Rattle.std.specs.Prelude.{◌≡◌, ◌≤◌, ◌+◌, ◌⊎◌, List, [], ◌++◌, length, IfSome, true, false};
 ghost use Rattle.mod_utf.specs.Utf.{utf};
 ghost use Rattle.wire_io.specs.Wire.{Rose};
 ghost use Rattle.wire_io.specs.declared.limits.TheConstants.{MAX_HOST_BYTES};
@@ -7,9 +7,10 @@ ghost use Rattle.turn_lock.specs.Handles.{IsFresh, IsRootOf, opening_of, view_of
 ghost use Rattle.turn_lock.specs.Rule.{Settled, StartsWith};
 ghost use Rattle.conn_server.specs.Taken.{IsEmpty, ExpectsLinks, Keeps, SameReports};
 ghost use Rattle.conn_server.specs.Handed.{AreHanded};
-ghost use Rattle.conn_server.specs.Hosts.{HostsLinks, IsHosted};
+ghost use Rattle.conn_server.specs.Hosts.{FailedTimes, HostsLinks, IsHosted};
 ghost use Rattle.conn_server.specs.Reports.{GivesReports, IsLinkOf, IsServed, ServesLinks};
 ghost use Rattle.conn_server.specs.Stops.{IsLostLink};
+ghost use Rattle.conn_server.specs.declared.host_loop.TheConstants.{MAX_IDLE_TRIES};
 ghost use Rattle.conn_server.specs.declared.plan.TheConstants.{MAX_LINKS};
 
 use crate::accept_loop::{Stop, accept_links};
@@ -254,7 +255,9 @@ where
         C.taken shared.now.lock.now shared.now.plan.now.count
         (L.listening listener.old) (L.listening listener.new)
         (Q.given ticks.old) (Q.given ticks.new) result }
-    ensures fault { result.stop ≡ Stop.AcceptFault → Rose (L.listening listener.old).faults (L.listening listener.new).faults }
+    ensures fault { result.stop ≡ Stop.AcceptFault
+        → FailedTimes (MAX_IDLE_TRIES + 1)
+        (L.listening listener.old).faults (L.listening listener.new).faults }
     ensures faults { (L.listening listener.old).faults ≤ (L.listening listener.new).faults }
     ensures ports { (L.listening listener.new).ports ≡ (L.listening listener.old).ports }
 {
@@ -544,7 +547,7 @@ impl<'s, R: Threads + Wait + Sync, G: Crew> Server<'s, R, G> {
     /// The reports of links have the entries of their turns in proofs alone. So a link takes no more memory with each call.
     ///
     /// The stop is Told where the listener was told to. It is All where the plan's count of links was served, AcceptFault only where the listener's count
-    /// of faults rose, and OutOfMemory as in `serve`. In each case the listener is closed (`Listener::close`), so that the system refuses new clients, and
+    /// of faults rose by more than 60, and OutOfMemory as in `serve`. In each case the listener is closed (`Listener::close`), so that the system refuses new clients, and
     /// live links end soon where the listener can tell them to. Links are served to their ends, and all threads are joined.
     ///
     /// Its conditions: those of `serve_with`, but for the count, which may be any, and a taker that was given no event yet.
@@ -570,7 +573,8 @@ impl<'s, R: Threads + Wait + Sync, G: Crew> Server<'s, R, G> {
             C.expects begin.taker }
 
         // As `serve_with`, where the server's own turns are the Ticks before links and those at looks at `ticks`, whose hand was told what they withdrew. A
-        // look has a Tick only where something had ended. It has none only where nothing had ended, or where the result says that a Tick was missed.
+        // look has a Tick only where something had ended. It has none only where nothing had ended, or where the result says that a Tick was missed. There
+        // is a look for each answer of the listener that no link came, or that it was not told to stop.
         // The events that the taker was given are the first after the opening's, and all where the result says so.
         ensures hosts { HostsLinks
             (IsLinkOf L.In.half L.Out.half L.Ticks.given G.Hand.shown G.Hand.may G.Hand.moves
@@ -584,7 +588,9 @@ impl<'s, R: Threads + Wait + Sync, G: Crew> Server<'s, R, G> {
         ensures unrecorded { begin.record ≡ false → result.whole ≡ false }
 
         // The listener.
-        ensures fault { result.stop ≡ Stop.AcceptFault → Rose (L.listening listener.old).faults (L.listening listener.new).faults }
+        ensures fault { result.stop ≡ Stop.AcceptFault
+            → FailedTimes (MAX_IDLE_TRIES + 1)
+            (L.listening listener.old).faults (L.listening listener.new).faults }
         ensures faults { (L.listening listener.old).faults ≤ (L.listening listener.new).faults }
         ensures ports { (L.listening listener.new).ports ≡ (L.listening listener.old).ports }
         ensures all { (¬ Rose (L.listening listener.old).faults (L.listening listener.new).faults)
@@ -638,7 +644,9 @@ impl<'s, R: Threads + Wait + Sync, G: Crew> Server<'s, R, G> {
             C.taken lock.now plan.now.count
             (L.listening listener.old) (L.listening listener.new)
             (Q.given ticks.old) (Q.given ticks.new) result }
-        ensures fault { result.stop ≡ Stop.AcceptFault → Rose (L.listening listener.old).faults (L.listening listener.new).faults }
+        ensures fault { result.stop ≡ Stop.AcceptFault
+            → FailedTimes (MAX_IDLE_TRIES + 1)
+            (L.listening listener.old).faults (L.listening listener.new).faults }
         ensures faults { (L.listening listener.old).faults ≤ (L.listening listener.new).faults }
         ensures ports { (L.listening listener.new).ports ≡ (L.listening listener.old).ports }
     {
@@ -671,7 +679,9 @@ impl<'s, R: Threads + Wait + Sync, G: Crew> Server<'s, R, G> {
                     C.taken lock.entry.now plan.entry.now.count
                     (L.listening listener.entry.now) (L.listening result.0.now)
                     (Q.given ticks.entry.now) (Q.given result.1.now) result.2 }
-                ensures fault { result.2.stop ≡ Stop.AcceptFault → Rose (L.listening listener.entry.now).faults (L.listening result.0.now).faults }
+                ensures fault { result.2.stop ≡ Stop.AcceptFault
+                    → FailedTimes (MAX_IDLE_TRIES + 1)
+                    (L.listening listener.entry.now).faults (L.listening result.0.now).faults }
                 ensures faults { (L.listening listener.entry.now).faults ≤ (L.listening result.0.now).faults }
                 ensures ports { (L.listening result.0.now).ports ≡ (L.listening listener.entry.now).ports }
             {

@@ -353,7 +353,7 @@ module _ {I O T : Type 0} (R : Type 0) (read_half : I → ReadHalf) (write_half 
   hosts_given taken IsLink opening count before after gave_first gave_last h served same rest x =
       let IsLost = IsLostLink read_half write_half given in
       let Quiet : Bool → SpaceHistory → List Asked → Option (SampleHand R) → Type 0 = λ missed s ticks hand.
-      TicksQuietly hand_shown Moves opening s.events missed gave_first gave_last (ticks_of x.served) ticks hand in
+      TicksQuietly hand_shown Moves opening s.events missed gave_first gave_last before.quiets after.quiets (ticks_of x.served) ticks hand in
       let space = sym rest.2 in record {
         config = subst (λ (s : SpaceHistory). s.configuration ≡ opening.configuration) space x.config;
         legal = subst (λ (s : SpaceHistory). IsLegal s.configuration s.events) space x.legal;
@@ -373,6 +373,7 @@ module _ {I O T : Type 0} (R : Type 0) (read_half : I → ReadHalf) (write_half 
             (subst (λ (c : Taken (LinkReport I O T (SampleHand R))). Quiet h.tick_missed h.space c.ticks h.hand) same x.quiet)));
         others = subst (λ (s : SpaceHistory). (n : ℕ) → length x.links < n → events_after opening n s ≡ []) space x.others;
         stopped = subst (λ (s : Stop). HostStopped s after.told count (length x.links) x.missed) (sym rest.0) x.stopped;
+        fault = λ is. x.fault (sym rest.0 ∙ is);
         back = subst (λ (l : Option (LostLink I O T)). AreGivenBack IsLost x.missed l) (sym rest.1) x.back;
         untold = subst (λ (s : Stop). s ≢ stops.Told → after.told ≡ before.told) (sym rest.0) x.untold;
         handed = subst (λ (s : SpaceHistory). StartsWith s.events (opening.events ++ (taken_of served.taker).events)) space
@@ -399,18 +400,20 @@ module _ {I O T : Type 0} (R : Type 0) (read_half : I → ReadHalf) (write_half 
   -- Links were served once the listener listened, and all was told.
   pub hosts_heard : (host : HostWords) (address : List ℕ) (port : ℕ) (old heard new : Listening) (given_old given_new : Option (List ℕ)) (output output2 : WriteHalf) (served : HostServed I O T R) (end : RunEnd)
       (errors errors_mid errors2 : WriteHalf) (told told2 : SinkState)
-      → address ≡ host.address → port ≡ host.port → heard.accepted ≡ old.accepted → heard.told ≡ old.told → new.ports ≡ with_next old.ports (address, port)
+      → address ≡ host.address → port ≡ host.port → heard.ports ≡ with_next old.ports (address, port) → heard.accepted ≡ old.accepted → heard.faults ≡ old.faults → heard.told ≡ old.told → heard.quiets ≡ old.quiets
+      → new.ports ≡ heard.ports
       → HostsFrom read_half write_half given seed host heard new given_old given_new served
       → AreHostTimed given served
       → HostEnds host.output (hosted_opening seed host.options) output output2 (Some served) end
       → Goes errors errors_mid (listening_line address port ∷ []) Whole told → Goes errors_mid errors2 (told_lines served.taker.reports) told told2
       → HostsTelling R read_half write_half given seed host (host_side old given_old output) (host_side new given_new output2) errors errors2 told2 end
-  hosts_heard host address port old heard new given_old given_new output output2 served end errors errors_mid errors2 told told2 is_address is_port same same_told ports links times ends line lines =
+  hosts_heard host address port old heard new given_old given_new output output2 served end errors errors_mid errors2 told told2 is_address is_port listens same unfailed same_told same_quiets same_ports links times ends line lines =
+      let heard_at : heard.ports ≡ with_next old.ports (host.address, host.port) = listens ∙ ap₂ (λ (a : List ℕ) (n : ℕ). with_next old.ports (a, n)) is_address is_port in
       let at = ap₂ (λ (a : List ℕ) (n : ℕ). listening_line a n) is_address is_port in (
         record {
           served = Some served;
-          alone = ports ∙ ap₂ (λ (a : List ℕ) (n : ℕ). with_next old.ports (a, n)) is_address is_port;
-          links = (heard, same, same_told, links);
+          alone = same_ports ∙ heard_at;
+          links = (heard, record { ports = heard_at; accepted = same; faults = unfailed; same_told = same_told; quiets = same_quiets }, links);
           times = times;
           ends = ends;
         },

@@ -54,6 +54,16 @@ pub listened : {T E : Type 0} (old new : Listening) (address : List ℕ) (port :
 listened old new address port (Ok done) is = let same = is.1 in omega (arith, same)
 listened old new address port (Err failed) is = is.1.0
 
+-- Where it listens, it does not fail.
+pub unfailed : {T E : Type 0} (old new : Listening) (address : List ℕ) (port : ℕ) (result : Result T E) → is_err result ≡ false → Listens old new address port result → new.faults ≡ old.faults
+unfailed old new address port (Ok done) well is = is.1
+unfailed old new address port (Err failed) well is = absurd (cc)
+
+-- It answers no wait and no look.
+pub listened_quietly : {T E : Type 0} (old new : Listening) (address : List ℕ) (port : ℕ) (result : Result T E) → Listens old new address port result → new.quiets ≡ old.quiets
+listened_quietly old new address port (Ok done) is = is.2
+listened_quietly old new address port (Err failed) is = is.2
+
 -- Where it does not listen, it tells no port more.
 pub deaf : {T E : Type 0} (old new : Listening) (address : List ℕ) (port : ℕ) (result : Result T E) → is_err result ≡ true → Listens old new address port result → new.ports ≡ old.ports
 deaf old new address port (Ok done) bad is = absurd (cc)

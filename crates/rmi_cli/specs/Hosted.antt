@@ -2,7 +2,7 @@
 use Rattle.std.specs.Prelude.{◌≡◌, ◌≢◌, ◌≤◌, ℕ, Bool, true, false, pos, ◌⊎◌, List, [], ◌∷◌, ◌++◌, length, map, Option, Some, None, IfSome}
 use Rattle.std.specs.List.{AllByRecursion}
 use Rattle.mod_utf.specs.Utf.{utf}
-use Rattle.wire_io.specs.Links.{Listening}
+use Rattle.wire_io.specs.Links.{Listening, with_next}
 use Rattle.wire_io.specs.Wire.{ReadHalf, WriteHalf}
 use Rattle.wire_io.specs.declared.limits.TheConstants.{MAX_HOST_BYTES}
 use Rattle.history.specs.declared.asks.Event.{Event}
@@ -91,11 +91,18 @@ HostsFrom read_half write_half given seed host before after gave_first gave_last
     HostsLinks (IsSampleLink read_half write_half given (host_plan seed host)) (IsLostLink read_half write_half given) hand_shown Moves taken_of
     (hosted_opening seed host.options) LAST_NUMBER before after gave_first gave_last served
 
--- The same from one side to the other, after the listener listened: it had given the same links then, and was told to stop where it was before.
+-- A listener listens at the words' address and port, and nowhere else besides. It gave no link meanwhile, and did not fail.
+pub record Listened (host : HostWords) (old heard : Listening) : Type 0 where
+  pub ports : heard.ports ≡ with_next old.ports (host.address, host.port)
+  pub accepted : heard.accepted ≡ old.accepted
+  pub faults : heard.faults ≡ old.faults
+  pub same_told : heard.told ≡ old.told
+  pub quiets : heard.quiets ≡ old.quiets
+
+-- The same from one side to the other, once the listener listens.
 abbrev pub HostsSample : {I O T R : Type 0} → (I → ReadHalf) → (O → WriteHalf) → (T → Option (List ℕ)) → List ℕ → HostWords → HostSide → HostSide → HostServed I O T R → Type 0
 HostsSample read_half write_half given seed host old new served =
-    (heard : Listening) × (heard.accepted ≡ old.listening.accepted) × (heard.told ≡ old.listening.told)
-    × HostsFrom read_half write_half given seed host heard new.listening old.given new.given served
+    (heard : Listening) × Listened host old.listening heard × HostsFrom read_half write_half given seed host heard new.listening old.given new.given served
 
 -- The lines of a journal. Together they are `journal_text` (`lines_of_journal` in proofs/Hosting.antt).
 abbrev pub journal_lines : SpaceConfig → List Event → List (List ℕ)

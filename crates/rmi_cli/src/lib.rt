@@ -63,8 +63,10 @@
 //!   calls or the counters, which all hands share. The test `connections_count_together` looks at
 //!   the answers.
 //! - At `host`, that a link's time begins at the turn before that link, and not at another of the
-//!   server's own turns: `ReportTaker` is told which link begins by no clause. The test
-//!   `a_link_takes_the_time_of_its_own_clock` shows it.
+//!   server's own turns or, as for lack of memory, at its end: `ReportTaker` is told which link
+//!   begins by no clause. The test `a_link_takes_the_time_of_its_own_clock` shows it.
+//! - At `host`, when a link is accepted, and when a line is written, before the stop or at it. That
+//!   `replay` reads the journal of `host` is tested with Java's clients (`interop/run`).
 //!
 //! Limits are constants that clauses cite. That they are what the documents say is proved (`prove!`
 //! in `src/limits.rt`).

@@ -1,6 +1,8 @@
 //! Hosting a service: serving it until its listener is told to stop.
-ghost use Rattle.std.specs.Prelude.{◌≡◌, ◌≤◌, ◌⊎◌, false, IfOk, IfErr, OnOk, OnErr};
+ghost use Rattle.std.specs.Prelude.{◌≡◌, ◌≤◌, ◌+◌, ◌⊎◌, false, IfOk, IfErr, OnOk, OnErr};
 ghost use Rattle.wire_io.specs.Wire.{Rose};
+ghost use Rattle.conn_server.specs.Hosts.{FailedTimes};
+ghost use Rattle.conn_server.specs.declared.host_loop.TheConstants.{MAX_IDLE_TRIES};
 ghost use Rattle.rmi_server.specs.Served.{IsHostedBy};
 ghost use Rattle.rmi_server.specs.SiteFaults.{IsSound, RefusesSite};
 
@@ -57,7 +59,8 @@ pub fn host<'t, R: Threads + Wait + Sync, L: Listener, Q: Clock, S: Service + Se
     ensures causes { IfErr result (RefusesSite site.now) }
     ensures err { OnErr result (door.new ≡ door.old) }
     ensures fault { IfOk result (λ hosted. hosted.stop ≡ Stop.AcceptFault →
-        Rose (L.listening door.old.listener).faults (L.listening door.new.listener).faults) }
+        FailedTimes (MAX_IDLE_TRIES + 1)
+        (L.listening door.old.listener).faults (L.listening door.new.listener).faults) }
     ensures all { IfOk result (λ hosted.
         (¬ Rose (L.listening door.old.listener).faults (L.listening door.new.listener).faults) →
         (hosted.stop ≡ Stop.Told)

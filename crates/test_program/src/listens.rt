@@ -11,6 +11,7 @@ use wire_io::{Link, Listener, Waited};
 #[derive(Drop)]
 struct Deaf {
     faults: u64,
+    quiets: u64,
 }
 
 impl Listener for Deaf {
@@ -23,7 +24,7 @@ impl Listener for Deaf {
 
     type Ticks = MemClock;
 
-    ghost listening = { λ d. untold_listener d.faults false };
+    ghost listening = { λ d. untold_listener d.faults false d.quiets };
 
     fn listen(&mut self, _address: &str, _port: u16) -> Result<(), Failed> {
         self.faults = self.faults.saturating_add(1);
@@ -41,6 +42,7 @@ impl Listener for Deaf {
     }
 
     fn is_told(&mut self) -> bool {
+        self.quiets = self.quiets.saturating_add(1);
         false
     }
 }
@@ -53,7 +55,10 @@ fn check_deaf(rt: &impl Runs, alloc: Global, line: &str) {
         output: sink_of(rt, alloc, ""),
         errors: sink_of(rt, alloc, ""),
         ticks: MemClock::new(MomentList::new(alloc)),
-        listener: Deaf { faults: 0 },
+        listener: Deaf {
+            faults: 0,
+            quiets: 0,
+        },
         dialer: unlinked(alloc),
         seed: SEED,
         served: None,

@@ -159,6 +159,7 @@ impl Gated {
         ensures halves { IfSome result (λ link. AreNewHalves (untold_read link.source.source.faults link.source.is_shut) (sink_half link.sink.sink)) }
         ensures faults { self.new.faults ≡ self.old.faults }
         ensures told { self.new.links.told ≡ self.old.links.told }
+        ensures quiets { self.new.links.quiets ≡ self.old.links.quiets }
         ensures untold { IfSome result (λ link. self.old.links.told ≡ false) }
     {
         if self.fails() {
@@ -212,7 +213,7 @@ impl Listener for Gated {
 
     type Ticks = MemClock;
 
-    ghost listening = { λ g. untold_listener g.faults g.links.told };
+    ghost listening = { λ g. untold_listener g.faults g.links.told g.links.quiets };
 
     fn listen(&mut self, _address: &str, _port: u16) -> Result<(), Failed> {
         Ok(())

@@ -125,6 +125,7 @@ struct Noting {
     alloc: Global,
     gone: Gone,
     faults: u64,
+    quiets: u64,
 }
 
 impl Noting {
@@ -132,6 +133,7 @@ impl Noting {
     fn next(&mut self) -> Option<Link<NotingSource, GatedSink, MemClock>>
         ensures halves { IfSome result (λ link. AreNewHalves (untold_read 0 link.source.is_shut) (sink_half link.sink.sink)) }
         ensures faults { self.new.faults ≡ self.old.faults }
+        ensures quiets { self.new.quiets ≡ self.old.quiets }
     {
         let gone = Arc::try_clone(&self.gone).ok()?;
         let Link {
@@ -167,7 +169,7 @@ impl Listener for Noting {
 
     type Ticks = MemClock;
 
-    ghost listening = { λ g. untold_listener g.faults false };
+    ghost listening = { λ g. untold_listener g.faults false g.quiets };
 
     fn listen(&mut self, _address: &str, _port: u16) -> Result<(), Failed> {
         Ok(())
@@ -191,6 +193,7 @@ impl Listener for Noting {
     }
 
     fn is_told(&mut self) -> bool {
+        self.quiets = self.quiets.saturating_add(1);
         false
     }
 }
@@ -222,6 +225,7 @@ fn noting_of(rt: &impl Abort, alloc: Global, gone: &Gone) -> Option<Noting> {
         alloc,
         gone,
         faults: 0,
+        quiets: 0,
     })
 }
 

@@ -52,8 +52,8 @@ returns-clause-hosted g c =
       missed = e.missed;
       joined = all_closed IsLink shared.lock.now read_half write_half given _ _ shown link _ _ shared.book.now end is j.ensures.none;
       handed_on = is.handed_on (j.ensures.follows.1 ∙ e.hosts);
-      quiet = quiet_later shown moves opening seen seen_after missed _ _ _ _ a.new.self.own.hand j.ensures.follows.0
-          (quiet_same shown moves opening seen missed _ _ _ _ _ _ a.new.self.own.hand e.quiet j.ensures.ticks (ap (λ l. ticks_of l) same));
+      quiet = quiet_later shown moves opening seen seen_after missed _ _ _ _ _ _ a.new.self.own.hand j.ensures.follows.0
+          (quiet_same shown moves opening seen missed _ _ _ _ _ _ _ _ a.new.self.own.hand e.quiet j.ensures.ticks (ap (λ l. ticks_of l) same));
       reports = is.given;
       told_links = e.links ∙ ap (λ l. with_all told (links_of l ++ e.missed)) (sym same);
       stopped = subst (λ (n : ℕ). HostStopped a.result.stop (g.L.Listener.listening a.new.listener).told shared.plan.now.count n e.missed) number e.stopped;

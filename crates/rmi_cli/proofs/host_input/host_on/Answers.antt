@@ -6,7 +6,7 @@ use Rattle.rmi_cli.specs.Sinks.{Goes}
 use Rattle.rmi_cli.specs.declared.sink_state.SinkState.{SinkState}
 use Rattle.rmi_cli.specs.declared.sink_state.SinkState.TheVariants.{Whole}
 use Rattle.rmi_cli.proofs.Hosting.{closed_printed, deaf_end, failed_end, hosts_deaf, hosts_heard, known_end, one_text, prints_all}
-use Rattle.rmi_cli.proofs.Linking.{added, deaf, listened}
+use Rattle.rmi_cli.proofs.Linking.{added, deaf, listened, listened_quietly, unfailed}
 use Rattle.rmi_cli.proofs.Sinking.{goes_shut}
 use Rattle.rmi_cli.proofs.host_input.host_on.Goals as goal
 
@@ -15,9 +15,11 @@ returns-clause-hosts g c seed asked are =
     let before = g.L.Listener.listening c.args.host.now.listener in
     let heard = g.L.Listener.listening c.listen.new.self in
     let port = c.args.parts.port in
-    let listens = added before heard _ _ _ (sym c.is_err.ensures.value ∙ c.if-is_err.false) c.listen.ensures.listens in
-    hosts_heard _ _ _ _ seed asked c.args.parts.address port before heard _ _ _ _ _ c.host_links-hosted.result.hosted _ _ _ _ _ _ are.address are.port c.listen.ensures.accepted c.listen.ensures.told
-    (c.host_links-hosted.ensures.ports ∙ listens ∙ ap (λ (a : List ℕ). with_next before.ports (a, port)) c.as_str.ensures)
+    let well = sym c.is_err.ensures.value ∙ c.if-is_err.false in
+    let listens = added before heard _ _ _ well c.listen.ensures.listens in
+    hosts_heard _ _ _ _ seed asked c.args.parts.address port before heard _ _ _ _ _ c.host_links-hosted.result.hosted _ _ _ _ _ _ are.address are.port
+    (listens ∙ ap (λ (a : List ℕ). with_next before.ports (a, port)) c.as_str.ensures) c.listen.ensures.accepted (unfailed before heard _ _ _ well c.listen.ensures.listens) c.listen.ensures.told
+    (listened_quietly before heard _ _ _ c.listen.ensures.listens) c.host_links-hosted.ensures.ports
     (c.host_links-hosted.ensures.links seed asked are) c.host_links-hosted.ensures.times
     (prints_all c.args.parts.recording asked.output _ c.args.parts.space c.args.parts.first _ _ _ _ _ _ c.host_links-hosted.result.hosted _ are.recording are.space are.first
     c.open_sinks-first.ensures.printed c.host_links-hosted.ensures.printed c.close_output.ensures.ends)

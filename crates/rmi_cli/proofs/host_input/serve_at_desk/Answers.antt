@@ -1,5 +1,6 @@
 use Rattle.std.proofs.Common.{◌∙◌, ap, sym, subst}
 use Rattle.std.specs.List.{AllByRecursion}
+use Rattle.conn_server.proofs.Stopping.{failed_rose}
 use Rattle.rmi_cli.specs.Desk.{DeskStays, IsTimed, taken_of}
 use Rattle.rmi_cli.proofs.Hosting.{hosts_from, hosts_given}
 use Rattle.rmi_cli.proofs.Recording.{desk_starts, desk_told, desk_untold, desk_wrote, times_start}
@@ -9,6 +10,9 @@ pub returns-clause-links : goal.returns-clause-links
 returns-clause-links g c seed asked are =
     hosts_from _ _ _ _ seed asked c.args.begun.parts _ _ _ _ _ are c.requires
     (hosts_given _ _ _ _ seed (λ d. taken_of d.given) _ _ _ _ _ _ _ c.host-served.result _ (ap taken_of (sym c.take_apart.ensures.given)) c.take_apart.ensures.rest c.host-served.ensures.hosts)
+
+pub returns-clause-fault : goal.returns-clause-fault
+returns-clause-fault g c is = failed_rose _ _ (c.host-served.ensures.fault (sym c.take_apart.ensures.rest.0 ∙ is))
 
 pub returns-clause-printed : goal.returns-clause-printed
 returns-clause-printed g c =

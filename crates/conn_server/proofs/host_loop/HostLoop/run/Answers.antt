@@ -7,7 +7,7 @@ pub loop-init : goal.loop-init
 loop-init g c =
     let shared = c.args.shared.now in
     record {
-      is = hosting_first _ _ _ _ _ _ _ _ shared.lock.now shared.book.now shared.plan.now _ _ _ _ c.requires.accepting c.requires.fresh.0 c.requires.fresh.1 c.requires.unused.0 c.requires.unused.1 c.requires.hosts;
+      is = hosting_first _ _ _ _ _ _ _ _ shared.lock.now shared.book.now shared.plan.now _ _ _ _ _ c.requires.accepting c.requires.fresh.0 c.requires.fresh.1 c.requires.unused.0 c.requires.unused.1 c.requires.hosts c.requires.untried;
       keeps = (λ held. held, refl);
     }
 

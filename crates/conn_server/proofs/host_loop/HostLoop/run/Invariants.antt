@@ -6,6 +6,6 @@ abbrev pub invariant-loop : goal.invariant-loop
 invariant-loop g l = record {
   is : IsHosting g.I.Source.half g.O.Sink.half g.T.Clock.given g.H.Worker.shown g.H.Worker.may g.H.Worker.moves g.C.ReportTaker.taken g.C.ReportTaker.expects
       l.shared.lock.now l.shared.book.now l.shared.plan.now
-      (g.L.Listener.listening l.fn.listener) (g.L.Listener.listening l.listener) (g.Q.Clock.given l.fn.ticks) (g.Q.Clock.given l.ticks) l.self.acceptor l.self.own;
+      (g.L.Listener.listening l.fn.listener) (g.L.Listener.listening l.listener) (g.Q.Clock.given l.fn.ticks) (g.Q.Clock.given l.ticks) l.self.acceptor l.self.own l.self.idle_tries;
   keeps : Keeps g.C.ReportTaker.holds g.C.ReportTaker.stays l.fn.self.acceptor.taker l.self.acceptor.taker;
 }

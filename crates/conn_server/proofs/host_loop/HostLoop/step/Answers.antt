@@ -1,7 +1,7 @@
 use Rattle.std.proofs.Common.{◌∙◌, arith, refl}
 use Rattle.conn_server.specs.declared.accept_loop.Stop.TheVariants.{AcceptFault}
-use Rattle.conn_server.proofs.Hosting.{halted_none, halted_told}
-use Rattle.conn_server.proofs.Listening.{like_looked}
+use Rattle.conn_server.proofs.Hosting.{halted_none, halted_told, hosting_failed}
+use Rattle.conn_server.proofs.Listening.{counted_told, like_looked}
 use Rattle.conn_server.proofs.host_loop.HostLoop.step.Goals as goal
 
 pub returns-in-Ok : goal.returns-in-Ok
@@ -16,7 +16,8 @@ returns-then-is_told-clause-goes_on g c l0 gave_first h =
     let same = looks.2 in
     let l = g.L.Listener.listening c.args.listener.now in
     let l2 = g.L.Listener.listening c.is_told.new.self in
-    halted_told _ _ _ _ _ _ _ _ _ _ _ l0 gave_first l l2 _ _ _ _ h h.is (λ front begins. begins, refl) refl refl refl looks.1 (omega (arith, same)) (looks.3 ∙ c.if-is_told.true) looks.0
+    halted_told _ _ _ _ _ _ _ _ _ _ _ l0 gave_first l l2 _ _ _ _ _ h h.is (λ front begins. begins, refl) refl refl refl looks.1 (omega (arith, same)) (looks.3 ∙ c.if-is_told.true) looks.0
+    (counted_told l.quiets l2.quiets c.is_told.result looks.4 c.if-is_told.true)
 
 pub returns-then-holds_back-clause-goes_on : goal.returns-then-holds_back-clause-goes_on
 returns-then-holds_back-clause-goes_on g c l0 gave_first h =
@@ -29,24 +30,31 @@ returns-then-gives_up-clause-goes_on g c l0 gave_first h =
     let passed = c.pass_time-in-Err.ensures in
     let failed = c.in-Err.ensures.waits in
     let rose = failed.1.0 in
-    let most = failed.1.1 in
-    let faults = h.faults in
+    let counted = failed.4 in
     let test = c.if-self-count_of.false in
     let count = c.count_of.ensures in
     let begun = passed.begun in
+    let same = passed.idle_tries in
+    let raised = c.gives_up.ensures.raised in
     let l = g.L.Listener.listening c.args.listener.now in
     let l2 = g.L.Listener.listening c.wait.new.self in
+    let tries = c.gives_up.new.self.idle_tries in
     rw (c.gives_up.ensures.acceptor, c.gives_up.ensures.own)
-    (halted_none _ _ _ _ _ _ _ _ _ _ _ l0 gave_first l2 _ _ _ AcceptFault
-    (passed.goes_on l0 l l2 gave_first h (record { accepted = failed.0; faults = omega (arith, rose); same_told = failed.2; same_ports = c.in-Err.ensures.ports }))
-    (omega (arith, test, count, begun), refl) (λ is. (omega (arith, rose, faults), omega (arith, most, faults))))
+    (halted_none _ _ _ _ _ _ _ _ _ _ _ l0 gave_first l2 _ _ _ AcceptFault tries
+    (hosting_failed _ _ _ _ _ _ _ _ _ _ _ l0 gave_first l l2 _ _ _ c.args.self.now.idle_tries _ tries h.failed failed.1 (omega (arith, raised, same))
+    (passed.goes_on l0 l l2 gave_first h (record { accepted = failed.0; faults = omega (arith, rose); quiets = omega (arith, counted); same_told = failed.2; same_ports = c.in-Err.ensures.ports })))
+    (omega (arith, test, count, begun), refl) (λ is. c.gives_up.ensures.many c.if-gives_up.true))
 
 pub returns-else-gives_up-clause-goes_on : goal.returns-else-gives_up-clause-goes_on
 returns-else-gives_up-clause-goes_on g c l0 gave_first h =
     let passed = c.pass_time-in-Err.ensures in
     let failed = c.in-Err.ensures.waits in
     let rose = failed.1.0 in
+    let counted = failed.4 in
+    let same = passed.idle_tries in
+    let raised = c.gives_up.ensures.raised in
     let l = g.L.Listener.listening c.args.listener.now in
     let l2 = g.L.Listener.listening c.wait.new.self in
     rw (c.gives_up.ensures.acceptor, c.gives_up.ensures.own)
-    (passed.goes_on l0 l l2 gave_first h (record { accepted = failed.0; faults = omega (arith, rose); same_told = failed.2; same_ports = c.in-Err.ensures.ports }))
+    (hosting_failed _ _ _ _ _ _ _ _ _ _ _ l0 gave_first l l2 _ _ _ c.args.self.now.idle_tries _ c.gives_up.new.self.idle_tries h.failed failed.1 (omega (arith, raised, same))
+    (passed.goes_on l0 l l2 gave_first h (record { accepted = failed.0; faults = omega (arith, rose); quiets = omega (arith, counted); same_told = failed.2; same_ports = c.in-Err.ensures.ports })))

@@ -1,4 +1,4 @@
-use Rattle.std.proofs.Common.{arith, refl}
+use Rattle.std.proofs.Common.{arith}
 use Rattle.wire_io.specs.Links.{accepted_as}
 use Rattle.conn_server.proofs.Hosting.{halted_lost, halted_told, hosting_joined, hosting_link, hosting_quiet}
 use Rattle.conn_server.proofs.Keeping.{keeps_on}
@@ -20,9 +20,10 @@ returns-in-Some g c = record {
       let came = rw c.in-Came.is at w in
       let same = came.1 in
       let lost = c.in-Some.ensures in
-      halted_lost _ _ _ _ _ _ _ _ _ _ _ l0 gave_first l1 l2 (accepted_as g.I.Source.half g.O.Sink.half g.T.Clock.given c.in-Came.link) _ c.catch_up.new.self _ _ c.in-Some.lost
-      (hosting_joined _ _ _ _ _ _ _ _ _ _ _ l0 gave_first l1 l1 _ _ _ _ h joined.accepting joined.follows joined.ticks joined.links joined.begun refl (omega arith) refl refl)
-      (omega (arith, few, begun)) came.0 (omega (arith, same)) ports came.2 lost.accepting lost.follows lost.tied.0 lost.tied.1 lost.links lost.count lost.lost;
+      halted_lost _ _ _ _ _ _ _ _ _ _ _ l0 gave_first l1 l2 (accepted_as g.I.Source.half g.O.Sink.half g.T.Clock.given c.in-Came.link) _ c.catch_up.new.self _ _ c.in-Some.lost 0
+      (hosting_joined _ _ _ _ _ _ _ _ _ _ _ l0 gave_first l1 _ _ _ _ c.args.self.now.idle_tries 0 h (omega arith) joined.accepting joined.follows joined.ticks joined.links joined.begun)
+      (omega (arith, few, begun)) (record { accepted = came.0; faults = omega (arith, same); quiets = came.4; same_told = came.2; same_ports = ports })
+      lost.accepting lost.follows lost.tied.0 lost.tied.1 lost.links lost.count lost.lost;
 }
 
 pub returns-in-None : goal.returns-in-None
@@ -35,9 +36,10 @@ returns-in-None g c = record {
       let came = rw c.in-Came.is at w in
       let same = came.1 in
       let admitted = c.in-None.ensures in
-      hosting_link _ _ _ _ _ _ _ _ _ _ _ l0 gave_first l1 l2 (accepted_as g.I.Source.half g.O.Sink.half g.T.Clock.given c.in-Came.link) _ c.catch_up.new.self _ _
-      (hosting_joined _ _ _ _ _ _ _ _ _ _ _ l0 gave_first l1 l1 _ _ _ _ h joined.accepting joined.follows joined.ticks joined.links joined.begun refl (omega arith) refl refl)
-      (omega (arith, few, begun)) came.0 (omega (arith, same)) ports came.2 admitted.accepting admitted.follows admitted.tied admitted.links admitted.count;
+      hosting_link _ _ _ _ _ _ _ _ _ _ _ l0 gave_first l1 l2 (accepted_as g.I.Source.half g.O.Sink.half g.T.Clock.given c.in-Came.link) _ c.catch_up.new.self _ _ 0
+      (hosting_joined _ _ _ _ _ _ _ _ _ _ _ l0 gave_first l1 _ _ _ _ c.args.self.now.idle_tries 0 h (omega arith) joined.accepting joined.follows joined.ticks joined.links joined.begun)
+      (omega (arith, few, begun)) (record { accepted = came.0; faults = omega (arith, same); quiets = came.4; same_told = came.2; same_ports = ports })
+      admitted.accepting admitted.follows admitted.tied admitted.links admitted.count;
 }
 
 pub returns-in-Quiet : goal.returns-in-Quiet
@@ -48,9 +50,11 @@ returns-in-Quiet g c = record {
       let quiet = c.tick_quietly.ensures in
       let none = rw c.in-Quiet.is at w in
       let same = none.1 in
-      hosting_quiet _ _ _ _ _ _ _ _ _ _ _ l0 gave_first l2 _ _ c.catch_up.new.self _ _ _
-      (hosting_joined _ _ _ _ _ _ _ _ _ _ _ l0 gave_first l1 l2 _ _ _ _ h joined.accepting joined.follows joined.ticks joined.links joined.begun none.0 (omega (arith, same)) ports none.2)
-      quiet.accepting quiet.follows quiet.all quiet.begun (λ t. quiet.quiet gave_first _ t);
+      let counted = none.4 in
+      hosting_quiet _ _ _ _ _ _ _ _ _ _ _ l0 gave_first l1 l2 _ _ c.catch_up.new.self _ _ _ 0
+      (hosting_joined _ _ _ _ _ _ _ _ _ _ _ l0 gave_first l1 _ _ _ _ c.args.self.now.idle_tries 0 h (omega arith) joined.accepting joined.follows joined.ticks joined.links joined.begun)
+      (record { accepted = none.0; faults = omega (arith, same); quiets = omega (arith, counted); same_told = none.2; same_ports = ports })
+      quiet.accepting quiet.follows quiet.all quiet.begun (λ t. quiet.quiet gave_first l0.quiets l1.quiets _ t);
 }
 
 pub returns-in-Told : goal.returns-in-Told
@@ -60,5 +64,5 @@ returns-in-Told g c = record {
       let joined = c.catch_up.ensures in
       let told = rw c.in-Told.is at w in
       let same = told.1 in
-      halted_told _ _ _ _ _ _ _ _ _ _ _ l0 gave_first l1 l2 _ _ _ _ h joined.accepting joined.follows joined.ticks joined.links joined.begun told.0 (omega (arith, same)) told.2 ports;
+      halted_told _ _ _ _ _ _ _ _ _ _ _ l0 gave_first l1 l2 _ _ _ _ c.args.self.now.idle_tries h joined.accepting joined.follows joined.ticks joined.links joined.begun told.0 (omega (arith, same)) told.2 ports told.3;
 }
