@@ -145,7 +145,7 @@ world_once lease lease2 ack ack2 clients clients2 text of_a of_b =
       first_once SpellsDuration duration_once (SpellsDuration ack ▸ SpellsClients clients ▸ End) (SpellsDuration ack2 ▸ SpellsClients clients2 ▸ End) words lease lease2 others.1 others.2,
       first_once SpellsDuration duration_once (SpellsClients clients ▸ End) (SpellsClients clients2 ▸ End) (drop 1 words) ack ack2 of_ack of_ack2,
       first_once SpellsClients clients_once End End (drop 1 (drop 1 words)) clients clients2
-      (after (SpellsDuration ack) (SpellsClients clients ▸ End) (drop 1 words) of_ack) (after (SpellsDuration ack2) (SpellsClients clients2 ▸ End) (drop 1 words) of_ack2),
+          (after (SpellsDuration ack) (SpellsClients clients ▸ End) (drop 1 words) of_ack) (after (SpellsDuration ack2) (SpellsClients clients2 ▸ End) (drop 1 words) of_ack2),
     )
   where
     after_world : (words : List (List ℕ)) → WorldWords lease ack clients words → WorldWords lease2 ack2 clients2 words
