@@ -1,12 +1,11 @@
 -- What calls are answered: the bytes of Returns (Java RMI Specification, 10.2), and which outcomes a method can have.
 use Rattle.std.specs.Prelude.{ℕ, Bool, true, false, ◌&&◌, not, nat_le, List, [], ◌∷◌, length, Option, None, Some, if◌then◌else◌}
 use Rattle.class_desc.specs.declared.field.TypeCode.{TypeCode}
-use Rattle.class_desc.specs.declared.field.TypeCode.TheVariants as types
 use Rattle.class_desc.specs.TypeCode.{is_primitive}
 use Rattle.class_desc.specs.declared.slot.Item.{Item}
 use Rattle.class_desc.specs.declared.slot.Item.TheVariants as items
 use Rattle.ser_values.specs.declared.value.Value.{Value}
-use Rattle.ser_values.specs.declared.value.Value.TheVariants as values
+use Rattle.ser_values.specs.Shape.{fits_value}
 use Rattle.object_ids.specs.declared.ids.Uid.{Uid}
 use Rattle.system_objects.specs.declared.book.Kind.{Kind}
 use Rattle.call_dispatch.specs.declared.outcome.Outcome.{Outcome}

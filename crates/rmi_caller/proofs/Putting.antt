@@ -1,5 +1,5 @@
 -- The items of arguments, as they are put one after the other.
-use Rattle.std.proofs.Common.{◌≡◌, ◌≢◌, ◌≤◌, ◌<◌, ◌+◌, ◌∙◌, ℕ, Bool, List, [], ◌∷◌, ◌++◌, length, take, get_or, refl, sym, ap, subst, append_assoc, append-nil}
+use Rattle.std.proofs.Common.{◌≡◌, ◌≤◌, ◌<◌, ◌+◌, ◌∙◌, ℕ, Bool, List, [], ◌∷◌, ◌++◌, length, take, get_or, refl, sym, ap, subst, append_assoc, append-nil}
 use Rattle.std.specs.Prelude.{ℤ}
 use Rattle.std.proofs.lemmas.List.{take_all, take_more}
 use Rattle.class_desc.specs.declared.slot.Slot.{Slot}
@@ -10,7 +10,6 @@ use Rattle.ser_values.specs.declared.node.Node.{Node}
 use Rattle.ser_values.specs.declared.value.Value.TheVariants as values
 use Rattle.ser_values.specs.Finished.{IsGraphOf}
 use Rattle.ser_write.specs.Canonical.{value_bytes}
-use Rattle.ser_values.specs.Fronts.{put_block}
 use Rattle.stream_grammar.specs.Spelled.{joined}
 use Rattle.java_shapes.specs.Put.{Grows}
 use Rattle.java_shapes.specs.Proxies.{ProxyAt}
