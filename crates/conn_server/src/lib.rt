@@ -69,7 +69,7 @@ pub use admission::LostLink;
 pub use host_loop::MAX_LIVE;
 pub use link_entries::LinkEntries;
 pub use link_task::{AdmittedLink, LinkDone, LinkReport, LinkTask, TaskPromise};
-pub use plan::ServePlan;
+pub use plan::{ServePlan, random_seed};
 pub use server::{
     AllJoined, Begin, HostBegin, HostJoined, Hosted, LinkReports, Report, Served, Server,
 };
