@@ -39,7 +39,8 @@
 //!
 //! # Choices and cost
 //!
-//! - A thread that cannot be started leaves its link to the accepting thread.
+//! - Where no thread can be started for a link, the server tries 60 times more, for three seconds at
+//!   most. Then the accepting thread serves that link.
 //! - A listener that fails is asked again while a link is served. When none is, `serve` asks it four
 //!   times more and `host` 60 times, with a pause of 50 milliseconds each.
 //! - A host that has as many links as it may have looks every 50 milliseconds whether it is to stop.
