@@ -39,8 +39,7 @@
 //!
 //! # Choices and cost
 //!
-//! - Where no thread can be started for a link, the server tries 60 times more, for three seconds at
-//!   most. Then the accepting thread serves that link.
+//! - A thread that cannot be started leaves its link to the accepting thread.
 //! - A listener that fails is asked again while a link is served. When none is, `serve` asks it four
 //!   times more and `host` 60 times, with a pause of 50 milliseconds each.
 //! - A host that has as many links as it may have looks every 50 milliseconds whether it is to stop.
@@ -70,7 +69,7 @@ pub use admission::LostLink;
 pub use host_loop::MAX_LIVE;
 pub use link_entries::LinkEntries;
 pub use link_task::{AdmittedLink, LinkDone, LinkReport, LinkTask, TaskPromise};
-pub use plan::{ServePlan, random_seed};
+pub use plan::ServePlan;
 pub use server::{
     AllJoined, Begin, HostBegin, HostJoined, Hosted, LinkReports, Report, Served, Server,
 };

@@ -87,13 +87,12 @@ pub struct LinkDone<I, O, T, H> {
 pub struct TaskPromise<I, O, T, H> {
     pub lock: Snapshot<TurnLock>,
     pub book: Snapshot<Book>,
-    /// What is known of the task, so that the promise can be made again.
-    pub task: Snapshot<Snapshot<LinkTask<I, O, T, H>>>,
+    pub task: Snapshot<LinkTask<I, O, T, H>>,
 }
 
 impl<I: Source, O: Sink, T: Clock, H: Worker> Promise<LinkDone<I, O, T, H>>
     for TaskPromise<I, O, T, H> {
-    ghost kept_by = { λ p r. Serves (TalksOver I.half O.half T.given H.shown H.may H.moves p.book.value) p.lock.value p.task.value.value r };
+    ghost kept_by = { λ p r. Serves (TalksOver I.half O.half T.given H.shown H.may H.moves p.book.value) p.lock.value p.task.value r };
 }
 
 /// The report of a link whose connection ended so, with these entries of its turns. Both its halves are shut.

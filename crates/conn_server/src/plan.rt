@@ -11,8 +11,6 @@ use call_dispatch::{DRAWS_BEGIN_BELOW, Setup};
 use object_ids::UidDraw;
 use sequence::Units;
 use std::alloc::{AllocError, Global};
-use std::io;
-use std::random::RandomSource;
 use wire_io::Link;
 
 /// The most connections that `Server::serve` accepts.
@@ -34,18 +32,6 @@ pub struct ServePlan {
     pub binding: bool,
     /// Words by chance, of which the identifiers of each connection are made.
     pub seed: [u64; 4],
-}
-
-/// A random word.
-fn word(rt: &impl RandomSource) -> io::Result<u64> {
-    let mut bytes = [0; 8];
-    rt.fill_bytes(&mut bytes)?;
-    Ok(u64::from_be_bytes(bytes))
-}
-
-/// Returns four random words, of which a server makes its identifiers. It fails where the system gives none.
-pub fn random_seed(rt: &impl RandomSource) -> io::Result<[u64; 4]> {
-    Ok([word(rt)?, word(rt)?, word(rt)?, word(rt)?])
 }
 
 /// Returns the setup of connection `by`, which comes over this link. It fails only where there is no memory.

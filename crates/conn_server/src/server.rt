@@ -542,8 +542,7 @@ impl<'s, R: Threads + Wait + Sync, G: Crew> Server<'s, R, G> {
     /// there is no memory to hand them out, they come with the next ones. Once the lock is crowded with events, they are handed on every 10
     /// milliseconds, for a second at most; then the listener is asked again.
     ///
-    /// Where no thread can be started for a link, it tries again 60 times, each time once a link has ended or after 50 milliseconds, and then the accepting
-    /// thread serves that link. Meanwhile no events are handed on, and no stop is seen.
+    /// Where no thread can be started for a link, the accepting thread serves it: until that link ends no events are handed on, and no stop is seen.
     ///
     /// The reports of links have the entries of their turns in proofs alone. So a link takes no more memory with each call.
     ///

@@ -1,4 +1,3 @@
-pub mod Characters
 pub mod Decoded
 pub mod Fronts
 pub mod Spelling

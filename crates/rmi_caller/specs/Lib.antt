@@ -5,3 +5,4 @@ pub mod Errors
 pub mod Exceptions
 pub mod Finding
 pub mod Leasing
+pub mod Texts

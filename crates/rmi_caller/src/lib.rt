@@ -50,6 +50,7 @@ mod exception;
 mod lookup;
 mod prepared;
 mod remote;
+mod text;
 
 pub use answer::Answer;
 pub use argument::Argument;

@@ -10,9 +10,10 @@ use crate::hosting::{Door, HostedService, host};
 use crate::service::Service;
 use crate::serving::{ServeFault, serve};
 use crate::site::Site;
-use conn_server::{Report, random_seed};
+use conn_server::Report;
 use input_end::{DescriptorEnd, FlaggedEnd, StoppedByInput, descriptor_end};
 use std::alloc::{AllocError, Global};
+use std::io;
 use std::io::Read;
 use std::net::{Net, TcpListener, TcpStream};
 use std::os::fd::AsRawFd;
@@ -42,11 +43,23 @@ pub struct TcpDoor<'d, I> {
 /// A listener over TCP that is told to stop at the end of an input. Its connections then give no more bytes.
 type ListensUntil<'t, R, I> = StoppedByInput<TcpListen<&'t R>, FlaggedEnd<DescriptorEnd<I>>>;
 
+/// A random word.
+fn word(rt: &impl RandomSource) -> io::Result<u64> {
+    let mut bytes = [0; 8];
+    rt.fill_bytes(&mut bytes)?;
+    Ok(u64::from_be_bytes(bytes))
+}
+
+/// Four random words.
+fn words(rt: &impl RandomSource) -> io::Result<[u64; 4]> {
+    Ok([word(rt)?, word(rt)?, word(rt)?, word(rt)?])
+}
+
 /// Four random words, of which a server makes its identifiers. NoSeed comes where the system gives none.
 pub fn seed(rt: &impl RandomSource) -> Result<[u64; 4], ServeFault>
     ensures { IfErr result (λ fault. fault ≡ ServeFault.NoSeed) }
 {
-    random_seed(rt).map_err(|_error| ServeFault::NoSeed)
+    words(rt).map_err(|_error| ServeFault::NoSeed)
 }
 
 /// Listens on the site's host and port, and serves a service as [`serve`] does. ListenFault comes where they cannot be listened on. For a service that runs

@@ -6,4 +6,5 @@ pub mod HelpText
 pub mod HostWords
 pub mod Options
 pub mod Program
+pub mod Texts
 pub mod Values

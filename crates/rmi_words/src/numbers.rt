@@ -1,6 +1,7 @@
 //! Decimal numbers on the command line, without needless zeros or signs.
 ghost use Rattle.std.specs.Prelude.{◌≡◌, ◌↔◌, ◌^◌, ℕ, decimal, IsTrue, IfSome, IfNone};
 ghost use Rattle.history.specs.declared.limits.TheConstants.{MAX_DURATION_MS};
+ghost use Rattle.journal.specs.Numbers.{BeginsPlainly};
 ghost use Rattle.journal.specs.Reading.{Finds};
 ghost use Rattle.journal.specs.Grammar.{SpellsBelow};
 ghost use Rattle.rmi_words.specs.CallWords.{SpellsUnit};
@@ -8,10 +9,16 @@ ghost use Rattle.rmi_words.specs.Command.{AreInRange};
 ghost use Rattle.rmi_words.specs.Options.{SpellsUpTo};
 
 use history::limits::MAX_DURATION_MS;
-use journal::begins_plainly;
 
 /// The most rounds of a drill.
 pub const MAX_ROUNDS: u64 = 1_000_000;
+
+/// Returns whether there is a first byte that is no plus sign, and no zero before further bytes.
+fn begins_plainly(word: &[u8]) -> bool
+    ensures { IsTrue result ↔ BeginsPlainly word.now }
+{
+    !word.is_empty() && word[0] != b'+' && (word[0] != b'0' || word.len() == 1)
+}
 
 /// The number below 2^64 that a word spells.
 fn read_number(word: &str) -> Option<u64>

@@ -80,19 +80,6 @@ kind_of kinds.Reset = reset
 kind_of kinds.InnerException = inner_exception
 kind_of kinds.OldExternal = old_external
 
--- the kind of a fault of the grammar
-abbrev pub stream_kind : FaultKind → StreamKind
-stream_kind bad_magic = kinds.BadMagic
-stream_kind bad_code = kinds.BadCode
-stream_kind bad_handle = kinds.BadHandle
-stream_kind wrong_handle_kind = kinds.WrongHandleKind
-stream_kind bad_desc = kinds.BadDesc
-stream_kind bad_utf = kinds.BadUtf
-stream_kind negative_length = kinds.NegativeLength
-stream_kind reset = kinds.Reset
-stream_kind inner_exception = kinds.InnerException
-stream_kind old_external = kinds.OldExternal
-
 -- a kind that comes where a stream is read whole
 abbrev pub IsInBytes : StreamKind → Type 0
 IsInBytes kinds.BlockLeft = ⊥
