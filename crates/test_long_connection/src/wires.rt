@@ -7,7 +7,7 @@ use sequence::ByteList;
 use std::alloc::{AllocError, Global};
 use wire_io::{Failed, Sink, Source};
 
-/// What a client sends first: it names no host and no port of its own.
+/// The bytes that a client sends first. They name no host and no port of its own.
 const OPENING: &[u8] = b"JRMI\x00\x02K\x00\x00\x00\x00\x00\x00";
 
 /// The code of an acknowledgement.
@@ -19,10 +19,10 @@ const ACK: u8 = 0x54;
 pub(crate) struct CallSource<'a> {
     /// The message that is read now.
     message: ByteList,
-    /// How many bytes of it were read.
+    /// The number of its bytes that were read.
     at: usize,
     call: &'a [u8],
-    /// How many calls come after the message, and its acknowledgement.
+    /// The number of calls after the message and its acknowledgement.
     calls: u32,
     /// The identifiers that the server draws.
     draw: UidDraw,
