@@ -2,7 +2,8 @@
 
     python3 interop/elsewhere.py FOLDER
 
-makes that repository in a new folder. What `rt lib` has proved of the crates comes with them, so that it need not be proved again there.
+makes that repository in a new folder. The must-fail edits stay here. What `rt lib` has proved of the crates comes with them, so that it need not be proved
+again there. A kit whose `rt ci` keeps what passed on the machine takes that from here, too.
 """
 import os
 import re
@@ -38,8 +39,14 @@ def folders():
     return re.findall(r"`(\w+)`", step[1])
 
 
+def gate_keeps():
+    """Whether the kit's `rt ci` keeps what passed on this machine, so that it need not be proved again in another repository."""
+    told = subprocess.run(["rt", "help"], stdin=subprocess.DEVNULL, stdout=subprocess.PIPE, stderr=subprocess.STDOUT, check=False)
+    return b"--anew" in told.stdout
+
+
 def unproved():
-    """Those of the folders of which `rt lib` keeps no proof here. The gate keeps none."""
+    """Those of the folders of which `rt lib` keeps no proof here. The gate keeps none in them."""
     return [name for name in folders() if not os.path.exists(f"{TOP}/crates/{name}/out/rlib/stamp")]
 
 
@@ -49,8 +56,8 @@ def write(path, text):
 
 
 def other_work(folder, names):
-    """What is not copied of a crate's folder: of what was made of it, all but the proved library."""
-    return [name for name in names if os.path.basename(folder) == "out" and name != "rlib"]
+    """What is not copied of a crate's folder: its edits, and of what was made of it, all but the proved library."""
+    return [name for name in names if name == "must-fail" or os.path.basename(folder) == "out" and name != "rlib"]
 
 
 def copy_file(source, to):
@@ -77,23 +84,26 @@ def make_repository(folder):
     subprocess.run(["git", "init", "-q"], cwd=folder, check=True)
 
 
-def build_service(folder):
-    """Proves and builds the service in its repository, and runs it with the clients that were recorded."""
-    ran = subprocess.run(["rt", "run"], cwd=f"{folder}/crates/{CRATE}", stdin=subprocess.DEVNULL, stdout=subprocess.PIPE, stderr=subprocess.STDOUT, timeout=BUILD, check=False)
+def build_service(folder, by_gate):
+    """Proves and builds the service in its repository, and runs it with the clients that were recorded: by the gate, or by itself."""
+    words, place = (["rt", "ci"], folder) if by_gate else (["rt", "run"], f"{folder}/crates/{CRATE}")
+    ran = subprocess.run(words, cwd=place, stdin=subprocess.DEVNULL, stdout=subprocess.PIPE, stderr=subprocess.STDOUT, timeout=BUILD, check=False)
     said = ran.stdout.decode(errors="replace")
-    want(f"status {ran.returncode}: {said.splitlines()[-5:]}", ran.returncode == 0 and f"rt: running out/{CRATE}" in said)
+    done = re.search(r"^\d+ passed, 0 failed", said.splitlines()[-1]) if by_gate else f"rt: running out/{CRATE}" in said
+    want(f"status {ran.returncode}: {said.splitlines()[-5:]}", ran.returncode == 0 and done)
 
 
 def check_elsewhere(java, server_of):
     """The service is proved and built in the other repository, and a Java client calls it."""
-    missing = unproved()
+    by_gate = gate_keeps()
+    missing = [] if by_gate else unproved()
     if missing:
         say(f"left out: a service in a repository of its own, since no proof of {missing[0]} is kept; `rt lib` in crates/rmi_server keeps them")
         return
     with tempfile.TemporaryDirectory(prefix="rmi-elsewhere-") as folder:
         with check("a service in a repository of its own is proved"):
             make_repository(folder)
-            build_service(folder)
+            build_service(folder, by_gate)
         server = server_of([f"{folder}/crates/{CRATE}/out/{CRATE}", "PORT", "60"])
         try:
             java.checks(CLIENT, server.port)

@@ -1,10 +1,10 @@
 -- Reading ends at one place: the bytes to come and the limit decide where, and why.
 use Rattle.std.proofs.Common.{◌≡◌, ℕ, ◌+◌, ◌≤◌, ◌⊎◌, inl, inr, List, [], ◌∷◌, ◌++◌, length, take, drop, take_at, drop_at, Option, Some, None, Result, Ok, Err, refl, ap, sym, ◌∙◌, arith, append-nil, length-append}
-use Rattle.stream_grammar.specs.Reading.{FaultKind, bad_magic, bad_code, bad_handle, wrong_handle_kind, bad_desc, bad_utf, negative_length, reset, inner_exception, old_external, short, bad, too_many, too_deep}
+use Rattle.stream_grammar.specs.Reading.{short, bad, too_many, too_deep}
 use Rattle.ser_read.specs.declared.fault.StreamKind.{StreamKind}
 use Rattle.ser_read.specs.declared.fault.StreamKind.TheVariants as kinds
 use Rattle.ser_read.specs.declared.fault.Large.TheVariants.{Bytes, Nodes, Depth}
-use Rattle.ser_read.specs.Here.{NeedsAll}
+use Rattle.ser_read.specs.Here.{NeedsAll, stream_kind}
 use Rattle.ser_read.specs.Wants.{WantFault, inside, missing_block, block_left, fault_at}
 use Rattle.call_dispatch.specs.declared.end.ConnEnd.{ConnEnd}
 use Rattle.call_dispatch.specs.declared.end.ConnEnd.TheVariants.{Ended, BadHeader, UnknownProtocol, BadMessage, BadStream, TooLarge, Truncated, NoSuchObject, NoSuchMethod, SpaceFull, MessageLimit, ReadFault, WriteFault, OutOfMemory}
@@ -41,22 +41,10 @@ lengths a b xs ys e = sym (length-append a xs) ∙ ap (λ (l : List ℕ). length
 
 -- ---- faults and ends
 
-abbrev kind_by : FaultKind → StreamKind
-kind_by bad_magic = kinds.BadMagic
-kind_by bad_code = kinds.BadCode
-kind_by bad_handle = kinds.BadHandle
-kind_by wrong_handle_kind = kinds.WrongHandleKind
-kind_by bad_desc = kinds.BadDesc
-kind_by bad_utf = kinds.BadUtf
-kind_by negative_length = kinds.NegativeLength
-kind_by reset = kinds.Reset
-kind_by inner_exception = kinds.InnerException
-kind_by old_external = kinds.OldExternal
-
 -- the end that a fault brings, whatever comes behind it
 abbrev end_by : WantFault → Option ConnEnd
 end_by (inside short) = None
-end_by (inside (bad kind p)) = Some (BadStream (kind_by kind) p)
+end_by (inside (bad kind p)) = Some (BadStream (stream_kind kind) p)
 end_by (inside (too_many p)) = Some (TooLarge Nodes p)
 end_by (inside (too_deep p)) = Some (TooLarge Depth p)
 end_by (missing_block p) = Some (BadStream kinds.MissingBlock p)

@@ -4,7 +4,7 @@ use Rattle.wire_io.specs.Pulled.{PullState}
 use Rattle.class_desc.specs.declared.slot.Item.TheVariants as items
 use Rattle.stream_grammar.specs.Reading.{magic_at}
 use Rattle.ser_read.specs.declared.serving.Want.TheVariants as wanted
-use Rattle.ser_read.specs.Here.{AreBytes}
+use Rattle.stream_grammar.specs.Faults.{AreBytes}
 use Rattle.ser_read.specs.Named.{add_bytes}
 use Rattle.ser_read.specs.Wants.{WantFault, ◌▸◌, Stand, nothing_read, bytes_at, run_at, want_at, serve}
 use Rattle.ser_read.specs.Heading.{inside_block}

@@ -22,7 +22,8 @@ use Rattle.jrmp_frames.specs.declared.code.Code.TheVariants.{Call}
 use Rattle.jrmp_frames.specs.Frames.{code_byte}
 use Rattle.jrmp_frames.specs.Messages.{head_bytes, wants_of, CallBytes}
 use Rattle.jrmp_frames.specs.Calls.{head_at}
-use Rattle.jrmp_frames.proofs.Calls.{Whole, headed, head_then}
+use Rattle.ser_read.proofs.InOrder.{Whole}
+use Rattle.jrmp_frames.proofs.Calls.{headed, head_then}
 use Rattle.jrmp_frames.proofs.CallLaws.{call_is_one}
 use Rattle.system_objects.specs.declared.book.Kind.{Kind}
 use Rattle.system_objects.specs.declared.request.Rejection.{Rejection}

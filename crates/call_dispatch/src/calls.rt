@@ -4,7 +4,7 @@ ghost use Rattle.history.specs.declared.replies.Reply.TheVariants.{Finished};
 ghost use Rattle.wire_io.specs.Pulled.{PullState, pull_state};
 ghost use Rattle.ports.specs.Balance.{Balanced};
 ghost use Rattle.jrmp_frames.specs.Calls.{ReadsHead, HasHead};
-ghost use Rattle.call_dispatch.specs.Conditions.{Keeps, OnlyTurns};
+ghost use Rattle.call_dispatch.specs.Conditions.{CanServeRest, LastTurns, RestOfMessage, object_call, running_call, invoked_call, prepared_call};
 ghost use Rattle.call_dispatch.specs.ConnectionState.{observed_of, terms_in};
 ghost use Rattle.system_objects.specs.declared.book.Kind.{Kind};
 ghost use Rattle.call_dispatch.specs.declared.outcome.Outcome.{Outcome};
@@ -129,9 +129,8 @@ fn finish<S: Source, K: Sink, C: Clock, P: Port, W: Worker>(
     uid: Uid,
     pending: Pending,
 ) -> Result<Answer, ConnEnd>
-    requires ready { P.ready connection.old.port.now }
-    requires room { 1 < (P.shown connection.old.port.now).room }
-    requires runs { RunsOne object (P.shown connection.old.port.now).asked }
+    requires can { CanServeRest P.ready P.shown W.shown (RunsOne object) prepared_call
+        connection.old }
     requires pending { IsReady pending }
     ensures finishes { (outcome : Outcome)
         → IsPending (terms_in connection.old) uid outcome pending
@@ -139,8 +138,7 @@ fn finish<S: Source, K: Sink, C: Clock, P: Port, W: Worker>(
         (observed_of C.given P.shown W.shown connection.old)
         (observed_of C.given P.shown W.shown connection.new) result }
     ensures short { IfOk result (λ answer. length answer.bytes ≤ RETURN_BYTES) }
-    ensures balanced { Balanced (P.shown connection.new.port.now).asked }
-    ensures frame { OnlyTurns P.ready P.shown P.leads W.shown 2 connection.old connection.new }
+    ensures frame { LastTurns P.ready P.shown P.leads W.shown 2 connection.old connection.new }
 {
     let Pending { made, listed, sent } = pending;
     let ask = Ask::Finish {
@@ -166,23 +164,17 @@ fn conclude<S: Source, K: Sink, C: Clock, P: Port, W: Worker>(
     result_type: Option<TypeCode>,
     outcome: Outcome,
 ) -> Result<Answer, ConnEnd>
-    requires time { connection.old.setup.now.draw.time <ℤ pos DRAWS_BEGIN_BELOW }
-    requires drawn { connection.old.setup.now.draw.drawn < 2 ^ 65 }
-    requires ready { P.ready connection.old.port.now }
-    requires room { 1 < (P.shown connection.old.port.now).room }
-    requires runs { RunsOne object (P.shown connection.old.port.now).asked }
+    requires can { CanServeRest P.ready P.shown W.shown (RunsOne object) invoked_call
+        connection.old }
     ensures concludes { Concludes W.may W.moves (terms_in connection.old) object
         (next_in connection.old) result_type outcome
         (observed_of C.given P.shown W.shown connection.old)
         (observed_of C.given P.shown W.shown connection.new) result }
     ensures short { IfOk result (λ answer. length answer.bytes ≤ RETURN_BYTES) }
-    ensures balanced { Balanced (P.shown connection.new.port.now).asked }
     ensures pull { connection.new.pull ≡ connection.old.pull }
-    ensures sink { connection.new.sink ≡ connection.old.sink }
-    ensures drawn { connection.new.setup.now.draw.drawn ≡ connection.old.setup.now.draw.drawn + 1 }
-    ensures calls { (W.shown connection.new.worker.now).calls
-        ≡ (W.shown connection.old.worker.now).calls }
-    ensures frame { Keeps P.ready P.shown P.leads 2 connection.old connection.new }
+    ensures drew { connection.new.setup.now.draw.drawn ≡ connection.old.setup.now.draw.drawn + 1 }
+    ensures frame { RestOfMessage P.ready P.shown P.leads W.shown invoked_call
+        connection.old connection.new }
 {
     let uid = next_uid(connection.setup);
     match prepare(
@@ -235,12 +227,8 @@ fn run_call<S: Source, K: Sink, C: Clock, P: Port, W: Worker>(
     kind: u32,
 ) -> Result<Answer, ConnEnd>
     requires head { HasHead reader }
-    requires time { connection.old.setup.now.draw.time <ℤ pos DRAWS_BEGIN_BELOW }
-    requires drawn { connection.old.setup.now.draw.drawn < 2 ^ 65 }
-    requires ready { P.ready connection.old.port.now }
-    requires room { 1 < (P.shown connection.old.port.now).room }
-    requires calls { (W.shown connection.old.worker.now).calls < 2 ^ 62 }
-    requires runs { RunsOne head.id (P.shown connection.old.port.now).asked }
+    requires can { CanServeRest P.ready P.shown W.shown (RunsOne head.id) running_call
+        connection.old }
     ensures runs_on { (first : PullState)
         → ReadsHead first (pull_state S.half connection.old.pull) head reader.stand
         → RunsOn W.may W.moves (terms_in connection.old) (next_in connection.old) head kind first
@@ -248,15 +236,10 @@ fn run_call<S: Source, K: Sink, C: Clock, P: Port, W: Worker>(
         (observed_of C.given P.shown W.shown connection.new) connection.old.setup.now.draw.drawn
         connection.new.setup.now.draw.drawn result }
     ensures short { IfOk result (λ answer. length answer.bytes ≤ RETURN_BYTES) }
-    ensures balanced { Balanced (P.shown connection.new.port.now).asked }
-    ensures sink { connection.new.sink ≡ connection.old.sink }
-    ensures drawn { (connection.old.setup.now.draw.drawn ≤ connection.new.setup.now.draw.drawn)
-        × (connection.new.setup.now.draw.drawn ≤ connection.old.setup.now.draw.drawn + 1) }
     ensures drew { OnOk result
         (connection.new.setup.now.draw.drawn ≡ connection.old.setup.now.draw.drawn + 1) }
-    ensures calls { (W.shown connection.new.worker.now).calls
-        ≤ (W.shown connection.old.worker.now).calls + 1 }
-    ensures frame { Keeps P.ready P.shown P.leads 2 connection.old connection.new }
+    ensures frame { RestOfMessage P.ready P.shown P.leads W.shown running_call
+        connection.old connection.new }
 {
     let book = connection.book;
     let Some(method_place) = method_of(book, kind, &head) else {
@@ -296,12 +279,7 @@ pub fn call_object<S: Source, K: Sink, C: Clock, P: Port, W: Worker>(
     reader: Reader,
 ) -> Result<Answer, ConnEnd>
     requires head { HasHead reader }
-    requires time { connection.old.setup.now.draw.time <ℤ pos DRAWS_BEGIN_BELOW }
-    requires drawn { connection.old.setup.now.draw.drawn < 2 ^ 65 }
-    requires ready { P.ready connection.old.port.now }
-    requires room { 2 < (P.shown connection.old.port.now).room }
-    requires calls { (W.shown connection.old.worker.now).calls < 2 ^ 62 }
-    requires balanced { Balanced (P.shown connection.old.port.now).asked }
+    requires can { CanServeRest P.ready P.shown W.shown Balanced object_call connection.old }
     ensures answers { (first : PullState)
         → ReadsHead first (pull_state S.half connection.old.pull) head reader.stand
         → Answers W.may W.moves (terms_in connection.old) (next_in connection.old) head first
@@ -309,15 +287,10 @@ pub fn call_object<S: Source, K: Sink, C: Clock, P: Port, W: Worker>(
         (observed_of C.given P.shown W.shown connection.new) connection.old.setup.now.draw.drawn
         connection.new.setup.now.draw.drawn result }
     ensures short { IfOk result (λ answer. length answer.bytes ≤ RETURN_BYTES) }
-    ensures balanced { Balanced (P.shown connection.new.port.now).asked }
-    ensures sink { connection.new.sink ≡ connection.old.sink }
-    ensures drawn { (connection.old.setup.now.draw.drawn ≤ connection.new.setup.now.draw.drawn)
-        × (connection.new.setup.now.draw.drawn ≤ connection.old.setup.now.draw.drawn + 1) }
     ensures drew { OnOk result
         (connection.new.setup.now.draw.drawn ≡ connection.old.setup.now.draw.drawn + 1) }
-    ensures calls { (W.shown connection.new.worker.now).calls
-        ≤ (W.shown connection.old.worker.now).calls + 1 }
-    ensures frame { Keeps P.ready P.shown P.leads 3 connection.old connection.new }
+    ensures frame { RestOfMessage P.ready P.shown P.leads W.shown object_call
+        connection.old connection.new }
 {
     match take_turn(connection, Ask::Begin { object: head.id }) {
         Ok(turn) => match turn.reply {

@@ -1,5 +1,5 @@
 //! Calls by their object: the registry and the collector, which every server has of itself, or an exported object.
-ghost use Rattle.std.specs.Prelude.{◌≡◌, ◌≢◌, ◌≤◌, ◌<◌, ◌+◌, ◌^◌, pos, ◌<ℤ◌, length, true, false, Err, IfOk};
+ghost use Rattle.std.specs.Prelude.{◌≡◌, ◌≢◌, ◌≤◌, length, true, false, Err, IfOk};
 ghost use Rattle.mod_utf.specs.Utf.{utf};
 ghost use Rattle.wire_io.specs.Pulled.{PullState, pull_state};
 ghost use Rattle.wire_io.specs.declared.limits.TheConstants.{MAX_HOST_BYTES};
@@ -7,13 +7,12 @@ ghost use Rattle.history.specs.declared.replies.Refused.TheVariants.{OutOfMemory
 ghost use Rattle.ports.specs.Balance.{Balanced};
 ghost use Rattle.jrmp_frames.specs.Calls.{ReadsHead, HasHead};
 ghost use Rattle.system_objects.specs.SystemRequests.{kept_of, IsQuiet};
-ghost use Rattle.call_dispatch.specs.Conditions.{CanServeMessage, Keeps, OnlyTurns, OneMessage};
+ghost use Rattle.call_dispatch.specs.Conditions.{CanServeMessage, CanServeRest, LastTurns, RestOfMessage, OneMessage, one_turn, system_call};
 ghost use Rattle.call_dispatch.specs.ServingSystem.{AsksTurn, AnswersMethod, AnswersSystem, AnswersAny};
 ghost use Rattle.call_dispatch.specs.ConnectionState.{observed_of, terms_in};
 ghost use Rattle.system_ids.specs.SystemIds.{is_system};
 ghost use Rattle.system_ids.specs.SystemMethods.{params_of};
 ghost use Rattle.system_objects.specs.declared.returns.TheConstants.{RETURN_BYTES};
-ghost use Rattle.system_objects.specs.declared.setup.TheConstants.{DRAWS_BEGIN_BELOW};
 
 use crate::calls::{call_object, fault_answer, no_such_method, refuse};
 use crate::connection::Connection;
@@ -57,17 +56,14 @@ fn turn_and_return<S: Source, K: Sink, C: Clock, P: Port, W: Worker>(
     kept: ReplyContext,
 ) -> Result<Answer, ConnEnd>
     requires host { length (utf connection.old.setup.now.host) ≤ MAX_HOST_BYTES }
-    requires ready { P.ready connection.old.port.now }
-    requires room { 0 < (P.shown connection.old.port.now).room }
-    requires balanced { Balanced (P.shown connection.old.port.now).asked }
+    requires can { CanServeRest P.ready P.shown W.shown Balanced one_turn connection.old }
     requires quiet { IsQuiet ask }
     requires kept { kept ≡ kept_of ask }
     ensures asks { AsksTurn W.may W.moves (terms_in connection.old) uid ask
         (observed_of C.given P.shown W.shown connection.old)
         (observed_of C.given P.shown W.shown connection.new) result }
     ensures short { IfOk result (λ answer. length answer.bytes ≤ RETURN_BYTES) }
-    ensures balanced { Balanced (P.shown connection.new.port.now).asked }
-    ensures frame { OnlyTurns P.ready P.shown P.leads W.shown 1 connection.old connection.new }
+    ensures frame { LastTurns P.ready P.shown P.leads W.shown 1 connection.old connection.new }
 {
     let answer = take_turn(connection, ask);
     if is_lost(&answer) {
@@ -93,23 +89,15 @@ fn answer_method<S: Source, K: Sink, C: Clock, P: Port, W: Worker>(
     arguments: Arguments,
 ) -> Result<Answer, ConnEnd>
     requires host { length (utf connection.old.setup.now.host) ≤ MAX_HOST_BYTES }
-    requires time { connection.old.setup.now.draw.time <ℤ pos DRAWS_BEGIN_BELOW }
-    requires drawn { connection.old.setup.now.draw.drawn + 1 < 2 ^ 65 }
-    requires ready { P.ready connection.old.port.now }
-    requires room { 0 < (P.shown connection.old.port.now).room }
-    requires balanced { Balanced (P.shown connection.old.port.now).asked }
+    requires can { CanServeRest P.ready P.shown W.shown Balanced system_call connection.old }
     ensures answers { AnswersMethod W.may W.moves (terms_in connection.old) method arguments
         (observed_of C.given P.shown W.shown connection.old)
         (observed_of C.given P.shown W.shown connection.new)
         connection.old.setup.now.draw.drawn connection.new.setup.now.draw.drawn result }
     ensures short { IfOk result (λ answer. length answer.bytes ≤ RETURN_BYTES) }
-    ensures balanced { Balanced (P.shown connection.new.port.now).asked }
     ensures pull { connection.new.pull ≡ connection.old.pull }
-    ensures sink { connection.new.sink ≡ connection.old.sink }
-    ensures drawn { connection.new.setup.now.draw.drawn ≤ connection.old.setup.now.draw.drawn + 2 }
-    ensures calls { (W.shown connection.new.worker.now).calls
-        ≡ (W.shown connection.old.worker.now).calls }
-    ensures frame { Keeps P.ready P.shown P.leads 1 connection.old connection.new }
+    ensures frame { RestOfMessage P.ready P.shown P.leads W.shown system_call
+        connection.old connection.new }
 {
     let first = next_uid(connection.setup);
     match request_for(alloc, connection.setup, method, &arguments, first, first) {
@@ -138,11 +126,7 @@ fn call_system_object<S: Source, K: Sink, C: Clock, P: Port, W: Worker>(
     requires head { HasHead reader }
     requires own { is_system head.id ≡ true }
     requires host { length (utf connection.old.setup.now.host) ≤ MAX_HOST_BYTES }
-    requires time { connection.old.setup.now.draw.time <ℤ pos DRAWS_BEGIN_BELOW }
-    requires drawn { connection.old.setup.now.draw.drawn + 1 < 2 ^ 65 }
-    requires ready { P.ready connection.old.port.now }
-    requires room { 0 < (P.shown connection.old.port.now).room }
-    requires balanced { Balanced (P.shown connection.old.port.now).asked }
+    requires can { CanServeRest P.ready P.shown W.shown Balanced system_call connection.old }
     ensures answers { (first : PullState)
         → ReadsHead first (pull_state S.half connection.old.pull) head reader.stand
         → AnswersSystem W.may W.moves (terms_in connection.old) head first
@@ -150,12 +134,8 @@ fn call_system_object<S: Source, K: Sink, C: Clock, P: Port, W: Worker>(
         (observed_of C.given P.shown W.shown connection.new) connection.old.setup.now.draw.drawn
         connection.new.setup.now.draw.drawn result }
     ensures short { IfOk result (λ answer. length answer.bytes ≤ RETURN_BYTES) }
-    ensures balanced { Balanced (P.shown connection.new.port.now).asked }
-    ensures sink { connection.new.sink ≡ connection.old.sink }
-    ensures drawn { connection.new.setup.now.draw.drawn ≤ connection.old.setup.now.draw.drawn + 2 }
-    ensures calls { (W.shown connection.new.worker.now).calls
-        ≡ (W.shown connection.old.worker.now).calls }
-    ensures frame { Keeps P.ready P.shown P.leads 1 connection.old connection.new }
+    ensures frame { RestOfMessage P.ready P.shown P.leads W.shown system_call
+        connection.old connection.new }
 {
     let Some(method) = connection.book.system_method(&head) else {
         return refuse(

@@ -3,7 +3,7 @@ ghost use Rattle.std.specs.Prelude.{◌≡◌, ◌<◌, ◌≤◌, ◌+◌, ◌^
 ghost use Rattle.ser_values.specs.declared.limits.TheConstants.{MESSAGE_BYTES};
 ghost use Rattle.ports.specs.Balance.{Balanced};
 ghost use Rattle.jrmp_frames.specs.declared.header.Protocol.TheVariants.{Stream, SingleOp};
-ghost use Rattle.call_dispatch.specs.Conditions.{CanGoOn, CanServeMessage, Keeps, OnlyTurns, OneMessage, IsOver};
+ghost use Rattle.call_dispatch.specs.Conditions.{CanGoOn, CanServeMessage, CanServeRest, LastTurns, RestOfMessage, OneMessage, IsOver, one_turn};
 ghost use Rattle.call_dispatch.specs.Faults.{counts_of, Blames, BlamesIn, KeepsShut};
 ghost use Rattle.wire_io.specs.Pulled.{pull_state};
 ghost use Rattle.call_dispatch.specs.ConnectionState.{state_of_connection, observed_of, terms_in};
@@ -164,14 +164,11 @@ fn note<S: Source, K: Sink, C: Clock, P: Port, W: Worker>(
     uid: Uid,
     sent: u64,
 ) -> Result<u64, ConnEnd>
-    requires ready { P.ready connection.old.port.now }
-    requires room { 0 < (P.shown connection.old.port.now).room }
-    requires balanced { Balanced (P.shown connection.old.port.now).asked }
+    requires can { CanServeRest P.ready P.shown W.shown Balanced one_turn connection.old }
     ensures notes { Notes W.may W.moves uid
         (observed_of C.given P.shown W.shown connection.old)
         (observed_of C.given P.shown W.shown connection.new) sent result }
-    ensures frame { OnlyTurns P.ready P.shown P.leads W.shown 1 connection.old connection.new }
-    ensures balanced { Balanced (P.shown connection.new.port.now).asked }
+    ensures frame { LastTurns P.ready P.shown P.leads W.shown 1 connection.old connection.new }
 {
     match take_turn(connection, Ask::Ack { uid }) {
         Ok(_turn) => Ok(sent),
@@ -186,19 +183,14 @@ fn acknowledge<S: Source, K: Sink, C: Clock, P: Port, W: Worker>(
     connection: &mut Connection<S, K, C, P, W>,
     sent: u64,
 ) -> Result<u64, ConnEnd>
-    requires ready { P.ready connection.old.port.now }
-    requires room { 0 < (P.shown connection.old.port.now).room }
-    requires balanced { Balanced (P.shown connection.old.port.now).asked }
+    requires can { CanServeRest P.ready P.shown W.shown Balanced one_turn connection.old }
     ensures acknowledges { Acknowledges W.may W.moves
         (pull_state S.half connection.old.pull) (pull_state S.half connection.new.pull)
         (observed_of C.given P.shown W.shown connection.old)
         (observed_of C.given P.shown W.shown connection.new) sent result }
-    ensures sink { connection.new.sink ≡ connection.old.sink }
     ensures setup { connection.new.setup ≡ connection.old.setup }
-    ensures frame { Keeps P.ready P.shown P.leads 1 connection.old connection.new }
-    ensures balanced { Balanced (P.shown connection.new.port.now).asked }
-    ensures calls { (W.shown connection.new.worker.now).calls
-        ≡ (W.shown connection.old.worker.now).calls }
+    ensures frame { RestOfMessage P.ready P.shown P.leads W.shown one_turn
+        connection.old connection.new }
 {
     match read_uid(&mut connection.pull) {
         Ok(uid) => note(connection, uid, sent),

@@ -7,24 +7,14 @@ ghost use Rattle.call_dispatch.specs.Returns.{is_of, is_one_reference, returns_p
 use crate::outcome::Outcome;
 use crate::results::interface_for;
 use class_desc::{Item, TypeCode, is_primitive};
-use ser_values::{Graph, Value};
+use ser_values::{Graph, Value, fits_value};
 use system_objects::Book;
 
 /// Returns whether the value is of this primitive type.
 fn is_of(code: TypeCode, value: Value) -> bool
     ensures { result ≡ is_of code value }
 {
-    match (code, value) {
-        (TypeCode::Byte, Value::Byte(_)) => true,
-        (TypeCode::Char, Value::Char(_)) => true,
-        (TypeCode::Double, Value::Double(_)) => true,
-        (TypeCode::Float, Value::Float(_)) => true,
-        (TypeCode::Int, Value::Int(_)) => true,
-        (TypeCode::Long, Value::Long(_)) => true,
-        (TypeCode::Short, Value::Short(_)) => true,
-        (TypeCode::Boolean, Value::Boolean(_)) => true,
-        _ => false,
-    }
+    is_primitive(code) && fits_value(code, value)
 }
 
 /// Returns whether the items are one reference and nothing else.

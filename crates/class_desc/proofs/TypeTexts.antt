@@ -155,17 +155,18 @@ component_code d t h = elim h [
   ]
 ]
 
-letter_known : (code : TypeCode) → is_some (code_of (letter code)) ≡ true
-letter_known codes.Byte = refl
-letter_known codes.Char = refl
-letter_known codes.Double = refl
-letter_known codes.Float = refl
-letter_known codes.Int = refl
-letter_known codes.Long = refl
-letter_known codes.Short = refl
-letter_known codes.Boolean = refl
-letter_known codes.Array = refl
-letter_known codes.Object = refl
+-- A type's letter stands for the type.
+pub letter_back : (code : TypeCode) → code_of (letter code) ≡ Some code
+letter_back codes.Byte = refl
+letter_back codes.Char = refl
+letter_back codes.Double = refl
+letter_back codes.Float = refl
+letter_back codes.Int = refl
+letter_back codes.Long = refl
+letter_back codes.Short = refl
+letter_back codes.Boolean = refl
+letter_back codes.Array = refl
+letter_back codes.Object = refl
 
 -- an array's text says what its elements are, and no other text does
 pub is_some-element_of : (t : List ℕ) → is_some (element_of t) ≡ is_array_text t
@@ -179,7 +180,7 @@ is_some-element_of (c ∷ []) = sym (and_none (eqb c 0x5B))
 is_some-element_of (c ∷ d ∷ t) = go (is_array_text (c ∷ d ∷ t)) refl
   where
     go : (b : Bool) → is_array_text (c ∷ d ∷ t) ≡ b → is_some (cond b (code_of d) None) ≡ b
-    go true e = let k = component_code d t (array_text (c ∷ d ∷ t) e).1 in rw k.1 (letter_known k.0)
+    go true e = let k = component_code d t (array_text (c ∷ d ∷ t) e).1 in rw k.1 (ap is_some (letter_back k.0))
     go false e = refl
 
 pub fits : (code : TypeCode) (t : List ℕ) → fits_text code t ≡ true → HasTypeText code t

@@ -15,5 +15,6 @@ pub mod Stopping
 pub mod Losing
 pub mod Quiet
 pub mod Hosting
+pub mod Failing
 pub mod Closing
 pub mod Crossing

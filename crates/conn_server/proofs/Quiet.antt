@@ -1,9 +1,9 @@
 -- Ticks of quiet seconds, one after another.
-use Rattle.std.proofs.Common.{◌≡◌, ◌⊎◌, ℕ, ◌+◌, ◌<◌, ◌≤◌, Bool, true, false, List, [], ◌∷◌, ◌++◌, length, inl, inr, refl, ap, sym, ◌∙◌, subst, append_assoc, append-nil, length-append, arith, true≢false}
+use Rattle.std.proofs.Common.{◌≡◌, ◌⊎◌, ℕ, ◌+◌, ◌-◌, ◌^◌, ◌<◌, ◌≤◌, Bool, true, false, List, [], ◌∷◌, ◌++◌, length, inl, inr, refl, ap, sym, ◌∙◌, subst, append_assoc, append-nil, length-append, arith, true≢false}
 use Rattle.std.proofs.lemmas.Grind.{flat_map-append}
 use Rattle.std.specs.List.{flat_map}
-use Rattle.std.specs.Prelude.{Option, Some, None, Result, Ok, Err, IfSome, IfNone, option_to_list}
-use Rattle.wire_io.specs.Wire.{Gave, Gave-append, Gave-nothing}
+use Rattle.std.specs.Prelude.{min, Option, Some, None, Result, Ok, Err, IfSome, IfNone, option_to_list}
+use Rattle.wire_io.specs.Wire.{Gave, Gave-append, Gave-nothing, next_count}
 use Rattle.history.specs.Steps as history
 use Rattle.history.specs.declared.asks.Ask.{Ask}
 use Rattle.history.specs.declared.asks.Ask.TheVariants.{Tick}
@@ -28,7 +28,7 @@ use Rattle.turn_lock.specs.declared.handles.TurnLock.{TurnLock}
 use Rattle.turn_lock.specs.declared.view.View.{View}
 use Rattle.conn_server.specs.Accepts.{TicksOn}
 use Rattle.conn_server.specs.Made.{IsTickEnd, told_of}
-use Rattle.conn_server.specs.Quiet.{Step, link_tick, quiet_tick, without_tick, link_entry, look_entry, step_entry, look_moment, passed_moment, EachBehind, WasSeen, WasDue, MayPass, IsStep, IsTick, HasTold, HaveTold, NeededThen, TicksQuietly, TicksOnce}
+use Rattle.conn_server.specs.Quiet.{Step, link_tick, quiet_tick, without_tick, refused_tick, link_entry, look_entry, step_entry, look_moment, refused_moment, EachBehind, WasSeen, WasDue, WasIdle, MayPass, IsStep, missed_with, IsTick, HasTold, HaveTold, NeededThen, TicksQuietly, TicksOnce}
 use Rattle.conn_server.specs.Views.{IsTicking}
 use Rattle.conn_server.proofs.Histories.{starts_on, starts_self}
 
@@ -61,22 +61,35 @@ looks_on : (steps : List Step) (x : Step) (look : ℕ) → look_moment x ≡ loo
 looks_on steps x look is =
     ap length (flat_map-append look_moment steps (x ∷ []) ∙ ap (λ (l : List ℕ). flat_map look_moment steps ++ l) (append-nil (look_moment x) ∙ is)) ∙ length-append (flat_map look_moment steps) (look ∷ [])
 
+-- One more step was made, at which a Tick was refused or not.
+refused_on : (steps : List Step) (x : Step) (moments : List ℕ) → refused_moment x ≡ moments → length (flat_map refused_moment (steps ++ x ∷ [])) ≡ length (flat_map refused_moment steps) + length moments
+refused_on steps x moments is =
+    ap length (flat_map-append refused_moment steps (x ∷ []) ∙ ap (λ (l : List ℕ). flat_map refused_moment steps ++ l) (append-nil (refused_moment x) ∙ is)) ∙ length-append (flat_map refused_moment steps) moments
+
+-- A step of which a list has nothing.
+flat_none : {A : Type 0} (of_step : Step → List A) (steps : List Step) (x : Step) → of_step x ≡ [] → flat_map of_step (steps ++ x ∷ []) ≡ flat_map of_step steps
+flat_none {A = A} of_step steps x none =
+    flat_map-append of_step steps (x ∷ []) ∙ (ap (λ (l : List A). flat_map of_step steps ++ l) (append-nil (of_step x) ∙ none) ∙ append-nil (flat_map of_step steps))
+
 -- ---- what was seen at a moment
 
 due_later : (opening : SpaceHistory) (events events_after : Events) (made : List Asked) (m : ℕ) → ((front : Events) → StartsWith events front → StartsWith events_after front) → WasDue opening events made m → WasDue opening events_after made m
 due_later opening events events_after made m begins (seen, was, ends) = (seen, record { begins = begins seen was.begins; own = was.own }, ends)
 
--- A moment without a Tick may pass when more was seen, and when further Ticks were missed.
-passes_on : (opening : SpaceHistory) (events events_after : Events) (missed missed_after : Bool) (made : List Asked) (m : ℕ) → ((front : Events) → StartsWith events front → StartsWith events_after front) → (missed ≡ true → missed_after ≡ true)
-    → MayPass opening events missed made m → MayPass opening events_after missed_after made m
-passes_on opening events events_after missed missed_after made m begins still (inl is) = inl (still is)
-passes_on opening events events_after missed missed_after made m begins still (inr (seen, was, nothing, told)) = inr (seen, record { begins = begins seen was.begins; own = was.own }, nothing, told)
+idle_later : (opening : SpaceHistory) (events events_after : Events) (made : List Asked) (m : ℕ) → ((front : Events) → StartsWith events front → StartsWith events_after front) → WasIdle opening events made m → WasIdle opening events_after made m
+idle_later opening events events_after made m begins (seen, was, nothing, told) = (seen, record { begins = begins seen was.begins; own = was.own }, nothing, told)
 
-step_on : (opening : SpaceHistory) (events events_after : Events) (missed missed_after : Bool) → ((front : Events) → StartsWith events front → StartsWith events_after front) → (missed ≡ true → missed_after ≡ true)
-    → (made : List Asked) (s : Step) → IsStep opening events missed made s → IsStep opening events_after missed_after made s
-step_on opening events events_after missed missed_after begins still made (link_tick e) is = tt
-step_on opening events events_after missed missed_after begins still made (quiet_tick e) is = (is.0, due_later opening events events_after made e.moment begins is.1)
-step_on opening events events_after missed missed_after begins still made (without_tick m) is = passes_on opening events events_after missed missed_after made m begins still is
+step_on : (opening : SpaceHistory) (events events_after : Events) → ((front : Events) → StartsWith events front → StartsWith events_after front)
+    → (made : List Asked) (s : Step) → IsStep opening events made s → IsStep opening events_after made s
+step_on opening events events_after begins made (link_tick e) is = tt
+step_on opening events events_after begins made (quiet_tick e) is = (is.0, due_later opening events events_after made e.moment begins is.1)
+step_on opening events events_after begins made (without_tick m) is = idle_later opening events events_after made m begins is
+step_on opening events events_after begins made (refused_tick m) is = tt
+
+-- A moment at which none was refused and none was made.
+idle_there : (opening : SpaceHistory) (events : Events) (missed : Bool) (made : List Asked) (m : ℕ) → MayPass opening events missed made m → missed ≡ false → WasIdle opening events made m
+idle_there opening events missed made m (inl is) none = absurd (true≢false (sym is ∙ none))
+idle_there opening events missed made m (inr idle) none = idle
 
 -- What the root with the view v has seen, which knows its own turns by these entries.
 seen_now : (lock : TurnLock) (r : Root) (ticks : List Asked) → IsRootOf lock r → IsTicking (view_of r.pass) ticks → WasSeen (opening_of lock) (view_of r.pass).seen ticks (view_of r.pass).seen
@@ -187,7 +200,7 @@ module _ {H : Type 0} (shown : H → WorkerState) (moves : States → Call → S
   -- ---- a server's own turns
 
   -- At first there are none.
-  pub quiet_first : (opening : SpaceHistory) (events : Events) (missed : Bool) (gave : Option (List ℕ)) (quiets : ℕ) (before_links ticks : List Asked) → missed ≡ false → before_links ≡ [] → ticks ≡ [] → TicksQuietly shown moves opening events missed gave gave quiets quiets before_links ticks None
+  pub quiet_first : (opening : SpaceHistory) (events : Events) (missed : ℕ) (gave : Option (List ℕ)) (quiets : ℕ) (before_links ticks : List Asked) → missed ≡ 0 → before_links ≡ [] → ticks ≡ [] → TicksQuietly shown moves opening events missed gave gave quiets quiets before_links ticks None
   quiet_first opening events missed gave quiets before_links ticks none no_link no_turn = record {
     course = [];
     links = sym no_link;
@@ -196,11 +209,11 @@ module _ {H : Type 0} (shown : H → WorkerState) (moves : States → Call → S
     told = refl;
     gave = Gave-nothing gave;
     asked = omega arith;
-    cause = λ is. absurd (true≢false (sym is ∙ none));
+    missed_are = omega (arith, none);
   }
 
   -- A Tick was made before a link.
-  pub quiet_link : (opening : SpaceHistory) (events : Events) (missed : Bool) (gave_first gave_last : Option (List ℕ)) (quiets_first quiets_last : ℕ) (before_links before_links_after ticks ticks_after : List Asked) (hand : Option H)
+  pub quiet_link : (opening : SpaceHistory) (events : Events) (missed : ℕ) (gave_first gave_last : Option (List ℕ)) (quiets_first quiets_last : ℕ) (before_links before_links_after ticks ticks_after : List Asked) (hand : Option H)
       → TicksQuietly shown moves opening events missed gave_first gave_last quiets_first quiets_last before_links ticks hand → TicksOn ticks ticks_after before_links before_links_after
       → TicksQuietly shown moves opening events missed gave_first gave_last quiets_first quiets_last before_links_after ticks_after hand
   quiet_link opening events missed gave_first gave_last quiets_first quiets_last before_links before_links_after ticks ticks_after hand t (tick, one, other) =
@@ -210,37 +223,37 @@ module _ {H : Type 0} (shown : H → WorkerState) (moves : States → Call → S
         course = t.course ++ step ∷ [];
         links = flat_map-append link_entry t.course (step ∷ []) ∙ (ap (λ l. l ++ tick ∷ []) t.links ∙ sym other);
         made = flat_map-append step_entry t.course (step ∷ []) ∙ (ap (λ l. l ++ tick ∷ []) t.made ∙ sym one);
-        each = behind_on (IsStep opening events missed) [] t.course step t.each tt;
+        each = behind_on (IsStep opening events) [] t.course step t.each tt;
         told = subst (λ (l : List Asked). HaveTold shown moves l hand) (sym (flat_map-append look_entry t.course (step ∷ []) ∙ append-nil (flat_map look_entry t.course))) t.told;
         gave = subst (λ (l : List ℕ). Gave gave_first gave_last l) (sym looks) t.gave;
         asked = subst (λ (l : List ℕ). quiets_last ≤ quiets_first + length l) (sym looks) t.asked;
-        cause = λ is. subst (λ (l : List ℕ). 0 < length l) (sym (flat_map-append passed_moment t.course (step ∷ []) ∙ append-nil (flat_map passed_moment t.course))) (t.cause is);
+        missed_are = t.missed_are ∙ ap (λ (l : List ℕ). min (length l) (2 ^ 64 - 1)) (sym (flat_none refused_moment t.course step refl));
       }
 
   -- The same lists by other names.
-  pub quiet_same : (opening : SpaceHistory) (events : Events) (missed : Bool) (gave_first gave_last : Option (List ℕ)) (quiets_first quiets_last : ℕ) (before_links before_links_after ticks ticks_after : List Asked) (hand : Option H)
+  pub quiet_same : (opening : SpaceHistory) (events : Events) (missed : ℕ) (gave_first gave_last : Option (List ℕ)) (quiets_first quiets_last : ℕ) (before_links before_links_after ticks ticks_after : List Asked) (hand : Option H)
       → TicksQuietly shown moves opening events missed gave_first gave_last quiets_first quiets_last before_links ticks hand → ticks_after ≡ ticks → before_links_after ≡ before_links
       → TicksQuietly shown moves opening events missed gave_first gave_last quiets_first quiets_last before_links_after ticks_after hand
   quiet_same opening events missed gave_first gave_last quiets_first quiets_last before_links before_links_after ticks ticks_after hand t same other =
       subst (λ (x : List Asked × List Asked). TicksQuietly shown moves opening events missed gave_first gave_last quiets_first quiets_last x.0 x.1 hand) (λ i. (sym other i, sym same i)) t
 
   -- More was seen.
-  pub quiet_later : (opening : SpaceHistory) (events events_after : Events) (missed : Bool) (gave_first gave_last : Option (List ℕ)) (quiets_first quiets_last : ℕ) (before_links ticks : List Asked) (hand : Option H)
+  pub quiet_later : (opening : SpaceHistory) (events events_after : Events) (missed : ℕ) (gave_first gave_last : Option (List ℕ)) (quiets_first quiets_last : ℕ) (before_links ticks : List Asked) (hand : Option H)
       → ((front : Events) → StartsWith events front → StartsWith events_after front)
       → TicksQuietly shown moves opening events missed gave_first gave_last quiets_first quiets_last before_links ticks hand → TicksQuietly shown moves opening events_after missed gave_first gave_last quiets_first quiets_last before_links ticks hand
   quiet_later opening events events_after missed gave_first gave_last quiets_first quiets_last before_links ticks hand begins t = record {
     course = t.course;
     links = t.links;
     made = t.made;
-    each = behind_more (IsStep opening events missed) (IsStep opening events_after missed) [] t.course (step_on opening events events_after missed missed begins (λ is. is)) t.each;
+    each = behind_more (IsStep opening events) (IsStep opening events_after) [] t.course (step_on opening events events_after begins) t.each;
     told = t.told;
     gave = t.gave;
     asked = t.asked;
-    cause = t.cause;
+    missed_are = t.missed_are;
   }
 
   -- The listener gave such an answer less often.
-  pub quiet_fewer : (opening : SpaceHistory) (events : Events) (missed : Bool) (gave_first gave_last : Option (List ℕ)) (quiets_first quiets_last quiets_then : ℕ) (before_links ticks : List Asked) (hand : Option H) → quiets_then ≤ quiets_last
+  pub quiet_fewer : (opening : SpaceHistory) (events : Events) (missed : ℕ) (gave_first gave_last : Option (List ℕ)) (quiets_first quiets_last quiets_then : ℕ) (before_links ticks : List Asked) (hand : Option H) → quiets_then ≤ quiets_last
       → TicksQuietly shown moves opening events missed gave_first gave_last quiets_first quiets_last before_links ticks hand → TicksQuietly shown moves opening events missed gave_first gave_last quiets_first quiets_then before_links ticks hand
   quiet_fewer opening events missed gave_first gave_last quiets_first quiets_last quiets_then before_links ticks hand fewer t =
       let asked = t.asked in
@@ -252,91 +265,104 @@ module _ {H : Type 0} (shown : H → WorkerState) (moves : States → Call → S
         told = t.told;
         gave = t.gave;
         asked = omega (arith, asked, fewer);
-        cause = t.cause;
+        missed_are = t.missed_are;
       }
 
   -- The lock was closed, and the same is known by other names.
-  pub quiet_closed : (opening : SpaceHistory) (seen events : Events) (missed missed_after : Bool) (gave_first gave_last : Option (List ℕ)) (quiets_first quiets_last : ℕ) (before_links ticks ticks_after : List Asked) (hand hand_after : Option H)
+  pub quiet_closed : (opening : SpaceHistory) (seen events : Events) (missed missed_after : ℕ) (gave_first gave_last : Option (List ℕ)) (quiets_first quiets_last : ℕ) (before_links ticks ticks_after : List Asked) (hand hand_after : Option H)
       → StartsWith events seen → missed_after ≡ missed → ticks_after ≡ ticks → hand_after ≡ hand
       → TicksQuietly shown moves opening seen missed gave_first gave_last quiets_first quiets_last before_links ticks hand
       → TicksQuietly shown moves opening events missed_after gave_first gave_last quiets_first quiets_last before_links ticks_after hand_after
   quiet_closed opening seen events missed missed_after gave_first gave_last quiets_first quiets_last before_links ticks ticks_after hand hand_after more same_missed same same_hand t =
       let later = quiet_later opening seen events missed gave_first gave_last quiets_first quiets_last before_links ticks hand (λ front begins. starts_on events seen front more begins) t in
-      subst (λ (x : List Asked × Option H × Bool). TicksQuietly shown moves opening events x.2 gave_first gave_last quiets_first quiets_last before_links x.0 x.1) (λ i. (sym same i, sym same_hand i, sym same_missed i)) later
+      subst (λ (x : List Asked × Option H × ℕ). TicksQuietly shown moves opening events x.2 gave_first gave_last quiets_first quiets_last before_links x.0 x.1) (λ i. (sym same i, sym same_hand i, sym same_missed i)) later
 
-  -- A look passed without a Tick.
-  passed : (opening : SpaceHistory) (events events_after : Events) (missed missed_after : Bool) (gave_first gave_last gave_then : Option (List ℕ)) (quiets_first quiets_last : ℕ) (look : ℕ) (before_links ticks ticks_after : List Asked) (own own_after : Option H)
-      → ((front : Events) → StartsWith events front → StartsWith events_after front) → (missed ≡ true → missed_after ≡ true) → MayPass opening events_after missed_after ticks look → Gave gave_last gave_then (look ∷ []) → ticks_after ≡ ticks
+  -- A look was made without a Tick.
+  looked : (opening : SpaceHistory) (events events_after : Events) (missed missed_after more : ℕ) (gave_first gave_last gave_then : Option (List ℕ)) (quiets_first quiets_last : ℕ) (look : ℕ) (before_links ticks ticks_after : List Asked) (own own_after : Option H) (step : Step)
+      → ((front : Events) → StartsWith events front → StartsWith events_after front) → link_entry step ≡ [] → step_entry step ≡ [] → look_entry step ≡ [] → look_moment step ≡ look ∷ [] → length (refused_moment step) ≡ more
+      → IsStep opening events_after ticks step → missed_after ≡ min (missed + more) (2 ^ 64 - 1) → Gave gave_last gave_then (look ∷ []) → ticks_after ≡ ticks
       → ((entries : List Asked) → HaveTold shown moves entries own → HaveTold shown moves entries own_after)
       → TicksQuietly shown moves opening events missed gave_first gave_last quiets_first quiets_last before_links ticks own
       → TicksQuietly shown moves opening events_after missed_after gave_first gave_then quiets_first (quiets_last + 1) before_links ticks_after own_after
-  passed opening events events_after missed missed_after gave_first gave_last gave_then quiets_first quiets_last look before_links ticks ticks_after own own_after begins still may gave same has t =
-      let step = without_tick look in
-      let each = behind_more (IsStep opening events missed) (IsStep opening events_after missed_after) [] t.course (step_on opening events events_after missed missed_after begins still) t.each in
-      let longer = flat_map-append passed_moment t.course (step ∷ []) in
-      let count : length (flat_map passed_moment (t.course ++ step ∷ [])) ≡ length (flat_map passed_moment t.course) + 1 = ap length longer ∙ length-append (flat_map passed_moment t.course) (look ∷ []) in
-      let looks : length (flat_map look_moment (t.course ++ step ∷ [])) ≡ length (flat_map look_moment t.course) + 1 = looks_on t.course step look refl in
+  looked opening events events_after missed missed_after more gave_first gave_last gave_then quiets_first quiets_last look before_links ticks ticks_after own own_after step begins no_link no_turn no_look at_look count is counted gave same has t =
+      let each = behind_more (IsStep opening events) (IsStep opening events_after) [] t.course (step_on opening events events_after begins) t.each in
+      let looks : length (flat_map look_moment (t.course ++ step ∷ [])) ≡ length (flat_map look_moment t.course) + 1 = looks_on t.course step look at_look in
+      let moments : flat_map look_moment (t.course ++ step ∷ []) ≡ flat_map look_moment t.course ++ look ∷ [] =
+      flat_map-append look_moment t.course (step ∷ []) ∙ ap (λ (l : List ℕ). flat_map look_moment t.course ++ l) (append-nil (look_moment step) ∙ at_look) in
+      let refused : length (flat_map refused_moment (t.course ++ step ∷ [])) ≡ length (flat_map refused_moment t.course) + length (refused_moment step) = refused_on t.course step (refused_moment step) refl in
       let asked = t.asked in
+      let before = t.missed_are in
       record {
         course = t.course ++ step ∷ [];
-        links = flat_map-append link_entry t.course (step ∷ []) ∙ (append-nil (flat_map link_entry t.course) ∙ t.links);
-        made = flat_map-append step_entry t.course (step ∷ []) ∙ (append-nil (flat_map step_entry t.course) ∙ (t.made ∙ sym same));
-        each = behind_on (IsStep opening events_after missed_after) [] t.course step each (subst (λ (l : List Asked). MayPass opening events_after missed_after l look) (sym t.made) may);
-        told = has _ (subst (λ (l : List Asked). HaveTold shown moves l own) (sym (flat_map-append look_entry t.course (step ∷ []) ∙ append-nil (flat_map look_entry t.course))) t.told);
-        gave = subst (λ (l : List ℕ). Gave gave_first gave_then l) (sym (flat_map-append look_moment t.course (step ∷ []))) (Gave-append gave_first gave_last gave_then (flat_map look_moment t.course) (look ∷ []) t.gave gave);
+        links = flat_none link_entry t.course step no_link ∙ t.links;
+        made = flat_none step_entry t.course step no_turn ∙ (t.made ∙ sym same);
+        each = behind_on (IsStep opening events_after) [] t.course step each (subst (λ (l : List Asked). IsStep opening events_after l step) (sym t.made) is);
+        told = has _ (subst (λ (l : List Asked). HaveTold shown moves l own) (sym (flat_none look_entry t.course step no_look)) t.told);
+        gave = subst (λ (l : List ℕ). Gave gave_first gave_then l) (sym moments) (Gave-append gave_first gave_last gave_then (flat_map look_moment t.course) (look ∷ []) t.gave gave);
         asked = omega (arith, asked, looks);
-        cause = λ is. omega (arith, count);
+        missed_are = omega (arith, before, counted, refused, count);
       }
 
-  -- A second passed in which there was no memory: any moment may pass then.
-  pub quiet_missed : (opening : SpaceHistory) (events events_after : Events) (missed missed_after : Bool) (gave_first gave_last gave_then : Option (List ℕ)) (quiets_first quiets_last : ℕ) (look : ℕ) (before_links ticks ticks_after : List Asked) (hand hand_after : Option H)
-      → ((front : Events) → StartsWith events front → StartsWith events_after front) → missed_after ≡ true → Gave gave_last gave_then (look ∷ []) → ticks_after ≡ ticks → hand_after ≡ hand
+  -- There was no memory for a Tick, and the look is counted.
+  pub quiet_missed : (opening : SpaceHistory) (events events_after : Events) (missed missed_after : ℕ) (gave_first gave_last gave_then : Option (List ℕ)) (quiets_first quiets_last : ℕ) (look : ℕ) (before_links ticks ticks_after : List Asked) (hand hand_after : Option H)
+      → ((front : Events) → StartsWith events front → StartsWith events_after front) → missed_after ≡ next_count missed → Gave gave_last gave_then (look ∷ []) → ticks_after ≡ ticks → hand_after ≡ hand
       → TicksQuietly shown moves opening events missed gave_first gave_last quiets_first quiets_last before_links ticks hand
       → TicksQuietly shown moves opening events_after missed_after gave_first gave_then quiets_first (quiets_last + 1) before_links ticks_after hand_after
   quiet_missed opening events events_after missed missed_after gave_first gave_last gave_then quiets_first quiets_last look before_links ticks ticks_after hand hand_after begins is gave same same_hand t =
-      passed opening events events_after missed missed_after gave_first gave_last gave_then quiets_first quiets_last look before_links ticks ticks_after hand hand_after begins (λ was. is) (inl is) gave same
-      (λ entries told. subst (λ (o : Option H). HaveTold shown moves entries o) (sym same_hand) told) t
+      looked opening events events_after missed missed_after 1 gave_first gave_last gave_then quiets_first quiets_last look before_links ticks ticks_after hand hand_after (refused_tick look) begins refl refl refl refl refl tt
+      is gave same (λ entries told. subst (λ (o : Option H). HaveTold shown moves entries o) (sym same_hand) told) t
 
   -- A Tick was made at a look, or none.
-  pub quiet_on : (opening : SpaceHistory) (events events_after : Events) (missed missed_now missed_after : Bool) (gave_first gave_last gave_then : Option (List ℕ)) (quiets_first quiets_last : ℕ) (before_links ticks ticks_after : List Asked) (own : Option H) (a b : H)
-      → ((front : Events) → StartsWith events front → StartsWith events_after front) → (missed ≡ true → missed_after ≡ true) → (missed_now ≡ true → missed_after ≡ true) → (missed_after ≡ true → (missed ≡ true) ⊎ (missed_now ≡ true))
+  pub quiet_on : (opening : SpaceHistory) (events events_after : Events) (missed missed_after : ℕ) (missed_now : Bool) (gave_first gave_last gave_then : Option (List ℕ)) (quiets_first quiets_last : ℕ) (before_links ticks ticks_after : List Asked) (own : Option H) (a b : H)
+      → ((front : Events) → StartsWith events front → StartsWith events_after front) → missed_after ≡ missed_with missed missed_now
       → TicksQuietly shown moves opening events missed gave_first gave_last quiets_first quiets_last before_links ticks own
       → ((entries : List Asked) → HaveTold shown moves entries own → HasTold shown moves entries a)
       → TicksOnce shown moves opening events_after missed_now gave_last gave_then ticks ticks_after a b
       → TicksQuietly shown moves opening events_after missed_after gave_first gave_then quiets_first (quiets_last + 1) before_links ticks_after (Some b)
-  quiet_on opening events events_after missed missed_now missed_after gave_first gave_last gave_then quiets_first quiets_last before_links ticks ticks_after own a b begins still still_now either t has once = more once.entry refl
+  quiet_on opening events events_after missed missed_after missed_now gave_first gave_last gave_then quiets_first quiets_last before_links ticks ticks_after own a b begins counted t has once = more once.entry missed_now refl refl
     where
       told_more : (entries : List Asked) → HaveTold shown moves entries own → HasTold shown moves (entries ++ option_to_list once.entry) b
       told_more entries told = told_on entries (option_to_list once.entry) a b (has entries told) once.seen once.state once.same_calls once.same_number
 
-      more : (entry : Option Asked) → once.entry ≡ entry → TicksQuietly shown moves opening events_after missed_after gave_first gave_then quiets_first (quiets_last + 1) before_links ticks_after (Some b)
-      more None is =
+      counted_as : (now : Bool) → missed_now ≡ now → missed_after ≡ missed_with missed now
+      counted_as now is = counted ∙ ap (missed_with missed) is
+
+      told_none_more : once.entry ≡ None → (entries : List Asked) → HaveTold shown moves entries own → HasTold shown moves entries b
+      told_none_more is entries told = subst (λ (l : List Asked). HasTold shown moves l b) (ap (λ e. entries ++ option_to_list e) is ∙ append-nil entries) (told_more entries told)
+
+      unmade : once.entry ≡ None → ticks_after ≡ ticks
+      unmade is = once.longer ∙ (ap (λ e. ticks ++ option_to_list e) is ∙ append-nil ticks)
+
+      few : missed ≤ 2 ^ 64 - 1
+      few = let before = t.missed_are in omega (arith, before)
+
+      more : (entry : Option Asked) (now : Bool) → once.entry ≡ entry → missed_now ≡ now → TicksQuietly shown moves opening events_after missed_after gave_first gave_then quiets_first (quiets_last + 1) before_links ticks_after (Some b)
+      more None true is now =
+          looked opening events events_after missed missed_after 1 gave_first gave_last gave_then quiets_first quiets_last once.look before_links ticks ticks_after own (Some b) (refused_tick once.look) begins refl refl refl refl refl tt
+          (counted_as true now) once.gave (unmade is) (told_none_more is) t
+      more None false is now =
           let may = subst (λ (o : Option Asked). IfNone o (MayPass opening events_after missed_now ticks once.look)) is once.passes in
-          passed opening events events_after missed missed_after gave_first gave_last gave_then quiets_first quiets_last once.look before_links ticks ticks_after own (Some b) begins still
-          (passes_on opening events_after events_after missed_now missed_after ticks once.look (λ front was. was) still_now may) once.gave (once.longer ∙ (ap (λ e. ticks ++ option_to_list e) is ∙ append-nil ticks))
-          (λ entries told. subst (λ (l : List Asked). HasTold shown moves l b) (ap (λ e. entries ++ option_to_list e) is ∙ append-nil entries) (told_more entries told)) t
-      more (Some e) is =
+          let same = counted_as false now in
+          looked opening events events_after missed missed_after 0 gave_first gave_last gave_then quiets_first quiets_last once.look before_links ticks ticks_after own (Some b) (without_tick once.look) begins refl refl refl refl refl
+          (idle_there opening events_after missed_now ticks once.look may now) (omega (arith, same, few)) once.gave (unmade is) (told_none_more is) t
+      more (Some e) true is now = absurd (none_some e (sym is ∙ once.cause now))
+      more (Some e) false is now =
           let step = quiet_tick e in
           let tick : IsTick e = subst (λ (o : Option Asked). IfSome o IsTick) is once.is_tick in
           let at_look : e.moment ≡ once.look = subst (λ (o : Option Asked). IfSome o (λ x. x.moment ≡ once.look)) is once.at_look in
           let due : WasDue opening events_after ticks e.moment = subst (λ (o : Option Asked). IfSome o (λ x. WasDue opening events_after ticks x.moment)) is once.due in
-          let each = behind_more (IsStep opening events missed) (IsStep opening events_after missed_after) [] t.course (step_on opening events events_after missed missed_after begins still) t.each in
+          let each = behind_more (IsStep opening events) (IsStep opening events_after) [] t.course (step_on opening events events_after begins) t.each in
           let here = subst (λ (l : List Asked). WasDue opening events_after l e.moment) (sym t.made) due in
           let looks : length (flat_map look_moment (t.course ++ step ∷ [])) ≡ length (flat_map look_moment t.course) + 1 = looks_on t.course step e.moment refl in
           let asked = t.asked in
-          let caused : missed_after ≡ true → 0 < length (flat_map passed_moment t.course) = λ after. by (either after) in
           record {
             course = t.course ++ step ∷ [];
-            links = flat_map-append link_entry t.course (step ∷ []) ∙ (append-nil (flat_map link_entry t.course) ∙ t.links);
+            links = flat_none link_entry t.course step refl ∙ t.links;
             made = flat_map-append step_entry t.course (step ∷ []) ∙ (ap (λ l. l ++ e ∷ []) t.made ∙ sym (once.longer ∙ ap (λ o. ticks ++ option_to_list o) is));
-            each = behind_on (IsStep opening events_after missed_after) [] t.course step each (tick, here);
+            each = behind_on (IsStep opening events_after) [] t.course step each (tick, here);
             told = subst (λ (l : List Asked). HasTold shown moves l b) (ap (λ o. flat_map look_entry t.course ++ option_to_list o) is ∙ sym (flat_map-append look_entry t.course (step ∷ []))) (told_more (flat_map look_entry t.course) t.told);
             gave = subst (λ (l : List ℕ). Gave gave_first gave_then l) (ap (λ m. flat_map look_moment t.course ++ m ∷ []) (sym at_look) ∙ sym (flat_map-append look_moment t.course (step ∷ [])))
                 (Gave-append gave_first gave_last gave_then (flat_map look_moment t.course) (once.look ∷ []) t.gave once.gave);
             asked = omega (arith, asked, looks);
-            cause = λ after. subst (λ (l : List ℕ). 0 < length l) (sym (flat_map-append passed_moment t.course (step ∷ []) ∙ append-nil (flat_map passed_moment t.course))) (caused after);
+            missed_are = counted_as false now ∙ (t.missed_are ∙ ap (λ (l : List ℕ). min (length l) (2 ^ 64 - 1)) (sym (flat_none refused_moment t.course step refl)));
           }
-        where
-          by : (missed ≡ true) ⊎ (missed_now ≡ true) → 0 < length (flat_map passed_moment t.course)
-          by (inl was) = t.cause was
-          by (inr late) = absurd (none_some e (sym is ∙ once.cause late))

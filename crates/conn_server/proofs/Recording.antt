@@ -1,5 +1,5 @@
 -- Which events were handed on, as the history grows.
-use Rattle.std.proofs.Common.{◌≡◌, ℕ, ◌+◌, ◌++◌, List, [], ap, sym, refl, ◌∙◌, subst, append_assoc, append-nil, length, length-append}
+use Rattle.std.proofs.Common.{◌≡◌, ℕ, ◌+◌, ◌++◌, [], ap, sym, refl, ◌∙◌, subst, append_assoc, append-nil, length, length-append}
 use Rattle.std.proofs.Math.Seq.{take-append_seam}
 use Rattle.std.proofs.lemmas.List.{take-append-drop}
 use Rattle.std.specs.Prelude.{Option, Some, None, IfSome, MatchOption, drop, take}

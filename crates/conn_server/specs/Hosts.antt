@@ -1,5 +1,5 @@
 -- What holds of a server that runs until its listener is told to stop.
-use Rattle.std.specs.Prelude.{◌≡◌, ◌≢◌, ◌<◌, ◌≤◌, ◌+◌, ◌-◌, ◌^◌, min, ℕ, true, false, List, [], ◌++◌, length, Option, Some, None}
+use Rattle.std.specs.Prelude.{◌≡◌, ◌≢◌, ◌<◌, ◌≤◌, ◌+◌, ◌-◌, ◌^◌, ◌↔◌, min, ℕ, IsTrue, true, false, List, [], ◌++◌, length, Option, Some, None}
 use Rattle.std.specs.List.Sorted.{IsPermutation}
 use Rattle.wire_io.specs.Links.{Accepted, Listening}
 use Rattle.wire_io.specs.Wire.{ReadHalf, WriteHalf}
@@ -38,21 +38,32 @@ use Rattle.conn_server.specs.declared.server.HostJoined.{HostJoined}
 abbrev pub FailedTimes : ℕ → ℕ → ℕ → Type 0
 FailedTimes tries old new = (old ≤ new) × (min (old + tries) (2 ^ 64 - 1) ≤ new)
 
+-- A listener told `first` once and tells `last` now. Since its last answer it failed at least so many times: `answered` is a state of it after that
+-- answer, for since then it gave no link, and did not answer that none came, that it was told to stop or that it was not. A clause says this of listeners
+-- of every type at once, so what meets it has no other state to name than those that the listener had.
+pub record FailedSince {L : Type 0} (listening : L → Listening) (tries : ℕ) (first last : Listening) : Type 0 where
+  pub answered : L
+  pub later : first.faults ≤ (listening answered).faults
+  pub accepted : last.accepted ≡ (listening answered).accepted
+  pub quiets : last.quiets ≡ (listening answered).quiets
+  pub same_told : last.told ≡ (listening answered).told
+  pub failed : FailedTimes tries (listening answered).faults last.faults
+
 -- Links are accepted: since the listener told l0 and the clock of quiet seconds had given the first moments, these links were begun, and the root
--- made these turns of its own. The listener tells l1 now, and failed at least so many times since l0.
+-- made these turns of its own. The listener tells l1 now.
 pub record IsHosting {I O T H C : Type 0} (read_half : I → ReadHalf) (write_half : O → WriteHalf) (given : T → Option (List ℕ)) (shown : H → WorkerState) (may : Invocation → Outcome → Type 0) (moves : States → Call → States → Type 0)
     (taken : C → Taken (LinkReport I O T H)) (expects : C → LinkReport I O T H → Type 0) (lock : TurnLock) (kinds : List Kind) (plan : ServePlan) (l0 l1 : Listening) (gave_first gave_last : Option (List ℕ))
-    (a : Acceptor I O T H C) (own : OwnHand H) (tries : ℕ) : Type 0 where
+    (a : Acceptor I O T H C) (own : OwnHand H) : Type 0 where
   pub is : IsAccepting (TalksOver read_half write_half given shown may moves kinds) (IsMadeFor read_half write_half given shown moves plan) shown taken expects lock kinds a
   pub hosts : a.keeps ≡ false
   pub few : a.begun ≤ plan.count
   pub quiet : TicksQuietly shown moves (opening_of lock) (view_of a.root.pass).seen own.missed gave_first gave_last l0.quiets l1.quiets (ticks_of (shown_all read_half write_half given a.all)) (taken a.taker).ticks own.hand
   pub links : l1.accepted ≡ with_all l0.accepted (links_of (shown_all read_half write_half given a.all))
-  pub failed : FailedTimes tries l0.faults l1.faults
+  pub faults : l0.faults ≤ l1.faults
   pub same_told : l1.told ≡ l0.told
   pub same_ports : l1.ports ≡ l0.ports
 
--- A listener gave no link between two moments, and wasn't told to stop. It may have failed, and answered that once at most.
+-- A listener gave no link between two moments, and wasn't told to stop. It may have failed. Once at most it answered that it was not told to stop.
 pub record IsLike (l1 l2 : Listening) : Type 0 where
   pub accepted : l2.accepted ≡ l1.accepted
   pub faults : l1.faults ≤ l2.faults
@@ -71,18 +82,17 @@ pub record IsHalted {I O T H C : Type 0} (read_half : I → ReadHalf) (write_hal
   pub links : l1.accepted ≡ with_all l0.accepted (links_of (shown_all read_half write_half given a.all) ++ missed)
   pub stopped : HostStopped halt.stop l1.told plan.count a.begun missed
   pub back : AreGivenBack (IsLostLink read_half write_half given) missed halt.lost
-  pub fault : halt.stop ≡ AcceptFault → FailedTimes (MAX_IDLE_TRIES + 1) l0.faults l1.faults
   pub faults : l0.faults ≤ l1.faults
   pub untold : halt.stop ≢ Told → l1.told ≡ l0.told
   pub same_ports : l1.ports ≡ l0.ports
 
--- A step came to this: further links are accepted, and the listener failed so many times at least, or no more links are.
+-- A step came to this: further links are accepted, or no more links are.
 abbrev pub GoesOn : {I O T H C : Type 0} → (I → ReadHalf) → (O → WriteHalf) → (T → Option (List ℕ)) → (H → WorkerState) → (Invocation → Outcome → Type 0) → (States → Call → States → Type 0)
     → (C → Taken (LinkReport I O T H)) → (C → LinkReport I O T H → Type 0) → TurnLock → List Kind → ServePlan → Listening → Listening → Option (List ℕ) → Option (List ℕ)
-    → Acceptor I O T H C → OwnHand H → ℕ → Option (Halt I O T) → Type 0
-GoesOn read_half write_half given shown may moves taken expects lock kinds plan l0 l1 gave_first gave_last a own tries None =
-    IsHosting read_half write_half given shown may moves taken expects lock kinds plan l0 l1 gave_first gave_last a own tries
-GoesOn read_half write_half given shown may moves taken expects lock kinds plan l0 l1 gave_first gave_last a own tries (Some halt) =
+    → Acceptor I O T H C → OwnHand H → Option (Halt I O T) → Type 0
+GoesOn read_half write_half given shown may moves taken expects lock kinds plan l0 l1 gave_first gave_last a own None =
+    IsHosting read_half write_half given shown may moves taken expects lock kinds plan l0 l1 gave_first gave_last a own
+GoesOn read_half write_half given shown may moves taken expects lock kinds plan l0 l1 gave_first gave_last a own (Some halt) =
     IsHalted read_half write_half given shown may moves taken expects lock kinds plan l0 l1 gave_first gave_last a own halt
 
 -- All threads of a host were joined: the links that were served, their reports, each of which the taker was given once, the root's own turns, and
@@ -100,15 +110,16 @@ pub record IsHosted {I O T H C : Type 0} (IsLink : ℕ → Accepted × Asked →
   pub stopped : HostStopped o.stop after.told count (length links) missed
   pub back : AreGivenBack IsLost missed o.lost
   pub untold : o.stop ≢ Told → after.told ≡ before.told
+  pub closed : after.closed ≡ true
 
--- Links were served over a space that was opened so, until the listener was told to stop, or for another cause. The one history that is left is legal
+-- Links were served over a space that was opened so, until a cause named in `stop`. The one history that is left is legal
 -- and goes on from the opening, and its rows are what the collector of the space made of none at each of its events. Each link that was accepted has
 -- its Tick and its report, which the taker was given once, but the one, if any, for which there was no memory, which is given back.
 -- The server's own turns are those Ticks and the Ticks at looks at a clock, and there are no turns but these and the links'. A look had a Tick only where
--- something had ended, and none only where nothing had ended then, or where the server says that it missed a Tick. The clock was looked at for each answer of
--- the listener that no link came, or that it was not told to stop. It gave the listener up only where that had failed more than MAX_IDLE_TRIES times. The
--- events that the taker was given are the
--- first after the opening's, in their order, and all of them where the server says so.
+-- something had ended by a history that has the server's turns so far, and none only where nothing had ended by such a one, or where the server counts that
+-- it made none at this very look. The clock was looked at for each answer of the listener that no link came, or that it was not told to stop. It gave the
+-- listener up only where that had failed more than MAX_IDLE_TRIES times. At the end the listener was closed, whatever the cause. The events that the taker
+-- was given are the first after the opening's, in their order, and all of them where the server says so.
 pub record HostsLinks {I O T H C : Type 0} (IsLink : ℕ → Accepted × Asked → LinkReport I O T H → Type 0) (IsLost : Accepted → LostLink I O T → Type 0) (shown : H → WorkerState) (moves : States → Call → States → Type 0)
     (taken : C → Taken (LinkReport I O T H)) (opening : SpaceHistory) (count : ℕ) (before after : Listening) (gave_first gave_last : Option (List ℕ)) (h : Hosted I O T C H) : Type 0 where
   pub config : h.space.configuration ≡ opening.configuration
@@ -122,11 +133,13 @@ pub record HostsLinks {I O T H C : Type 0} (IsLink : ℕ → Accepted × Asked �
   pub reported : Paired (IsReportOf IsLink opening h.space) 1 served links
   pub reports : IsPermutation links (taken h.taker).reports
   pub ticks : AreTurnsOf opening 0 (taken h.taker).ticks h.space
-  pub quiet : TicksQuietly shown moves opening h.space.events h.tick_missed gave_first gave_last before.quiets after.quiets (ticks_of served) (taken h.taker).ticks h.hand
+  pub quiet : TicksQuietly shown moves opening h.space.events h.ticks_missed gave_first gave_last before.quiets after.quiets (ticks_of served) (taken h.taker).ticks h.hand
+  pub any_missed : IsTrue h.tick_missed ↔ (0 < h.ticks_missed)
   pub others : (n : ℕ) → length links < n → events_after opening n h.space ≡ []
   pub stopped : HostStopped h.stop after.told count (length links) missed
   pub fault : h.stop ≡ AcceptFault → FailedTimes (MAX_IDLE_TRIES + 1) before.faults after.faults
   pub back : AreGivenBack IsLost missed h.lost
   pub untold : h.stop ≢ Told → after.told ≡ before.told
+  pub closed : after.closed ≡ true
   pub handed : StartsWith h.space.events (opening.events ++ (taken h.taker).events)
   pub all_handed : h.whole ≡ true → h.space.events ≡ opening.events ++ (taken h.taker).events

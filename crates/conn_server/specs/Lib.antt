@@ -14,3 +14,4 @@ pub mod Stops
 pub mod Joins
 pub mod Reports
 pub mod Hosts
+pub mod Begins

@@ -49,6 +49,6 @@ pub record IsEndOf {I O T H : Type 0} (Talked : AdmittedLink I O T H → LinkRep
 
 -- The task was begun at the lock, with this book, or done there; or it was done, and a root with the view v has taken its pass back.
 abbrev pub IsUnder : {I O T H : Type 0} → (AdmittedLink I O T H → LinkReport I O T H → Type 0) → TurnLock → List Kind → View → LinkTask I O T H → LinkState I O T H → Type 0
-IsUnder Talked lock kinds v task (Running child) = (child.promise.lock.value ≡ lock) × (child.promise.book.value ≡ kinds) × (child.promise.task.value ≡ task)
+IsUnder Talked lock kinds v task (Running child) = (child.promise.lock.value ≡ lock) × (child.promise.book.value ≡ kinds) × (child.promise.task.value.value ≡ task)
 IsUnder Talked lock kinds v task (ServedHere done) = Serves Talked lock task done
 IsUnder Talked lock kinds v task (Ended report) = IsEndOf Talked v task report.value

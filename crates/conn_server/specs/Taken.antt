@@ -1,4 +1,4 @@
--- What a taker and of events was given.
+-- What a taker of reports and of events was given.
 use Rattle.std.specs.Prelude.{◌≡◌, ◌≤◌, ℕ, List, []}
 use Rattle.wire_io.specs.Links.{Accepted}
 use Rattle.history.specs.declared.asks.Event.{Event}

@@ -38,8 +38,9 @@ pub enum Stop {
     OutOfMemory,
 }
 
-/// The listener's next link. Where it fails, threads of links that have ended are joined, and it is asked again, once a link has ended or after a pause:
-/// as long as one of those that were begun is served, whose end gives back a descriptor and memory, and then a few times more.
+/// The listener's next link. Where it fails, threads of links that have ended are joined, and it is asked again, once a
+/// link has ended or after a pause: as long as one of those that were begun is served, whose end gives back a
+/// descriptor and memory, and then a few times more.
 fn next_link<
     's,
     R: Threads + Wait,
@@ -65,7 +66,8 @@ fn next_link<
     ensures begun { acceptor.new.begun ≡ acceptor.old.begun }
     ensures accepts { AcceptsAtLast (accepted_as L.In.half L.Out.half L.Ticks.given)
         (L.listening listener.old) (L.listening listener.new) result }
-    ensures halves { IfOk result (λ link. AreNewHalves (L.In.half link.source) (L.Out.half link.sink)) }
+    ensures halves { IfOk result (λ link. AreNewHalves (L.In.half link.source)
+        (L.Out.half link.sink)) }
     ensures ports { (L.listening listener.new).ports ≡ (L.listening listener.old).ports }
 {
     let mut idle_tries = 0u32;
@@ -86,8 +88,8 @@ fn next_link<
     listener.accept()
 }
 
-/// Accepts so many links. A thread of the scope serves each. Before a link is admitted, threads of links that have ended are joined. The link for which
-/// there was no memory, if any, is given back.
+/// Accepts so many links. A thread of the scope serves each. Before a link is admitted, threads of links that have
+/// ended are joined. The link for which there was no memory, if any, is given back.
 pub fn accept_links<
     's,
     E,
@@ -108,14 +110,27 @@ where
     L::Ticks: 's,
     G::Hand: 's,
     requires host { length (utf shared.now.plan.now.host) ≤ MAX_HOST_BYTES }
-    requires accepting { IsAccepting (TalksOver L.In.half L.Out.half L.Ticks.given G.Hand.shown G.Hand.may G.Hand.moves shared.now.book.now) (IsMadeFor L.In.half L.Out.half L.Ticks.given G.Hand.shown G.Hand.moves shared.now.plan.now) G.Hand.shown C.taken C.expects shared.now.lock.now shared.now.book.now acceptor.old }
+    requires accepting { IsAccepting
+        (TalksOver L.In.half L.Out.half L.Ticks.given G.Hand.shown G.Hand.may G.Hand.moves
+        shared.now.book.now)
+        (IsMadeFor L.In.half L.Out.half L.Ticks.given G.Hand.shown G.Hand.moves shared.now.plan.now)
+        G.Hand.shown C.taken C.expects shared.now.lock.now shared.now.book.now acceptor.old }
     requires fresh { (acceptor.old.all ≡ []) × ((C.taken acceptor.old.taker).ticks ≡ []) }
     requires few { shared.now.plan.now.count ≤ MAX_LINKS }
-    ensures accepting { IsAccepting (TalksOver L.In.half L.Out.half L.Ticks.given G.Hand.shown G.Hand.may G.Hand.moves shared.now.book.now) (IsMadeFor L.In.half L.Out.half L.Ticks.given G.Hand.shown G.Hand.moves shared.now.plan.now) G.Hand.shown C.taken C.expects shared.now.lock.now shared.now.book.now acceptor.new }
-    ensures tied { (C.taken acceptor.new.taker).ticks ≡ ticks_of (shown_all L.In.half L.Out.half L.Ticks.given acceptor.new.all) }
-    ensures links { (lost : List Accepted) × ((L.listening listener.new).accepted ≡ with_all (L.listening listener.old).accepted (links_of (shown_all L.In.half L.Out.half L.Ticks.given acceptor.new.all) ++ lost)) × Stopped result.0 shared.now.plan.now.count acceptor.new.begun lost
+    ensures accepting { IsAccepting
+        (TalksOver L.In.half L.Out.half L.Ticks.given G.Hand.shown G.Hand.may G.Hand.moves
+        shared.now.book.now)
+        (IsMadeFor L.In.half L.Out.half L.Ticks.given G.Hand.shown G.Hand.moves shared.now.plan.now)
+        G.Hand.shown C.taken C.expects shared.now.lock.now shared.now.book.now acceptor.new }
+    ensures tied { (C.taken acceptor.new.taker).ticks ≡ ticks_of
+        (shown_all L.In.half L.Out.half L.Ticks.given acceptor.new.all) }
+    ensures links { (lost : List Accepted)
+        × ((L.listening listener.new).accepted ≡ with_all (L.listening listener.old).accepted
+        (links_of (shown_all L.In.half L.Out.half L.Ticks.given acceptor.new.all) ++ lost))
+        × Stopped result.0 shared.now.plan.now.count acceptor.new.begun lost
         × AreGivenBack (IsLostLink L.In.half L.Out.half L.Ticks.given) lost result.1 }
-    ensures fault { result.0 ≡ Stop.AcceptFault → Rose (L.listening listener.old).faults (L.listening listener.new).faults }
+    ensures fault { result.0 ≡ Stop.AcceptFault
+        → Rose (L.listening listener.old).faults (L.listening listener.new).faults }
     ensures faults { (L.listening listener.old).faults ≤ (L.listening listener.new).faults }
     ensures ports { (L.listening listener.new).ports ≡ (L.listening listener.old).ports }
 {

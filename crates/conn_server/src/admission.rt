@@ -92,8 +92,10 @@ fn has_room<X>(items: &mut Vec<X>, more: usize) -> bool
 
 /// Tells a hand what an answer tells as withdrawn.
 pub(crate) fn tell_answer<H: Worker>(hand: &mut H, answer: &Result<Turn, Refused>)
-    ensures seen { TellsMore (H.shown hand.old).seen (map unreferenced (gone_with (end_of answer.now))) (H.shown hand.new).seen }
-    ensures state { LeadsStates H.moves (H.shown hand.old).state (map unreferenced (gone_with (end_of answer.now))) (H.shown hand.new).state }
+    ensures seen { TellsMore (H.shown hand.old).seen
+        (map unreferenced (gone_with (end_of answer.now))) (H.shown hand.new).seen }
+    ensures state { LeadsStates H.moves (H.shown hand.old).state
+        (map unreferenced (gone_with (end_of answer.now))) (H.shown hand.new).state }
     ensures calls { (H.shown hand.new).calls ≡ (H.shown hand.old).calls }
     ensures number { (H.shown hand.new).number ≡ (H.shown hand.old).number }
 {
@@ -136,11 +138,15 @@ fn tick<'s, R: Wait, T: Clock, H: Worker>(
     ensures went { PassWent root.old.pass root.new.pass (option_to_list result) }
     ensures asked { IfSome result (λ entry. entry.ask ≡ Tick) }
     ensures end { IfSome result (λ entry. IsTickEnd entry.end) }
-    ensures place { IfSome result (λ entry. IsTakenBelow (length (view_of root.new.pass).seen) entry.end) }
-    ensures given { IfSome result (λ entry. Gave (T.given clock.old) (T.given clock.new) (entry.moment ∷ [])) }
+    ensures place { IfSome result (λ entry. IsTakenBelow (length (view_of root.new.pass).seen)
+        entry.end) }
+    ensures given { IfSome result (λ entry. Gave (T.given clock.old) (T.given clock.new)
+        (entry.moment ∷ [])) }
     ensures moment { (moment : ℕ) × Gave (T.given clock.old) (T.given clock.new) (moment ∷ []) }
-    ensures seen { IfSome result (λ entry. TellsMore (H.shown hand.old).seen (told_of entry) (H.shown hand.new).seen) }
-    ensures state { IfSome result (λ entry. LeadsStates H.moves (H.shown hand.old).state (told_of entry) (H.shown hand.new).state) }
+    ensures seen { IfSome result (λ entry. TellsMore (H.shown hand.old).seen (told_of entry)
+        (H.shown hand.new).seen) }
+    ensures state { IfSome result (λ entry. LeadsStates H.moves (H.shown hand.old).state
+        (told_of entry) (H.shown hand.new).state) }
     ensures calls { (H.shown hand.new).calls ≡ (H.shown hand.old).calls }
     ensures number { (H.shown hand.new).number ≡ (H.shown hand.old).number }
 {
@@ -170,7 +176,8 @@ fn hand_and_setup<G: Crew, I, O, T>(
     ensures untold { IfOk result (λ r. IsUntold (G.Hand.shown r.hand).seen) }
     ensures uncounted { IfOk result (λ r. IsUncounted (G.Hand.shown r.hand).state) }
     ensures number { IfOk result (λ r. (G.Hand.shown r.hand).number ≡ by) }
-    ensures terms { IfOk result (λ r. (kinds : List Kind) → terms_of kinds r.setup ≡ link_terms kinds plan.now by link.now.host link.now.port) }
+    ensures terms { IfOk result (λ r. (kinds : List Kind)
+        → terms_of kinds r.setup ≡ link_terms kinds plan.now by link.now.host link.now.port) }
     ensures peer_host { IfOk result (λ r. length (utf r.setup.peer_host) ≤ MAX_HOST_BYTES) }
     ensures host { IfOk result (λ r. length (utf r.setup.host) ≤ MAX_HOST_BYTES) }
     ensures time { IfOk result (λ r. r.setup.draw.time <ℤ pos DRAWS_BEGIN_BELOW) }
@@ -286,11 +293,17 @@ impl<I: Source, O: Sink, T: Clock, H: Worker, C: ReportTaker<LinkReport<I, O, T,
         clock: &mut T,
         hand: &mut H,
     ) -> Option<Snapshot<Asked>>
-        requires accepting { IsAccepting (TalksOver I.half O.half T.given H.shown H.may H.moves shared.now.book.now) (IsMadeFor I.half O.half T.given H.shown H.moves shared.now.plan.now) H.shown C.taken C.expects shared.now.lock.now shared.now.book.now self.old }
+        requires accepting { IsAccepting
+            (TalksOver I.half O.half T.given H.shown H.may H.moves shared.now.book.now)
+            (IsMadeFor I.half O.half T.given H.shown H.moves shared.now.plan.now)
+            H.shown C.taken C.expects shared.now.lock.now shared.now.book.now self.old }
         requires room { length (C.taken self.old.taker).ticks
             < (C.taken self.old.taker).tick_limit }
         ensures keeps { Keeps C.holds C.stays self.old.taker self.new.taker }
-        ensures accepting { IsAccepting (TalksOver I.half O.half T.given H.shown H.may H.moves shared.now.book.now) (IsMadeFor I.half O.half T.given H.shown H.moves shared.now.plan.now) H.shown C.taken C.expects shared.now.lock.now shared.now.book.now self.new }
+        ensures accepting { IsAccepting
+            (TalksOver I.half O.half T.given H.shown H.may H.moves shared.now.book.now)
+            (IsMadeFor I.half O.half T.given H.shown H.moves shared.now.plan.now)
+            H.shown C.taken C.expects shared.now.lock.now shared.now.book.now self.new }
         ensures follows { Follows self.old self.new }
         ensures links { HasSameLinks C.taken self.old self.new }
         ensures ticks { MatchOption result
@@ -299,11 +312,15 @@ impl<I: Source, O: Sink, T: Clock, H: Worker, C: ReportTaker<LinkReport<I, O, T,
             ≡ (C.taken self.old.taker).ticks ++ entry.value ∷ []) }
         ensures asked { IfSome result (λ entry. entry.value.ask ≡ Tick) }
         ensures end { IfSome result (λ entry. IsTickEnd entry.value.end) }
-        ensures place { IfSome result (λ entry. IsTakenBelow (length (view_of self.new.root.pass).seen) entry.value.end) }
-        ensures given { IfSome result (λ entry. Gave (T.given clock.old) (T.given clock.new) (entry.value.moment ∷ [])) }
+        ensures place { IfSome result (λ entry. IsTakenBelow
+            (length (view_of self.new.root.pass).seen) entry.value.end) }
+        ensures given { IfSome result (λ entry. Gave (T.given clock.old) (T.given clock.new)
+            (entry.value.moment ∷ [])) }
         ensures moment { (moment : ℕ) × Gave (T.given clock.old) (T.given clock.new) (moment ∷ []) }
-        ensures seen { IfSome result (λ entry. TellsMore (H.shown hand.old).seen (told_of entry.value) (H.shown hand.new).seen) }
-        ensures state { IfSome result (λ entry. LeadsStates H.moves (H.shown hand.old).state (told_of entry.value) (H.shown hand.new).state) }
+        ensures seen { IfSome result (λ entry. TellsMore (H.shown hand.old).seen
+            (told_of entry.value) (H.shown hand.new).seen) }
+        ensures state { IfSome result (λ entry. LeadsStates H.moves (H.shown hand.old).state
+            (told_of entry.value) (H.shown hand.new).state) }
         ensures calls { (H.shown hand.new).calls ≡ (H.shown hand.old).calls }
         ensures number { (H.shown hand.new).number ≡ (H.shown hand.old).number }
     {
@@ -331,7 +348,8 @@ impl<
         ensures keeps { Keeps C.holds C.stays self.old.taker self.new.taker }
         ensures same { IsSame C.taken C.expects self.old self.new }
         ensures room { IfSome result (λ r. HasRoom C.taken self.new) }
-        ensures ready { IfSome result (λ r. IsHandFor H.shown shared.now.plan.now (self.old.begun + 1) link.now.host link.now.port r) }
+        ensures ready { IfSome result (λ r. IsHandFor H.shown shared.now.plan.now
+            (self.old.begun + 1) link.now.host link.now.port r) }
     {
         if !self.with_room() {
             return None;
@@ -353,22 +371,33 @@ impl<
         link: Link<I, O, T>,
         ready: HandAndSetup<H>,
     ) -> Result<AdmittedLink<I, O, T, H>, LostLink<I, O, T>>
-        requires accepting { IsAccepting (TalksOver I.half O.half T.given H.shown H.may H.moves shared.now.book.now) (IsMadeFor I.half O.half T.given H.shown H.moves shared.now.plan.now) H.shown C.taken C.expects shared.now.lock.now shared.now.book.now self.old }
+        requires accepting { IsAccepting
+            (TalksOver I.half O.half T.given H.shown H.may H.moves shared.now.book.now)
+            (IsMadeFor I.half O.half T.given H.shown H.moves shared.now.plan.now)
+            H.shown C.taken C.expects shared.now.lock.now shared.now.book.now self.old }
         requires few { self.old.begun < LAST_NUMBER }
         requires room { HasRoom C.taken self.old }
         requires halves { AreNewHalves (I.half link.source) (O.half link.sink) }
-        requires ready { IsHandFor H.shown shared.now.plan.now (self.old.begun + 1) link.host link.port ready }
+        requires ready { IsHandFor H.shown shared.now.plan.now (self.old.begun + 1) link.host
+            link.port ready }
         ensures keeps { Keeps C.holds C.stays self.old.taker self.new.taker }
-        ensures accepting { IsAccepting (TalksOver I.half O.half T.given H.shown H.may H.moves shared.now.book.now) (IsMadeFor I.half O.half T.given H.shown H.moves shared.now.plan.now) H.shown C.taken C.expects shared.now.lock.now shared.now.book.now self.new }
+        ensures accepting { IsAccepting
+            (TalksOver I.half O.half T.given H.shown H.may H.moves shared.now.book.now)
+            (IsMadeFor I.half O.half T.given H.shown H.moves shared.now.plan.now)
+            H.shown C.taken C.expects shared.now.lock.now shared.now.book.now self.new }
         ensures follows { Follows self.old self.new }
         ensures links { HasSameLinks C.taken self.old self.new }
         ensures ticks { IfOk result (λ admitted. (C.taken self.new.taker).ticks
             ≡ (C.taken self.old.taker).ticks ++ admitted.tick.value ∷ []) }
         ensures no_tick { OnErr result
             ((C.taken self.new.taker).ticks ≡ (C.taken self.old.taker).ticks) }
-        ensures lost { IfErr result (λ lost. IsLostLink I.half O.half T.given (accepted_as I.half O.half T.given link) lost) }
+        ensures lost { IfErr result (λ lost. IsLostLink I.half O.half T.given
+            (accepted_as I.half O.half T.given link) lost) }
         ensures first { IfOk result (λ admitted. admitted.first.value ≡ link) }
-        ensures next { IfOk result (λ admitted. IsNext (TalksOver I.half O.half T.given H.shown H.may H.moves shared.now.book.now) (IsMadeFor I.half O.half T.given H.shown H.moves shared.now.plan.now) H.shown C.taken C.expects shared.now.lock.now shared.now.book.now self.new admitted) }
+        ensures next { IfOk result (λ admitted. IsNext
+            (TalksOver I.half O.half T.given H.shown H.may H.moves shared.now.book.now)
+            (IsMadeFor I.half O.half T.given H.shown H.moves shared.now.plan.now)
+            H.shown C.taken C.expects shared.now.lock.now shared.now.book.now self.new admitted) }
     {
         let first = Snapshot::of(&link);
         let Link {
@@ -408,13 +437,20 @@ impl<
         O: Send + 's,
         T: Send + 's,
         H: Send + 's,
-        requires { IsNext (TalksOver I.half O.half T.given H.shown H.may H.moves shared.now.book.now) (IsMadeFor I.half O.half T.given H.shown H.moves shared.now.plan.now) H.shown C.taken C.expects shared.now.lock.now shared.now.book.now self.old admitted }
+        requires { IsNext
+            (TalksOver I.half O.half T.given H.shown H.may H.moves shared.now.book.now)
+            (IsMadeFor I.half O.half T.given H.shown H.moves shared.now.plan.now)
+            H.shown C.taken C.expects shared.now.lock.now shared.now.book.now self.old admitted }
         ensures keeps { Keeps C.holds C.stays self.old.taker self.new.taker }
-        ensures accepting { IsAccepting (TalksOver I.half O.half T.given H.shown H.may H.moves shared.now.book.now) (IsMadeFor I.half O.half T.given H.shown H.moves shared.now.plan.now) H.shown C.taken C.expects shared.now.lock.now shared.now.book.now self.new }
+        ensures accepting { IsAccepting
+            (TalksOver I.half O.half T.given H.shown H.may H.moves shared.now.book.now)
+            (IsMadeFor I.half O.half T.given H.shown H.moves shared.now.plan.now)
+            H.shown C.taken C.expects shared.now.lock.now shared.now.book.now self.new }
         ensures follows { Follows self.old self.new }
         ensures ticks { (C.taken self.new.taker).ticks ≡ (C.taken self.old.taker).ticks }
         ensures links { shown_all I.half O.half T.given self.new.all
-            ≡ shown_all I.half O.half T.given self.old.all ++ shown_admitted I.half O.half T.given admitted ∷ [] }
+            ≡ shown_all I.half O.half T.given self.old.all ++ shown_admitted I.half O.half T.given
+            admitted ∷ [] }
         ensures count { self.new.begun ≡ self.old.begun + 1 }
     {
         let by = self.begun + 1;
@@ -448,11 +484,17 @@ impl<
         T: Send + 's,
         H: Send + 's,
         requires host { length (utf shared.now.plan.now.host) ≤ MAX_HOST_BYTES }
-        requires accepting { IsAccepting (TalksOver I.half O.half T.given H.shown H.may H.moves shared.now.book.now) (IsMadeFor I.half O.half T.given H.shown H.moves shared.now.plan.now) H.shown C.taken C.expects shared.now.lock.now shared.now.book.now self.old }
+        requires accepting { IsAccepting
+            (TalksOver I.half O.half T.given H.shown H.may H.moves shared.now.book.now)
+            (IsMadeFor I.half O.half T.given H.shown H.moves shared.now.plan.now)
+            H.shown C.taken C.expects shared.now.lock.now shared.now.book.now self.old }
         requires few { self.old.begun < LAST_NUMBER }
         requires halves { AreNewHalves (I.half link.source) (O.half link.sink) }
         ensures keeps { Keeps C.holds C.stays self.old.taker self.new.taker }
-        ensures accepting { IsAccepting (TalksOver I.half O.half T.given H.shown H.may H.moves shared.now.book.now) (IsMadeFor I.half O.half T.given H.shown H.moves shared.now.plan.now) H.shown C.taken C.expects shared.now.lock.now shared.now.book.now self.new }
+        ensures accepting { IsAccepting
+            (TalksOver I.half O.half T.given H.shown H.may H.moves shared.now.book.now)
+            (IsMadeFor I.half O.half T.given H.shown H.moves shared.now.plan.now)
+            H.shown C.taken C.expects shared.now.lock.now shared.now.book.now self.new }
         ensures follows { Follows self.old self.new }
         ensures tied { MatchOption result
             (TicksOn (C.taken self.old.taker).ticks (C.taken self.new.taker).ticks
@@ -462,10 +504,15 @@ impl<
             × (ticks_of (shown_all I.half O.half T.given self.new.all)
             ≡ ticks_of (shown_all I.half O.half T.given self.old.all))) }
         ensures links { MatchOption result
-            (links_of (shown_all I.half O.half T.given self.new.all) ≡ links_of (shown_all I.half O.half T.given self.old.all) ++ accepted_as I.half O.half T.given link ∷ [])
-            (λ lost. links_of (shown_all I.half O.half T.given self.new.all) ≡ links_of (shown_all I.half O.half T.given self.old.all)) }
-        ensures count { MatchOption result (self.new.begun ≡ self.old.begun + 1) (λ lost. self.new.begun ≡ self.old.begun) }
-        ensures lost { IfSome result (λ lost. IsLostLink I.half O.half T.given (accepted_as I.half O.half T.given link) lost) }
+            (links_of (shown_all I.half O.half T.given self.new.all) ≡ links_of
+            (shown_all I.half O.half T.given self.old.all) ++ accepted_as I.half O.half T.given link
+            ∷ [])
+            (λ lost. links_of (shown_all I.half O.half T.given self.new.all) ≡ links_of
+            (shown_all I.half O.half T.given self.old.all)) }
+        ensures count { MatchOption result (self.new.begun ≡ self.old.begun + 1)
+            (λ lost. self.new.begun ≡ self.old.begun) }
+        ensures lost { IfSome result (λ lost. IsLostLink I.half O.half T.given
+            (accepted_as I.half O.half T.given link) lost) }
     {
         let ready = self.reserve_link(shared, crew, &link);
         let Some(ready) = ready else {

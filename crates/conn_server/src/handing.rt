@@ -156,8 +156,8 @@ impl<
         }
     }
 
-    /// Waits for all links to end: as each ends, its report is handed on, and the events that the history has then. After `MAX_WAITS` waits the rest are
-    /// joined, the last first.
+    /// Waits for all links to end: as each ends, its report is handed on, and the events that the history has then.
+    /// After `MAX_WAITS` waits the rest are joined, the last first.
     pub fn end_all<'s, R: Threads + Wait>(&mut self, shared: &Shared<'s, R>)
         requires accepting { IsAccepting
             (TalksOver I.half O.half T.given H.shown H.may H.moves shared.now.book.now)
@@ -179,8 +179,8 @@ impl<
         self.join_all(shared);
     }
 
-    /// Waits until all links that were begun have ended, `MAX_WAITS` times at most, and hands on what there is each time. It pauses only where no thread
-    /// was joined.
+    /// Waits until all links that were begun have ended, `MAX_WAITS` times at most, and hands on what there is each
+    /// time. It pauses only where no thread was joined.
     fn wait_for_ends<'s, R: Threads + Wait>(&mut self, shared: &Shared<'s, R>)
         requires accepting { IsAccepting
             (TalksOver I.half O.half T.given H.shown H.may H.moves shared.now.book.now)

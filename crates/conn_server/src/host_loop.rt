@@ -1,5 +1,5 @@
 //! Accepting links until the listener is told to stop.
-ghost use Rattle.std.specs.Prelude.{◌≡◌, ◌≤◌, ◌<◌, ◌+◌, ℕ, List, [], length, Option, None, Ok, false, true};
+ghost use Rattle.std.specs.Prelude.{◌≡◌, ◌≢◌, ◌≤◌, ◌<◌, ◌+◌, ℕ, List, [], length, IfSome, Option, None, Ok, false, true};
 ghost use Rattle.mod_utf.specs.Utf.{utf};
 ghost use Rattle.wire_io.specs.Links.{Listening, Waits, IfCame, accepted_as};
 ghost use Rattle.wire_io.specs.Wire.{AreNewHalves};
@@ -7,21 +7,23 @@ ghost use Rattle.wire_io.specs.declared.limits.TheConstants.{MAX_HOST_BYTES};
 ghost use Rattle.wire_io.specs.declared.source.Failed.{Failed};
 ghost use Rattle.conn_server.specs.Accepts.{IsAccepting};
 ghost use Rattle.conn_server.specs.Taken.{Keeps};
-ghost use Rattle.conn_server.specs.Hosts.{GoesOn, IsHalted, IsHosting, IsLike};
+ghost use Rattle.conn_server.specs.Hosts.{FailedSince, GoesOn, IsHalted, IsHosting, IsLike};
 ghost use Rattle.conn_server.specs.Made.{IsMadeFor};
 ghost use Rattle.conn_server.specs.Talks.{TalksOver};
 ghost use Rattle.conn_server.specs.declared.plan.TheConstants.{LAST_NUMBER};
 
 use crate::accept_loop::Stop;
-use crate::admission::{Acceptor, LostLink};
+use crate::admission::{Acceptor, Keeping, LostLink};
 use crate::link_task::LinkReport;
 use crate::plan::ServePlan;
 use crate::quiet_second::OwnHand;
 use crate::shared::Shared;
 use crate::taker::ReportTaker;
 use call_dispatch::{Crew, Worker};
+use std::alloc::Global;
 use std::sync::Wait;
 use std::thread::{Scope, Threads};
+use turn_lock::Root;
 use wire_io::{Clock, Link, Listener, Sink, Source, Waited};
 
 /// The most links of a host that are live at once, where its beginning names no smaller number.
@@ -49,7 +51,7 @@ pub struct HostLoop<I: Source, O: Sink, T: Clock, H: Worker, C> {
     pub acceptor: Acceptor<I, O, T, H, C>,
     /// The hand of number 0, which quiet seconds have.
     pub own: OwnHand<H>,
-    /// The number of times that the listener failed without a live link since it last answered.
+    /// The number of times that the listener failed without a live link since it last answered a wait or a look.
     pub idle_tries: u32,
     /// The most links that are live at once.
     pub most_live: usize,
@@ -65,8 +67,8 @@ fn events_between(from: Option<u64>, to: Option<u64>) -> u64 {
     }
 }
 
-/// Returns how many short rounds come next, where so many were to come, the lock was crowded or not, and so many events were handed on. They begin
-/// where the lock is crowded, and end where few events come.
+/// Returns how many short rounds come next. `rounds` were to come, and so many events were handed on. They begin where the lock is crowded, and end where
+/// few events come.
 fn rounds_after(rounds: u32, crowded: bool, events: u64) -> u32 {
     if rounds == 0 {
         return if crowded { SHORT_ROUNDS } else { 0 };
@@ -97,6 +99,38 @@ impl<
     H: Worker + Drop,
     C: ReportTaker<LinkReport<I, O, T, H>>,
 > HostLoop<I, O, T, H, C> {
+    /// It has admitted no link yet. It hands the events from this place on to the taker, where there is one.
+    pub fn new(
+        alloc: Global,
+        root: Root,
+        taker: C,
+        handed: Option<u64>,
+        most_live: usize,
+    ) -> HostLoop<I, O, T, H, C>
+        ensures root { result.acceptor.root ≡ root }
+        ensures begun { result.acceptor.begun ≡ 0 }
+        ensures live { result.acceptor.live.items ≡ [] }
+        ensures all { result.acceptor.all ≡ [] }
+        ensures taker { result.acceptor.taker ≡ taker }
+        ensures keeps { result.acceptor.keeps ≡ false }
+        ensures handed { result.acceptor.handed ≡ handed }
+        ensures hand { result.own.hand ≡ None }
+        ensures missed { result.own.missed ≡ 0 }
+        ensures idle_tries { result.idle_tries ≡ 0 }
+    {
+        let keeping = Keeping {
+            entries: false,
+            handed,
+        };
+        HostLoop {
+            acceptor: Acceptor::new(alloc, root, taker, keeping),
+            own: OwnHand::new(),
+            idle_tries: 0,
+            most_live,
+            short_rounds: 0,
+        }
+    }
+
     /// Notes that the listener failed, and says whether it is given up.
     fn gives_up(&mut self) -> bool
         ensures acceptor { self.new.acceptor ≡ self.old.acceptor }
@@ -131,17 +165,20 @@ impl<
             H.shown C.taken C.expects shared.now.lock.now shared.now.book.now self.old.acceptor }
         requires few { self.old.acceptor.begun < shared.now.plan.now.count }
         requires numbered { self.old.acceptor.begun < LAST_NUMBER }
-        requires halves { IfCame waited (λ link. AreNewHalves (I.half link.source) (O.half link.sink)) }
+        requires halves { IfCame waited (λ link. AreNewHalves (I.half link.source)
+            (O.half link.sink)) }
         ensures keeps { Keeps C.holds C.stays self.old.acceptor.taker self.new.acceptor.taker }
         ensures goes_on { (l0 l1 l2 : Listening) (gave_first : Option (List ℕ))
             → IsHosting I.half O.half T.given H.shown H.may H.moves C.taken C.expects
             shared.now.lock.now shared.now.book.now shared.now.plan.now
-            l0 l1 gave_first (Q.given ticks.old) self.old.acceptor self.old.own self.old.idle_tries
-            → Waits {E = Failed} (accepted_as I.half O.half T.given) l1 l2 (Ok waited) → l2.ports ≡ l1.ports
+            l0 l1 gave_first (Q.given ticks.old) self.old.acceptor self.old.own
+            → Waits {E = Failed} (accepted_as I.half O.half T.given) l1 l2 (Ok waited)
+            → l2.ports ≡ l1.ports
             → GoesOn I.half O.half T.given H.shown H.may H.moves C.taken C.expects
             shared.now.lock.now shared.now.book.now shared.now.plan.now
-            l0 l2 gave_first (Q.given ticks.new) self.new.acceptor self.new.own self.new.idle_tries
-            result }
+            l0 l2 gave_first (Q.given ticks.new) self.new.acceptor self.new.own result }
+        ensures untried { self.new.idle_tries ≡ 0 }
+        ensures other { IfSome result (λ halt. halt.stop ≢ Stop.AcceptFault) }
     {
         self.idle_tries = 0;
         let crowded = shared.lock.is_crowded();
@@ -167,8 +204,9 @@ impl<
         }
     }
 
-    /// Joins threads of links that have ended, hands events on, and makes a Tick where a lease or a wait has ended. Then it waits for a link to end, for 50
-    /// milliseconds at most, or for 10 in a short round; but not where a thread was joined.
+    /// Joins threads of links that have ended, hands events on, and makes a Tick where a lease or a wait has ended.
+    /// Then it waits for a link to end, for 50 milliseconds at most, or for 10 in a short round; but not where a thread
+    /// was joined.
     fn pass_time<'s, R: Threads + Wait + Sync, Q: Clock, G: Crew<Hand = H>>(
         &mut self,
         shared: &Shared<'s, R>,
@@ -185,12 +223,11 @@ impl<
         ensures goes_on { (l0 l1 l2 : Listening) (gave_first : Option (List ℕ))
             → IsHosting I.half O.half T.given H.shown H.may H.moves C.taken C.expects
             shared.now.lock.now shared.now.book.now shared.now.plan.now
-            l0 l1 gave_first (Q.given ticks.old) self.old.acceptor self.old.own self.old.idle_tries
+            l0 l1 gave_first (Q.given ticks.old) self.old.acceptor self.old.own
             → IsLike l1 l2
             → IsHosting I.half O.half T.given H.shown H.may H.moves C.taken C.expects
             shared.now.lock.now shared.now.book.now shared.now.plan.now
-            l0 l2 gave_first (Q.given ticks.new) self.new.acceptor self.new.own
-            self.new.idle_tries }
+            l0 l2 gave_first (Q.given ticks.new) self.new.acceptor self.new.own }
     {
         let seen = shared.ended.count();
         let live = self.acceptor.live.len();
@@ -211,7 +248,8 @@ impl<
         self.short_rounds > 0 || self.acceptor.live.len() >= self.most_live
     }
 
-    /// Waits for the next link for a second at most, and does what is to be done then. Where as many links are live as may be, or many events are made, it looks whether the listener was told to stop, and passes time.
+    /// Waits for the next link for a second at most, and does what is to be done then. Where as many links are live as
+    /// may be, or many events are made, it looks whether the listener was told to stop, and passes time.
     fn step<
         's,
         E,
@@ -242,11 +280,18 @@ impl<
             → IsHosting I.half O.half T.given H.shown H.may H.moves C.taken C.expects
             shared.now.lock.now shared.now.book.now shared.now.plan.now
             l0 (L.listening listener.old) gave_first (Q.given ticks.old) self.old.acceptor
-            self.old.own self.old.idle_tries
+            self.old.own
             → GoesOn I.half O.half T.given H.shown H.may H.moves C.taken C.expects
             shared.now.lock.now shared.now.book.now shared.now.plan.now
             l0 (L.listening listener.new) gave_first (Q.given ticks.new) self.new.acceptor
-            self.new.own self.new.idle_tries result }
+            self.new.own result }
+
+        // The failures are counted since the listener last answered, and are many where it is given up.
+        ensures since { (first : Listening)
+            → FailedSince L.listening self.old.idle_tries first (L.listening listener.old)
+            → FailedSince L.listening self.new.idle_tries first (L.listening listener.new) }
+        ensures given_up { IfSome result (λ halt. halt.stop ≡ Stop.AcceptFault
+            → MAX_IDLE_TRIES < self.new.idle_tries) }
     {
         if self.acceptor.begun >= count_of(shared.plan) {
             return Some(Halt {
@@ -255,6 +300,7 @@ impl<
             });
         }
         if self.holds_back() {
+            self.idle_tries = 0;
             if listener.is_told() {
                 return Some(Halt {
                     stop: Stop::Told,
@@ -279,8 +325,8 @@ impl<
         }
     }
 
-    /// Accepts links until the listener is told to stop, or for another cause. A thread of the scope serves each. Then the listener is closed, so that new
-    /// clients are refused and live links are told to end.
+    /// Accepts links until the listener is told to stop, or another cause ends that. A thread of the scope serves each. Then
+    /// the listener is closed, so that new clients are refused and live links are told to end.
     pub fn run<
         's,
         E,
@@ -308,14 +354,18 @@ impl<
             H.shown C.taken C.expects shared.now.lock.now shared.now.book.now self.old.acceptor }
         requires fresh { (self.old.acceptor.all ≡ [])
             × ((C.taken self.old.acceptor.taker).ticks ≡ []) }
-        requires unused { (self.old.own.hand ≡ None) × (self.old.own.missed ≡ false) }
+        requires unused { (self.old.own.hand ≡ None) × (self.old.own.missed ≡ 0) }
         requires hosts { self.old.acceptor.keeps ≡ false }
         requires untried { self.old.idle_tries ≡ 0 }
         ensures keeps { Keeps C.holds C.stays self.old.acceptor.taker self.new.acceptor.taker }
         ensures halted { IsHalted I.half O.half T.given H.shown H.may H.moves C.taken C.expects
             shared.now.lock.now shared.now.book.now shared.now.plan.now
-            (L.listening listener.old) (L.listening listener.new) (Q.given ticks.old) (Q.given ticks.new)
-            self.new.acceptor self.new.own result }
+            (L.listening listener.old) (L.listening listener.new) (Q.given ticks.old)
+            (Q.given ticks.new) self.new.acceptor self.new.own result }
+        ensures closed { (L.listening listener.new).closed ≡ true }
+        ensures fault { result.stop ≡ Stop.AcceptFault
+            → FailedSince L.listening (MAX_IDLE_TRIES + 1)
+            (L.listening listener.old) (L.listening listener.new) }
     {
         for _ in shared.rt.forever() {
             match self.step(scope, shared, crew, listener, ticks) {

@@ -15,15 +15,16 @@
 //! - A read or write fault has its cause (`halves`). Whole messages are answered to their end
 //!   (`complete`). A link for which there is no memory is shut and given back (`lost`).
 //! - The stop is `All` exactly if the count was served, and `AcceptFault` only if the listener failed:
-//!   once at least for `serve`, and more than 60 times for `host` (`fault`).
+//!   once at least for `serve`, and more than 60 times since its last answer for `host` (`fault`).
 //! - `given` of `serve_with`: the same, and the taker is given each report once.
 //! - `hosts` of `host` (`specs/Hosts`, `specs/Quiet`): the same. The server also makes Ticks in seconds
-//!   without a link. At each moment of its clock there is a Tick if something had ended, and none if
-//!   nothing had, or the result says `tick_missed`. It says that only if some moment had no Tick. It
+//!   without a link. At each moment of its clock there is a Tick only if something had ended, and none
+//!   only if nothing had, or if the result counts it as one without memory (`ticks_missed`). It
 //!   looks at its clock for each answer of the listener that no link came, or that it was not told to
 //!   stop (`asked`). The hand of number 0 is told each object that these Ticks withdraw once (`told`).
 //!   The stop is `Told` only if the listener was told. A host that records gives its taker the events
-//!   after the opening's in order (`handed`), and all of them if it says `whole`.
+//!   after the opening's in order (`handed`), and all of them if it says `whole`. At the end the
+//!   listener is closed, whatever the cause (`closed`).
 //!
 //! # What is not
 //!
@@ -33,13 +34,17 @@
 //! - By which history a look at the clock judges: it is one that has the server's own turns so far,
 //!   and may lack turns of links. Listener, clock and taker share no list. So no clause says that a
 //!   look, a report or a part comes before the stop. `test_server` tests it.
-//! - That `close` of the listener is called at the end: contracts see no change.
+//! - That memory lacked where a Tick or a thread was missed: no contract sees that. So a body that
+//!   counts each look as missed, or serves each link by the accepting thread, is not refused.
+//! - When a host closes its listener: `closed` says that it is at the end. `test_server` tests that
+//!   links are still live then.
 //! - Who is told of objects that the end of a call withdraws after its link has ended: the next turn
 //!   tells them. If there is none, nobody does.
 //!
 //! # Choices and cost
 //!
-//! - A thread that cannot be started leaves its link to the accepting thread.
+//! - Where no thread can be started for a link, the server tries 60 times more, for three seconds at
+//!   most. Then the accepting thread serves that link.
 //! - A listener that fails is asked again while a link is served. When none is, `serve` asks it four
 //!   times more and `host` 60 times, with a pause of 50 milliseconds each.
 //! - A host that has as many links as it may have looks every 50 milliseconds whether it is to stop.
@@ -69,7 +74,7 @@ pub use admission::LostLink;
 pub use host_loop::MAX_LIVE;
 pub use link_entries::LinkEntries;
 pub use link_task::{AdmittedLink, LinkDone, LinkReport, LinkTask, TaskPromise};
-pub use plan::ServePlan;
+pub use plan::{ServePlan, random_seed};
 pub use server::{
     AllJoined, Begin, HostBegin, HostJoined, Hosted, LinkReports, Report, Served, Server,
 };

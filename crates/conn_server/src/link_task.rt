@@ -87,12 +87,15 @@ pub struct LinkDone<I, O, T, H> {
 pub struct TaskPromise<I, O, T, H> {
     pub lock: Snapshot<TurnLock>,
     pub book: Snapshot<Book>,
-    pub task: Snapshot<LinkTask<I, O, T, H>>,
+    /// What is known of the task, so that the promise can be made again.
+    pub task: Snapshot<Snapshot<LinkTask<I, O, T, H>>>,
 }
 
 impl<I: Source, O: Sink, T: Clock, H: Worker> Promise<LinkDone<I, O, T, H>>
     for TaskPromise<I, O, T, H> {
-    ghost kept_by = { λ p r. Serves (TalksOver I.half O.half T.given H.shown H.may H.moves p.book.value) p.lock.value p.task.value r };
+    ghost kept_by = { λ p r. Serves
+        (TalksOver I.half O.half T.given H.shown H.may H.moves p.book.value)
+        p.lock.value p.task.value.value r };
 }
 
 /// The report of a link whose connection ended so, with these entries of its turns. Both its halves are shut.
@@ -150,7 +153,9 @@ fn serve_keeping<R: Wait, I: Source, O: Sink, T: Clock, H: Worker>(
     task: LinkTask<I, O, T, H>,
 ) -> LinkDone<I, O, T, H>
     requires { IsLinkTask H.shown lock.now task }
-    ensures { Serves (TalksOver I.half O.half T.given H.shown H.may H.moves book.now) lock.now task result }
+    ensures { Serves
+        (TalksOver I.half O.half T.given H.shown H.may H.moves book.now)
+        lock.now task result }
 {
     let LinkTask {
         by,
@@ -183,7 +188,9 @@ fn serve_telling<R: Wait, I: Source, O: Sink, T: Clock, H: Worker>(
     task: LinkTask<I, O, T, H>,
 ) -> LinkDone<I, O, T, H>
     requires { IsLinkTask H.shown lock.now task }
-    ensures { Serves (TalksOver I.half O.half T.given H.shown H.may H.moves book.now) lock.now task result }
+    ensures { Serves
+        (TalksOver I.half O.half T.given H.shown H.may H.moves book.now)
+        lock.now task result }
 {
     let LinkTask {
         by,
@@ -216,7 +223,9 @@ pub fn serve_task<R: Wait, I: Source, O: Sink, T: Clock, H: Worker>(
     task: LinkTask<I, O, T, H>,
 ) -> LinkDone<I, O, T, H>
     requires { IsLinkTask H.shown lock.now task }
-    ensures { Serves (TalksOver I.half O.half T.given H.shown H.may H.moves book.now) lock.now task result }
+    ensures { Serves
+        (TalksOver I.half O.half T.given H.shown H.may H.moves book.now)
+        lock.now task result }
 {
     if task.keeps {
         serve_keeping(rt, alloc, lock, book, task)

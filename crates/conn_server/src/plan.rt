@@ -11,6 +11,8 @@ use call_dispatch::{DRAWS_BEGIN_BELOW, Setup};
 use object_ids::UidDraw;
 use sequence::Units;
 use std::alloc::{AllocError, Global};
+use std::io;
+use std::random::RandomSource;
 use wire_io::Link;
 
 /// The most connections that `Server::serve` accepts.
@@ -34,6 +36,18 @@ pub struct ServePlan {
     pub seed: [u64; 4],
 }
 
+/// A random word.
+fn word(rt: &impl RandomSource) -> io::Result<u64> {
+    let mut bytes = [0; 8];
+    rt.fill_bytes(&mut bytes)?;
+    Ok(u64::from_be_bytes(bytes))
+}
+
+/// Returns four random words, of which a server makes its identifiers. It fails where the system gives none.
+pub fn random_seed(rt: &impl RandomSource) -> io::Result<[u64; 4]> {
+    Ok([word(rt)?, word(rt)?, word(rt)?, word(rt)?])
+}
+
 /// Returns the setup of connection `by`, which comes over this link. It fails only where there is no memory.
 pub fn setup_for<I, O, T>(
     alloc: Global,
@@ -42,7 +56,8 @@ pub fn setup_for<I, O, T>(
     link: &Link<I, O, T>,
 ) -> Result<Setup, AllocError>
     requires host { length (utf plan.now.host) ≤ MAX_HOST_BYTES }
-    ensures terms { IfOk result (λ setup. (kinds : List Kind) → terms_of kinds setup ≡ link_terms kinds plan.now by link.now.host link.now.port) }
+    ensures terms { IfOk result (λ setup. (kinds : List Kind)
+        → terms_of kinds setup ≡ link_terms kinds plan.now by link.now.host link.now.port) }
     ensures peer_host { IfOk result (λ setup. length (utf setup.peer_host) ≤ MAX_HOST_BYTES) }
     ensures host { IfOk result (λ setup. length (utf setup.host) ≤ MAX_HOST_BYTES) }
     ensures time { IfOk result (λ setup. setup.draw.time <ℤ pos DRAWS_BEGIN_BELOW) }

@@ -1,7 +1,7 @@
 //! Ticks where a lease or a wait has ended, in seconds without a link and while no link is accepted.
 ghost use Rattle.std.specs.Prelude.{◌≡◌, ◌<◌, ◌+◌, ◌⊎◌, List, [], ◌∷◌, length, MatchBool, MatchOption, IfSome, None, Option, option_to_list, ℕ, true, false};
 ghost use Rattle.std.specs.List.{flat_map};
-ghost use Rattle.wire_io.specs.Wire.{Gave};
+ghost use Rattle.wire_io.specs.Wire.{Gave, next_count};
 ghost use Rattle.space.specs.declared.asked.Asked.{Asked};
 ghost use Rattle.call_dispatch.specs.Acts.{TellsMore, LeadsStates};
 ghost use Rattle.turn_lock.specs.Handles.{IsRootOf, opening_of, view_of};
@@ -10,7 +10,7 @@ ghost use Rattle.turn_lock.specs.PassPorts.{PassWent};
 ghost use Rattle.conn_server.specs.Accepts.{Follows, HasSameLinks, IsAccepting, IsSame};
 ghost use Rattle.conn_server.specs.Taken.{Keeps};
 ghost use Rattle.conn_server.specs.Made.{IsMadeFor, told_of};
-ghost use Rattle.conn_server.specs.Quiet.{HasTold, HaveTold, IsTick, NeededThen, TicksOnce, TicksQuietly};
+ghost use Rattle.conn_server.specs.Quiet.{HasTold, HaveTold, IsTick, NeededThen, TicksOnce, TicksQuietly, missed_with};
 ghost use Rattle.conn_server.specs.Talks.{TalksOver};
 
 use crate::admission::{Acceptor, hand_entry, tell_answer, tick_entry};
@@ -23,36 +23,36 @@ use std::sync::Wait;
 use turn_lock::Root;
 use wire_io::{Clock, Sink, Source};
 
-/// The hand of number 0 of a host, and whether the host missed a Tick.
+/// The hand of number 0 of a host, and how many Ticks the host missed.
 #[derive(Drop)]
 pub struct OwnHand<H> {
     /// The hand, once there was a quiet second and memory for it.
     pub hand: Option<H>,
-    /// True once the clock was looked at and there was no memory for the hand, for the entry of a Tick or for a Tick that was due.
-    pub missed: bool,
+    /// The number of looks at the clock at which there was no memory for the hand, for the entry of a Tick or for a Tick that was due.
+    pub missed: u64,
 }
 
 impl<H> OwnHand<H> {
     /// There was no quiet second yet.
     pub fn new() -> OwnHand<H>
         ensures hand { result.hand ≡ None }
-        ensures missed { result.missed ≡ false }
+        ensures missed { result.missed ≡ 0 }
     {
         OwnHand {
             hand: None,
-            missed: false,
+            missed: 0,
         }
     }
 
-    /// Looks at the clock where there is no memory for a Tick, and notes that.
+    /// Looks at the clock where there is no memory for a Tick, and counts that.
     fn miss<Q: Clock>(&mut self, clock: &mut Q)
         ensures hand { self.new.hand ≡ self.old.hand }
-        ensures missed { self.new.missed ≡ true }
+        ensures missed { self.new.missed ≡ next_count self.old.missed }
         ensures look { (look : ℕ) × Gave (Q.given clock.old) (Q.given clock.new) (look ∷ []) }
     {
         let moment = clock.now();
         let _ = moment;
-        self.missed = true;
+        self.missed = self.missed.saturating_add(1);
     }
 }
 
@@ -72,8 +72,9 @@ fn own_hand<G: Crew>(crew: &G, own: &mut Option<G::Hand>) -> Option<G::Hand>
     }
 }
 
-/// Makes a Tick at the clock's moment, as connection 0, where a lease or a wait for an acknowledgement has ended, and tells the hand what is gone. Returns
-/// its entry, and whether a Tick was due. There is no entry where none was due, or where there was no memory for the Tick.
+/// Makes a Tick at the clock's moment, as connection 0, where a lease or a wait for an acknowledgement has ended, and
+/// tells the hand what is gone. Returns its entry, and whether a Tick was due. There is no entry where none was due, or
+/// where there was no memory for the Tick.
 fn tick_if_ended<'s, R: Wait, T: Clock, H: Worker>(
     shared: &Shared<'s, R>,
     root: &mut Root,
@@ -118,13 +119,15 @@ fn is_missed(due: bool, entry: &Option<Asked>) -> bool
     due && entry.is_none()
 }
 
-/// Returns whether one of two is true.
-fn is_either(first: bool, second: bool) -> bool
-    ensures first { first ≡ true → result ≡ true }
-    ensures second { second ≡ true → result ≡ true }
-    ensures either { result ≡ true → (first ≡ true) ⊎ (second ≡ true) }
+/// Returns the count of missed Ticks after a look at which one was missed or not.
+fn missed_with(count: u64, missed: bool) -> u64
+    ensures { result ≡ missed_with count missed }
 {
-    first || second
+    if missed {
+        count.saturating_add(1)
+    } else {
+        count
+    }
 }
 
 impl<
@@ -146,8 +149,8 @@ impl<
         self.taker.reserve(live)
     }
 
-    /// Makes a Tick at a moment of a clock, for whose entry there is room, where something has ended, and tells the hand what it withdraws. Returns whether
-    /// there was no memory for a Tick that was due.
+    /// Makes a Tick at a moment of a clock, for whose entry there is room, where something has ended, and tells the
+    /// hand what it withdraws. Returns whether there was no memory for a Tick that was due.
     fn tick_once<'s, R: Wait, Q: Clock>(
         &mut self,
         shared: &Shared<'s, R>,
@@ -179,8 +182,9 @@ impl<
         missed
     }
 
-    /// Looks at the clock, makes a Tick where a lease or a wait has ended, and tells the hand of number 0 what it withdraws. Where there is no memory for
-    /// the hand, the entry or the Tick, the look passes without a Tick, and that is noted.
+    /// Looks at the clock, makes a Tick where a lease or a wait has ended, and tells the hand of number 0 what it
+    /// withdraws. Where there is no memory for the hand, the entry or the Tick, the look passes without a Tick, and
+    /// that is counted.
     pub fn tick_quietly<'s, R: Wait, Q: Clock, G: Crew<Hand = H>>(
         &mut self,
         shared: &Shared<'s, R>,
@@ -221,6 +225,6 @@ impl<
         };
         let missed = self.tick_once(shared, clock, &mut hand);
         own.hand = Some(hand);
-        own.missed = is_either(own.missed, missed);
+        own.missed = missed_with(own.missed, missed);
     }
 }

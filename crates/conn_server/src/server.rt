@@ -1,13 +1,14 @@
 //! The server.
-ghost use Rattle.std.specs.Prelude.{◌≡◌, ◌≤◌, ◌+◌, ◌⊎◌, List, [], ◌++◌, length, IfSome, true, false};
+ghost use Rattle.std.specs.Prelude.{◌≡◌, ◌≤◌, ◌<◌, ◌+◌, ◌⊎◌, ◌↔◌, List, [], ◌++◌, length, IfSome, IsTrue, true, false};
 ghost use Rattle.mod_utf.specs.Utf.{utf};
 ghost use Rattle.wire_io.specs.Wire.{Rose};
 ghost use Rattle.wire_io.specs.declared.limits.TheConstants.{MAX_HOST_BYTES};
 ghost use Rattle.turn_lock.specs.Handles.{IsFresh, IsRootOf, opening_of, view_of};
 ghost use Rattle.turn_lock.specs.Rule.{Settled, StartsWith};
+ghost use Rattle.conn_server.specs.Begins.{LeavesListener, MayHost, MayServe, RoseBetween};
 ghost use Rattle.conn_server.specs.Taken.{IsEmpty, ExpectsLinks, Keeps, SameReports};
 ghost use Rattle.conn_server.specs.Handed.{AreHanded};
-ghost use Rattle.conn_server.specs.Hosts.{FailedTimes, HostsLinks, IsHosted};
+ghost use Rattle.conn_server.specs.Hosts.{FailedSince, HostsLinks, IsHosted};
 ghost use Rattle.conn_server.specs.Reports.{GivesReports, IsLinkOf, IsServed, ServesLinks};
 ghost use Rattle.conn_server.specs.Stops.{IsLostLink};
 ghost use Rattle.conn_server.specs.declared.host_loop.TheConstants.{MAX_IDLE_TRIES};
@@ -71,7 +72,7 @@ pub struct HostJoined<I, O, T, C, H> {
     pub handed: Option<u64>,
 }
 
-/// The outcome of serving links until the listener was told to stop, or for another cause.
+/// The outcome of serving links until the listener was told to stop, or until another cause ended that.
 #[derive(Drop)]
 pub struct Hosted<I, O, T, C, H> {
     /// The taker, which was given the report of each link that was served, and the entries of the server's own turns, which are Ticks: one
@@ -83,13 +84,15 @@ pub struct Hosted<I, O, T, C, H> {
     pub lost: Option<LostLink<I, O, T>>,
     /// The space that the lock was round.
     pub space: Space,
-    /// True where the taker was given all events of the space after the opening's. False means that there was no memory to hand them on, or that the host
-    /// or its lock doesn't record.
+    /// True where the taker was given all events of the space after the opening's. False means that there was no memory
+    /// to hand them on, or that the host or its lock doesn't record.
     pub whole: bool,
     /// The hand of number 0, which was told what the Ticks at looks at the host's clock withdrew, where there was one.
     pub hand: Option<H>,
     /// True where there was no memory, when the host looked at its clock, for that hand, for the entry of a Tick or for a Tick that was due.
     pub tick_missed: bool,
+    /// The number of looks at which that was so. It stands still at [`u64::MAX`].
+    pub ticks_missed: u64,
 }
 
 /// A report of the links that a server served.
@@ -129,8 +132,8 @@ pub struct HostBegin<C> {
     pub most_live: usize,
 }
 
-/// The root, the taker and the crew with which a host begins, the number of events of the opening, where it hands further events on, and the most links
-/// that are live at once.
+/// The root, the taker and the crew with which a host begins, the number of events of the opening, where it hands
+/// further events on, and the most links that are live at once.
 #[derive(Drop)]
 struct HostStart<'c, C, G> {
     root: Root,
@@ -187,7 +190,8 @@ where
         (IsLostLink L.In.half L.Out.half L.Ticks.given)
         C.taken shared.now.lock.now shared.now.plan.now.count
         (L.listening listener.old).accepted (L.listening listener.new).accepted result }
-    ensures fault { result.stop ≡ Stop.AcceptFault → Rose (L.listening listener.old).faults (L.listening listener.new).faults }
+    ensures fault { result.stop ≡ Stop.AcceptFault
+        → Rose (L.listening listener.old).faults (L.listening listener.new).faults }
     ensures faults { (L.listening listener.old).faults ≤ (L.listening listener.new).faults }
     ensures ports { (L.listening listener.new).ports ≡ (L.listening listener.old).ports }
 {
@@ -214,6 +218,61 @@ where
         stop,
         lost,
     }
+}
+
+/// Serves links by threads of a scope, and joins all of these.
+fn serve_scoped<
+    's,
+    R: Threads + Wait + Sync,
+    L: Listener,
+    G: Crew,
+    C: ReportTaker<LinkReport<L::In, L::Out, L::Ticks, G::Hand>>,
+>(
+    shared: Shared<'s, R>,
+    begin: Begin<C>,
+    listener: &mut L,
+    crew: &G,
+) -> AllJoined<L::In, L::Out, L::Ticks, C>
+    requires may { MayServe
+        (IsLinkOf L.In.half L.Out.half L.Ticks.given G.Hand.shown G.Hand.may G.Hand.moves
+        shared.book.now shared.plan.now)
+        C.taken C.expects shared.lock.now shared.plan.now begin.root begin.taker }
+    ensures served { IsServed
+        (IsLinkOf L.In.half L.Out.half L.Ticks.given G.Hand.shown G.Hand.may G.Hand.moves
+        shared.entry.book.now shared.entry.plan.now)
+        (IsLostLink L.In.half L.Out.half L.Ticks.given)
+        C.taken shared.entry.lock.now shared.entry.plan.now.count
+        (L.listening listener.old).accepted (L.listening listener.new).accepted result }
+    ensures heard { LeavesListener RoseBetween result.stop
+        (L.listening listener.old) (L.listening listener.new) }
+{
+    let rt = shared.rt;
+    let (left, outcome) = thread::scope(
+        thread::scope_env(),
+        rt,
+        move |scope| -> (&mut L, AllJoined<L::In, L::Out, L::Ticks, C>)
+            requires { MayServe
+                (IsLinkOf L.In.half L.Out.half L.Ticks.given
+                G.Hand.shown G.Hand.may G.Hand.moves shared.book.now shared.plan.now)
+                C.taken C.expects shared.lock.now shared.plan.now begin.root begin.taker }
+            ensures left { (result.0.ghost_name ≡ listener.entry.ghost_name) }
+            ensures served { IsServed
+                (IsLinkOf L.In.half L.Out.half L.Ticks.given
+                G.Hand.shown G.Hand.may G.Hand.moves
+                shared.entry.book.now shared.entry.plan.now)
+                (IsLostLink L.In.half L.Out.half L.Ticks.given)
+                C.taken shared.entry.lock.now shared.entry.plan.now.count
+                (L.listening listener.entry.now).accepted (L.listening result.0.now).accepted
+                result.1 }
+            ensures heard { LeavesListener RoseBetween result.1.stop
+                (L.listening listener.entry.now) (L.listening result.0.now) }
+        {
+            let outcome = serve_within(scope, &shared, begin, listener, crew);
+            (listener, outcome)
+        },
+    );
+    let _ = left;
+    outcome
 }
 
 /// Accepts links by threads of the scope until the listener is told to stop, and joins all of these.
@@ -246,7 +305,8 @@ where
         shared.now.book.now shared.now.plan.now)
         C.expects begin.taker }
     requires no_event { (C.taken begin.taker).events ≡ [] }
-    requires handed { IfSome begin.handed (λ n. n ≡ length (opening_of shared.now.lock.now).events) }
+    requires handed { IfSome begin.handed
+        (λ n. n ≡ length (opening_of shared.now.lock.now).events) }
     ensures keeps { Keeps C.holds C.stays begin.entry.taker result.taker }
     ensures hosted { IsHosted
         (IsLinkOf L.In.half L.Out.half L.Ticks.given G.Hand.shown G.Hand.may G.Hand.moves
@@ -256,8 +316,8 @@ where
         (L.listening listener.old) (L.listening listener.new)
         (Q.given ticks.old) (Q.given ticks.new) result }
     ensures fault { result.stop ≡ Stop.AcceptFault
-        → FailedTimes (MAX_IDLE_TRIES + 1)
-        (L.listening listener.old).faults (L.listening listener.new).faults }
+        → FailedSince L.listening (MAX_IDLE_TRIES + 1)
+        (L.listening listener.old) (L.listening listener.new) }
     ensures faults { (L.listening listener.old).faults ≤ (L.listening listener.new).faults }
     ensures ports { (L.listening listener.new).ports ≡ (L.listening listener.old).ports }
 {
@@ -268,18 +328,7 @@ where
         handed,
         most_live,
     } = begin;
-    let keeping = Keeping {
-        entries: false,
-        handed,
-    };
-    let first = Acceptor::new(shared.alloc, root, taker, keeping);
-    let mut host = HostLoop {
-        acceptor: first,
-        own: OwnHand::new(),
-        idle_tries: 0,
-        most_live,
-        short_rounds: 0,
-    };
+    let mut host = HostLoop::new(shared.alloc, root, taker, handed, most_live);
     let Halt { stop, lost } = host.run(scope, shared, crew, listener, ticks);
     host.acceptor.end_all(shared);
     let HostLoop {
@@ -308,6 +357,73 @@ where
     }
 }
 
+/// Hosts links by threads of a scope, and joins all of these.
+fn host_scoped<
+    'c,
+    's,
+    R: Threads + Wait + Sync,
+    L: Listener,
+    Q: Clock,
+    G: Crew,
+    C: ReportTaker<LinkReport<L::In, L::Out, L::Ticks, G::Hand>>,
+>(
+    shared: Shared<'s, R>,
+    listener: &mut L,
+    ticks: &mut Q,
+    begun: HostStart<'c, C, G>,
+) -> HostJoined<L::In, L::Out, L::Ticks, C, G::Hand>
+    requires may { MayHost
+        (IsLinkOf L.In.half L.Out.half L.Ticks.given G.Hand.shown G.Hand.may G.Hand.moves
+        shared.book.now shared.plan.now)
+        C.taken C.expects shared.lock.now shared.plan.now begun.root begun.taker begun.handed }
+    ensures keeps { Keeps C.holds C.stays begun.entry.taker result.taker }
+    ensures hosted { IsHosted
+        (IsLinkOf L.In.half L.Out.half L.Ticks.given G.Hand.shown G.Hand.may G.Hand.moves
+        shared.entry.book.now shared.entry.plan.now)
+        (IsLostLink L.In.half L.Out.half L.Ticks.given) G.Hand.shown G.Hand.moves
+        C.taken shared.entry.lock.now shared.entry.plan.now.count
+        (L.listening listener.old) (L.listening listener.new)
+        (Q.given ticks.old) (Q.given ticks.new) result }
+    ensures heard { LeavesListener (FailedSince L.listening (MAX_IDLE_TRIES + 1)) result.stop
+        (L.listening listener.old) (L.listening listener.new) }
+{
+    let rt = shared.rt;
+    let (left, left_ticks, outcome) = thread::scope(
+        thread::scope_env(),
+        rt,
+        move |scope| -> (
+            &mut L,
+            &mut Q,
+            HostJoined<L::In, L::Out, L::Ticks, C, G::Hand>,
+        )
+            requires { MayHost
+                (IsLinkOf L.In.half L.Out.half L.Ticks.given
+                G.Hand.shown G.Hand.may G.Hand.moves shared.book.now shared.plan.now)
+                C.taken C.expects shared.lock.now shared.plan.now
+                begun.root begun.taker begun.handed }
+            ensures left { (result.0.ghost_name ≡ listener.entry.ghost_name)
+                × (result.1.ghost_name ≡ ticks.entry.ghost_name) }
+            ensures keeps { Keeps C.holds C.stays begun.entry.taker result.2.taker }
+            ensures hosted { IsHosted
+                (IsLinkOf L.In.half L.Out.half L.Ticks.given
+                G.Hand.shown G.Hand.may G.Hand.moves
+                shared.entry.book.now shared.entry.plan.now)
+                (IsLostLink L.In.half L.Out.half L.Ticks.given) G.Hand.shown G.Hand.moves
+                C.taken shared.entry.lock.now shared.entry.plan.now.count
+                (L.listening listener.entry.now) (L.listening result.0.now)
+                (Q.given ticks.entry.now) (Q.given result.1.now) result.2 }
+            ensures heard { LeavesListener (FailedSince L.listening (MAX_IDLE_TRIES + 1))
+                result.2.stop (L.listening listener.entry.now) (L.listening result.0.now) }
+        {
+            let outcome = host_within(scope, &shared, listener, ticks, begun);
+            (listener, ticks, outcome)
+        },
+    );
+    let _ = left;
+    let _ = left_ticks;
+    outcome
+}
+
 /// Closes the lock of a host whose threads were joined, hands the last events on, and gives the host's outcome.
 fn close_host<I, O, T, H, C: ReportTaker<LinkReport<I, O, T, H>>>(
     lock: TurnLock,
@@ -330,7 +446,8 @@ fn close_host<I, O, T, H, C: ReportTaker<LinkReport<I, O, T, H>>>(
     ensures stop { result.stop ≡ joined.stop }
     ensures lost { result.lost ≡ joined.lost }
     ensures hand { result.hand ≡ joined.own.hand }
-    ensures missed { result.tick_missed ≡ joined.own.missed }
+    ensures missed { result.ticks_missed ≡ joined.own.missed }
+    ensures any_missed { IsTrue result.tick_missed ↔ (0 < result.ticks_missed) }
 {
     let HostJoined {
         root,
@@ -349,7 +466,8 @@ fn close_host<I, O, T, H, C: ReportTaker<LinkReport<I, O, T, H>>>(
         space,
         whole: records && whole,
         hand,
-        tick_missed: missed,
+        tick_missed: missed > 0,
+        ticks_missed: missed,
     }
 }
 
@@ -377,16 +495,19 @@ impl<'s, R: Threads + Wait + Sync, G: Crew> Server<'s, R, G> {
         requires few { plan.now.count ≤ MAX_LINKS }
         requires host { length (utf plan.now.host) ≤ MAX_HOST_BYTES }
 
-        // The one history that is left is legal and goes on from the lock's, and the collector kept and withdrew at each of its events as it is to. Each
-        // link that was accepted has its Tick and its report, but the one, if any, for which there was no memory, which is given back; and there are no
-        // turns but these.
+        // The one history that is left is legal and goes on from the lock's, and the collector kept and withdrew at
+        // each of its events as it is to. Each link that was accepted has its Tick and its report, but the one, if any,
+        // for which there was no memory, which is given back; and there are no turns but these.
         ensures served { ServesLinks
-            (IsLinkOf L.In.half L.Out.half L.Ticks.given G.Hand.shown G.Hand.may G.Hand.moves self.now.book.now plan.now)
+            (IsLinkOf L.In.half L.Out.half L.Ticks.given
+            G.Hand.shown G.Hand.may G.Hand.moves self.now.book.now plan.now)
             (IsLostLink L.In.half L.Out.half L.Ticks.given)
-            (opening_of lock) plan.now.count (L.listening listener.old).accepted (L.listening listener.new).accepted result }
+            (opening_of lock) plan.now.count (L.listening listener.old).accepted
+            (L.listening listener.new).accepted result }
 
         // The listener.
-        ensures fault { result.stop ≡ Stop.AcceptFault → Rose (L.listening listener.old).faults (L.listening listener.new).faults }
+        ensures fault { result.stop ≡ Stop.AcceptFault
+            → Rose (L.listening listener.old).faults (L.listening listener.new).faults }
         ensures faults { (L.listening listener.old).faults ≤ (L.listening listener.new).faults }
         ensures ports { (L.listening listener.new).ports ≡ (L.listening listener.old).ports }
         ensures all { (¬ Rose (L.listening listener.old).faults (L.listening listener.new).faults)
@@ -438,7 +559,8 @@ impl<'s, R: Threads + Wait + Sync, G: Crew> Server<'s, R, G> {
             (L.listening listener.old).accepted (L.listening listener.new).accepted result }
 
         // The listener.
-        ensures fault { result.stop ≡ Stop.AcceptFault → Rose (L.listening listener.old).faults (L.listening listener.new).faults }
+        ensures fault { result.stop ≡ Stop.AcceptFault
+            → Rose (L.listening listener.old).faults (L.listening listener.new).faults }
         ensures faults { (L.listening listener.old).faults ≤ (L.listening listener.new).faults }
         ensures ports { (L.listening listener.new).ports ≡ (L.listening listener.old).ports }
         ensures all { (¬ Rose (L.listening listener.old).faults (L.listening listener.new).faults)
@@ -480,75 +602,50 @@ impl<'s, R: Threads + Wait + Sync, G: Crew> Server<'s, R, G> {
             (IsLostLink L.In.half L.Out.half L.Ticks.given)
             C.taken lock.now plan.now.count
             (L.listening listener.old).accepted (L.listening listener.new).accepted result }
-        ensures fault { result.stop ≡ Stop.AcceptFault → Rose (L.listening listener.old).faults (L.listening listener.new).faults }
+        ensures fault { result.stop ≡ Stop.AcceptFault
+            → Rose (L.listening listener.old).faults (L.listening listener.new).faults }
         ensures faults { (L.listening listener.old).faults ≤ (L.listening listener.new).faults }
         ensures ports { (L.listening listener.new).ports ≡ (L.listening listener.old).ports }
     {
-        let (rt, alloc, crew, book) = (self.rt, self.alloc, self.crew, self.book);
-        let noted = EndedLinks::new(alloc);
-        let ended = &noted;
-        let (left, outcome) = thread::scope(
-            thread::scope_env(),
-            rt,
-            move |scope| -> (&mut L, AllJoined<L::In, L::Out, L::Ticks, C>)
-                requires { IsFresh lock.now begin.root × (plan.now.count ≤ MAX_LINKS)
-                    × (length (utf plan.now.host) ≤ MAX_HOST_BYTES)
-                    × IsEmpty (C.taken begin.taker)
-                    × ExpectsLinks
-                    (IsLinkOf L.In.half L.Out.half L.Ticks.given G.Hand.shown G.Hand.may G.Hand.moves
-                    book.now plan.now)
-                    C.expects begin.taker }
-                ensures left { (result.0.ghost_name ≡ listener.entry.ghost_name) }
-                ensures served { IsServed
-                    (IsLinkOf L.In.half L.Out.half L.Ticks.given G.Hand.shown G.Hand.may G.Hand.moves
-                    book.entry.now plan.entry.now)
-                    (IsLostLink L.In.half L.Out.half L.Ticks.given)
-                    C.taken lock.entry.now plan.entry.now.count
-                    (L.listening listener.entry.now).accepted (L.listening result.0.now).accepted result.1 }
-                ensures fault { result.1.stop ≡ Stop.AcceptFault → Rose (L.listening listener.entry.now).faults (L.listening result.0.now).faults }
-                ensures faults { (L.listening listener.entry.now).faults ≤ (L.listening result.0.now).faults }
-                ensures ports { (L.listening result.0.now).ports ≡ (L.listening listener.entry.now).ports }
-            {
-                let shared = Shared {
-                    rt,
-                    alloc,
-                    lock,
-                    book,
-                    plan,
-                    ended,
-                };
-                let outcome = serve_within(scope, &shared, begin, listener, crew);
-                (listener, outcome)
-            },
-        );
-        let _ = left;
-        outcome
+        let noted = EndedLinks::new(self.alloc);
+        let shared = Shared {
+            rt: self.rt,
+            alloc: self.alloc,
+            lock,
+            book: self.book,
+            plan,
+            ended: &noted,
+        };
+        serve_scoped(shared, begin, listener, self.crew)
     }
 
     /// Serves links until the listener is told to stop, each as [`Server::serve`] does, and hands the report of each to a taker as the link has
     /// ended. Links in all are at most the plan's count, and at most `most_live` of the beginning are live at once.
     ///
     /// In each second without a link, threads of links that have ended are joined. Where a lease or a wait for an acknowledgement has ended at a
-    /// moment of `ticks`, a Tick is made as connection 0. The hand of number 0 is told of each object that it withdraws; it is made at the first such
-    /// moment at which there is memory for it. Where there is no memory for that hand or for the Tick, the moment passes without one, and the result
-    /// says so.
+    /// moment of `ticks`, a Tick is made as connection 0. The hand of number 0 is told of each object that it withdraws; it is made at the first look
+    /// at which there is memory for it. Where there is no memory for that hand or for the Tick, the look passes without one, and the result counts it.
     ///
-    /// While as many links are live as may be, none is accepted. Every 50 milliseconds, or as a link ends, the host then looks whether the listener was
-    /// told to stop, and does what it does in a second without a link. It does the same while the listener fails: it asks it again as long as a
-    /// link is live, and 60 times more, which takes three seconds.
+    /// While as many links are live as may be, none is accepted. Every 50 milliseconds, or as a link ends, the host
+    /// then looks whether the listener was told to stop, and does what it does in a second without a link. It does the
+    /// same while the listener fails: it asks it again as long as a link is live, and 60 times more, which takes three
+    /// seconds.
     ///
     /// Where the beginning says so, the taker is given the events of the space after the opening's, in their order and in parts of at most 4,096.
     /// It is given those that there are each time that the listener answers, which is at least once a second, and the rest after the last link. Where
     /// there is no memory to hand them out, they come with the next ones. Once the lock is crowded with events, they are handed on every 10
     /// milliseconds, for a second at most; then the listener is asked again.
     ///
-    /// Where no thread can be started for a link, the accepting thread serves it: until that link ends no events are handed on, and no stop is seen.
+    /// Where no thread can be started for a link, it tries again 60 times, each time once a link has ended or after 50
+    /// milliseconds, and then the accepting thread serves that link. Meanwhile no events are handed on, and no stop is
+    /// seen.
     ///
     /// The reports of links have the entries of their turns in proofs alone. So a link takes no more memory with each call.
     ///
-    /// The stop is Told where the listener was told to. It is All where the plan's count of links was served, AcceptFault only where the listener's count
-    /// of faults rose by more than 60, and OutOfMemory as in `serve`. In each case the listener is closed (`Listener::close`), so that the system refuses new clients, and
-    /// live links end soon where the listener can tell them to. Links are served to their ends, and all threads are joined.
+    /// The stop is Told where the listener was told to. It is All where the plan's count of links was served,
+    /// AcceptFault only where the listener failed more than 60 times since it last answered, and OutOfMemory as in `serve`. In
+    /// each case the listener is closed (`Listener::close`), so that the system refuses new clients, and live links end
+    /// soon where the listener can tell them to. Links are served to their ends, and all threads are joined.
     ///
     /// Its conditions: those of `serve_with`, but for the count, which may be any, and a taker that was given no event yet.
     pub fn host<
@@ -572,10 +669,11 @@ impl<'s, R: Threads + Wait + Sync, G: Crew> Server<'s, R, G> {
             self.now.book.now plan.now)
             C.expects begin.taker }
 
-        // As `serve_with`, where the server's own turns are the Ticks before links and those at looks at `ticks`, whose hand was told what they withdrew. A
-        // look has a Tick only where something had ended. It has none only where nothing had ended, or where the result says that a Tick was missed. There
-        // is a look for each answer of the listener that no link came, or that it was not told to stop.
-        // The events that the taker was given are the first after the opening's, and all where the result says so.
+        // As `serve_with`, where the server's own turns are the Ticks before links and those at looks at `ticks`, whose
+        // hand was told what they withdrew. A look has a Tick only where something had ended. It has none only where
+        // nothing had ended, or where a Tick was missed at this very look, which the result counts. There is a look for
+        // each answer of the listener that no link came, or that it was not told to stop. The events that the taker was given are the
+        // first after the opening's, and all where the result says so.
         ensures hosts { HostsLinks
             (IsLinkOf L.In.half L.Out.half L.Ticks.given G.Hand.shown G.Hand.may G.Hand.moves
             self.now.book.now plan.now)
@@ -589,12 +687,13 @@ impl<'s, R: Threads + Wait + Sync, G: Crew> Server<'s, R, G> {
 
         // The listener.
         ensures fault { result.stop ≡ Stop.AcceptFault
-            → FailedTimes (MAX_IDLE_TRIES + 1)
-            (L.listening listener.old).faults (L.listening listener.new).faults }
+            → FailedSince L.listening (MAX_IDLE_TRIES + 1)
+            (L.listening listener.old) (L.listening listener.new) }
         ensures faults { (L.listening listener.old).faults ≤ (L.listening listener.new).faults }
         ensures ports { (L.listening listener.new).ports ≡ (L.listening listener.old).ports }
         ensures all { (¬ Rose (L.listening listener.old).faults (L.listening listener.new).faults)
-            → (result.stop ≡ Stop.Told) ⊎ ((result.stop ≡ Stop.All) ⊎ (result.stop ≡ Stop.OutOfMemory)) }
+            → (result.stop ≡ Stop.Told) ⊎ ((result.stop ≡ Stop.All)
+            ⊎ (result.stop ≡ Stop.OutOfMemory)) }
     {
         let HostBegin {
             root,
@@ -645,60 +744,20 @@ impl<'s, R: Threads + Wait + Sync, G: Crew> Server<'s, R, G> {
             (L.listening listener.old) (L.listening listener.new)
             (Q.given ticks.old) (Q.given ticks.new) result }
         ensures fault { result.stop ≡ Stop.AcceptFault
-            → FailedTimes (MAX_IDLE_TRIES + 1)
-            (L.listening listener.old).faults (L.listening listener.new).faults }
+            → FailedSince L.listening (MAX_IDLE_TRIES + 1)
+            (L.listening listener.old) (L.listening listener.new) }
         ensures faults { (L.listening listener.old).faults ≤ (L.listening listener.new).faults }
         ensures ports { (L.listening listener.new).ports ≡ (L.listening listener.old).ports }
     {
-        let (rt, alloc, book) = (self.rt, self.alloc, self.book);
-        let noted = EndedLinks::new(alloc);
-        let ended = &noted;
-        let (left, left_ticks, outcome) = thread::scope(
-            thread::scope_env(),
-            rt,
-            move |scope| -> (
-                &mut L,
-                &mut Q,
-                HostJoined<L::In, L::Out, L::Ticks, C, G::Hand>,
-            )
-                requires { IsFresh lock.now begun.root × (length (utf plan.now.host) ≤ MAX_HOST_BYTES)
-                    × IsEmpty (C.taken begun.taker)
-                    × ((C.taken begun.taker).events ≡ [])
-                    × ExpectsLinks
-                    (IsLinkOf L.In.half L.Out.half L.Ticks.given G.Hand.shown G.Hand.may G.Hand.moves
-                    book.now plan.now)
-                    C.expects begun.taker
-                    × IfSome begun.handed (λ n. n ≡ length (opening_of lock.now).events) }
-                ensures left { (result.0.ghost_name ≡ listener.entry.ghost_name)
-                    × (result.1.ghost_name ≡ ticks.entry.ghost_name) }
-                ensures keeps { Keeps C.holds C.stays begun.entry.taker result.2.taker }
-                ensures hosted { IsHosted
-                    (IsLinkOf L.In.half L.Out.half L.Ticks.given G.Hand.shown G.Hand.may G.Hand.moves
-                    book.entry.now plan.entry.now)
-                    (IsLostLink L.In.half L.Out.half L.Ticks.given) G.Hand.shown G.Hand.moves
-                    C.taken lock.entry.now plan.entry.now.count
-                    (L.listening listener.entry.now) (L.listening result.0.now)
-                    (Q.given ticks.entry.now) (Q.given result.1.now) result.2 }
-                ensures fault { result.2.stop ≡ Stop.AcceptFault
-                    → FailedTimes (MAX_IDLE_TRIES + 1)
-                    (L.listening listener.entry.now).faults (L.listening result.0.now).faults }
-                ensures faults { (L.listening listener.entry.now).faults ≤ (L.listening result.0.now).faults }
-                ensures ports { (L.listening result.0.now).ports ≡ (L.listening listener.entry.now).ports }
-            {
-                let shared = Shared {
-                    rt,
-                    alloc,
-                    lock,
-                    book,
-                    plan,
-                    ended,
-                };
-                let outcome = host_within(scope, &shared, listener, ticks, begun);
-                (listener, ticks, outcome)
-            },
-        );
-        let _ = left;
-        let _ = left_ticks;
-        outcome
+        let noted = EndedLinks::new(self.alloc);
+        let shared = Shared {
+            rt: self.rt,
+            alloc: self.alloc,
+            lock,
+            book: self.book,
+            plan,
+            ended: &noted,
+        };
+        host_scoped(shared, listener, ticks, begun)
     }
 }

@@ -17,7 +17,8 @@ pub const MAX_PART: usize = 4_096;
 /// Takes the reports of links, each when its link has ended, the entries of the server's own turns, and the events of the one history, where
 /// the server hands them on.
 pub trait ReportTaker<R>: Drop {
-    // The reports, the entries and the events that it was given, each in the order of giving, and how many reports and entries it has room for in all.
+    // The reports, the entries and the events that it was given, each in the order of giving, and how many reports and
+    // entries it has room for in all.
     ghost taken: { Self → Taken R };
 
     // Which reports it may be given.

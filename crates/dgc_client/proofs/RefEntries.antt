@@ -23,8 +23,8 @@ same_id-turned a b = go (same_id a b) (same_id b a) refl refl
     go true false p q = absurd (true≢false (sym (same_id-true b a (sym (same_id-equal a b p))) ∙ q))
     go false true p q = absurd (true≢false (sym (same_id-true a b (sym (same_id-equal b a q))) ∙ p))
 
-pub key-turned : (a b : ObjId) → same_key a b ≡ same_id b a
-key-turned a b = same_key-same a b ∙ same_id-turned a b
+pub id-is-key : (a b : ObjId) → same_id b a ≡ same_key a b
+id-is-key a b = sym (same_key-same a b ∙ same_id-turned a b)
 
 abbrev pub Entries : Type 0
 Entries = List (ObjId × Kept)
@@ -49,7 +49,7 @@ none-others o (e ∷ es) h = go e.1.gone (none-others o es h.1)
   where
     go : (g : Bool) → find (has_id o) (refs_in es) ≡ None → find (has_id o) (if g then refs_in es else ref_at e.0 e.1 ∷ refs_in es) ≡ None
     go true rest = rest
-    go false rest = ap (λ b. cond b (Some (ref_at e.0 e.1)) (find (has_id o) (refs_in es))) (sym (key-turned o e.0) ∙ h.0) ∙ rest
+    go false rest = ap (λ b. cond b (Some (ref_at e.0 e.1)) (find (has_id o) (refs_in es))) (id-is-key o e.0 ∙ h.0) ∙ rest
 
 pub find-shown : (o : ObjId) (k : Kept) (es : Entries) → IsDistinct same_key (keys_of es) → lookup (same_key o) es ≡ Some k → find (has_id o) (refs_in es) ≡ shown o k
 unfolding IsDistinct
@@ -60,18 +60,18 @@ find-shown o k (e ∷ es) once h = go (same_key o e.0) refl e.1.gone refl h (fin
         (lookup (same_key o) es ≡ Some k → find (has_id o) (refs_in es) ≡ shown o k) →
         find (has_id o) (if g then refs_in es else ref_at e.0 e.1 ∷ refs_in es) ≡ shown o k
     go true p true q f rest =
-        let own : e.0 ≡ o = same_id-equal e.0 o (sym (key-turned o e.0) ∙ p) in
+        let own : e.0 ≡ o = same_id-equal e.0 o (id-is-key o e.0 ∙ p) in
         let kept : e.1 ≡ k = cc in
         let gone : k.gone ≡ true = ap (λ (x : Kept). x.gone) (sym kept) ∙ q in
         subst (λ (x : ObjId). find (has_id x) (refs_in es) ≡ None) own (none-others e.0 es once.0) ∙ ap (λ b. if b then None else Some (ref_at o k)) (sym gone)
     go true p false q f rest =
-        let own : e.0 ≡ o = same_id-equal e.0 o (sym (key-turned o e.0) ∙ p) in
+        let own : e.0 ≡ o = same_id-equal e.0 o (id-is-key o e.0 ∙ p) in
         let kept : e.1 ≡ k = cc in
         let gone : k.gone ≡ false = ap (λ (x : Kept). x.gone) (sym kept) ∙ q in
-        ap (λ b. cond b (Some (ref_at e.0 e.1)) (find (has_id o) (refs_in es))) (sym (key-turned o e.0) ∙ p)
+        ap (λ b. cond b (Some (ref_at e.0 e.1)) (find (has_id o) (refs_in es))) (id-is-key o e.0 ∙ p)
         ∙ ap (λ (x : ObjId). Some (ref_at x e.1)) own ∙ ap (λ (x : Kept). Some (ref_at o x)) kept ∙ ap (λ b. if b then None else Some (ref_at o k)) (sym gone)
     go false p true q f rest = rest f
-    go false p false q f rest = ap (λ b. cond b (Some (ref_at e.0 e.1)) (find (has_id o) (refs_in es))) (sym (key-turned o e.0) ∙ p) ∙ rest f
+    go false p false q f rest = ap (λ b. cond b (Some (ref_at e.0 e.1)) (find (has_id o) (refs_in es))) (id-is-key o e.0 ∙ p) ∙ rest f
 
 pub find-none : (o : ObjId) (es : Entries) → lookup (same_key o) es ≡ None → find (has_id o) (refs_in es) ≡ None
 find-none o [] h = refl
@@ -81,7 +81,7 @@ find-none o (e ∷ es) h = go (same_key o e.0) refl e.1.gone h (find-none o es)
         find (has_id o) (if g then refs_in es else ref_at e.0 e.1 ∷ refs_in es) ≡ None
     go true p g f rest = absurd (cc)
     go false p true f rest = rest f
-    go false p false f rest = ap (λ b. cond b (Some (ref_at e.0 e.1)) (find (has_id o) (refs_in es))) (sym (key-turned o e.0) ∙ p) ∙ rest f
+    go false p false f rest = ap (λ b. cond b (Some (ref_at e.0 e.1)) (find (has_id o) (refs_in es))) (id-is-key o e.0 ∙ p) ∙ rest f
 
 -- ---- a new reference
 
@@ -112,11 +112,11 @@ gap-removed o (e ∷ es) h = go (same_key o e.0) refl e.1.gone refl h (gap-remov
         refs_in (cond b es (e ∷ remove_entry (same_key o) es)) ≡ (if g then refs_in es else ref_at e.0 e.1 ∷ refs_in es)
     go true p true q f rest = refl
     go true p false q f rest =
-        let here : Some (ref_at e.0 e.1) ≡ None = ap (λ b. cond b (Some (ref_at e.0 e.1)) (find (has_id o) (refs_in es))) (sym (sym (key-turned o e.0) ∙ p)) ∙ f in
+        let here : Some (ref_at e.0 e.1) ≡ None = ap (λ b. cond b (Some (ref_at e.0 e.1)) (find (has_id o) (refs_in es))) (sym (id-is-key o e.0 ∙ p)) ∙ f in
         absurd (true≢false (ap is_some here))
     go false p true q f rest = ap (λ g. if g then refs_in (remove_entry (same_key o) es) else ref_at e.0 e.1 ∷ refs_in (remove_entry (same_key o) es)) q ∙ rest f
     go false p false q f rest =
-        let other : find (has_id o) (refs_in es) ≡ None = ap (λ b. cond b (Some (ref_at e.0 e.1)) (find (has_id o) (refs_in es))) (sym (sym (key-turned o e.0) ∙ p)) ∙ f in
+        let other : find (has_id o) (refs_in es) ≡ None = ap (λ b. cond b (Some (ref_at e.0 e.1)) (find (has_id o) (refs_in es))) (sym (id-is-key o e.0 ∙ p)) ∙ f in
         ap (λ g. if g then refs_in (remove_entry (same_key o) es) else ref_at e.0 e.1 ∷ refs_in (remove_entry (same_key o) es)) q ∙ ap (λ l. ref_at e.0 e.1 ∷ l) (rest other)
 
 -- ---- a reference that goes
@@ -144,17 +144,17 @@ refs-gapped o k w (e ∷ es) gone once h = go (same_key o e.0) refl e.1.gone ref
         (lookup (same_key o) es ≡ Some k → refs_in (set_value (same_key o) es w) ≡ others) →
         refs_in (cond b ((e.0, w) ∷ es) (e ∷ set_value (same_key o) es w)) ≡ filter (λ r. not (has_id o r)) (if g then refs_in es else ref_at e.0 e.1 ∷ refs_in es)
     go true p g q f rest =
-        let own : e.0 ≡ o = same_id-equal e.0 o (sym (key-turned o e.0) ∙ p) in
+        let own : e.0 ≡ o = same_id-equal e.0 o (id-is-key o e.0 ∙ p) in
         let rest_of : others ≡ refs_in es = others-all o (refs_in es) (subst (λ (x : ObjId). find (has_id x) (refs_in es) ≡ None) own (none-others e.0 es once.0)) in
         ap (λ b. if b then refs_in es else ref_at e.0 w ∷ refs_in es) gone ∙ sym rest_of ∙ without g
       where
         without : (g : Bool) → others ≡ filter (λ r. not (has_id o r)) (if g then refs_in es else ref_at e.0 e.1 ∷ refs_in es)
         without true = refl
-        without false = ap (λ b. cond (not b) (ref_at e.0 e.1 ∷ others) others) (sym (sym (key-turned o e.0) ∙ p))
+        without false = ap (λ b. cond (not b) (ref_at e.0 e.1 ∷ others) others) (sym (id-is-key o e.0 ∙ p))
     go false p true q f rest = ap (λ g. if g then refs_in (set_value (same_key o) es w) else ref_at e.0 e.1 ∷ refs_in (set_value (same_key o) es w)) q ∙ rest f
     go false p false q f rest =
         ap (λ g. if g then refs_in (set_value (same_key o) es w) else ref_at e.0 e.1 ∷ refs_in (set_value (same_key o) es w)) q ∙ ap (λ l. ref_at e.0 e.1 ∷ l) (rest f)
-        ∙ ap (λ b. cond (not b) (ref_at e.0 e.1 ∷ others) others) (sym (sym (key-turned o e.0) ∙ p))
+        ∙ ap (λ b. cond (not b) (ref_at e.0 e.1 ∷ others) others) (sym (id-is-key o e.0 ∙ p))
 
 pub count-gapped : (o : ObjId) (k w : Kept) (es : Entries) → w.gone ≡ true → k.gone ≡ false → lookup (same_key o) es ≡ Some k →
     length (refs_in (set_value (same_key o) es w)) + 1 ≡ length (refs_in es)
@@ -202,12 +202,12 @@ refs-changed o ch k w (e ∷ es) gone value once h = go (same_key o e.0) refl e.
         (lookup (same_key o) es ≡ Some k → refs_in (set_value (same_key o) es w) ≡ map f (refs_in es)) →
         refs_in (cond b ((e.0, w) ∷ es) (e ∷ set_value (same_key o) es w)) ≡ map f (if g then refs_in es else ref_at e.0 e.1 ∷ refs_in es)
     go true p g q h rest =
-        let own : e.0 ≡ o = same_id-equal e.0 o (sym (key-turned o e.0) ∙ p) in
+        let own : e.0 ≡ o = same_id-equal e.0 o (id-is-key o e.0 ∙ p) in
         let kept : e.1 ≡ k = cc in
         let same : w.gone ≡ g = gone ∙ ap (λ (x : Kept). x.gone) (sym kept) ∙ q in
         let others : map f (refs_in es) ≡ refs_in es = unchanged o ch (refs_in es) (subst (λ (x : ObjId). find (has_id x) (refs_in es) ≡ None) own (none-others e.0 es once.0)) in
         let first : ref_at e.0 w ≡ f (ref_at e.0 e.1) = value e.0 ∙ ap (λ (x : Kept). changed ch (ref_at e.0 x)) (sym kept)
-        ∙ ap (λ b. if b || false then changed ch (ref_at e.0 e.1) else ref_at e.0 e.1) (sym (same_id-turned o e.0 ∙ sym (key-turned o e.0) ∙ p)) in
+        ∙ ap (λ b. if b || false then changed ch (ref_at e.0 e.1) else ref_at e.0 e.1) (sym (same_id-turned o e.0 ∙ id-is-key o e.0 ∙ p)) in
         ap (λ b. if b then refs_in es else ref_at e.0 w ∷ refs_in es) same ∙ both g others first
       where
         both : (g : Bool) → map f (refs_in es) ≡ refs_in es → ref_at e.0 w ≡ f (ref_at e.0 e.1) →
@@ -217,7 +217,7 @@ refs-changed o ch k w (e ∷ es) gone value once h = go (same_key o e.0) refl e.
     go false p true q h rest = ap (λ g. if g then refs_in (set_value (same_key o) es w) else ref_at e.0 e.1 ∷ refs_in (set_value (same_key o) es w)) q ∙ rest h
     go false p false q h rest =
         ap (λ g. if g then refs_in (set_value (same_key o) es w) else ref_at e.0 e.1 ∷ refs_in (set_value (same_key o) es w)) q ∙ ap (λ l. ref_at e.0 e.1 ∷ l) (rest h)
-        ∙ ap (λ b. (if b || false then changed ch (ref_at e.0 e.1) else ref_at e.0 e.1) ∷ map f (refs_in es)) (sym (same_id-turned o e.0 ∙ sym (key-turned o e.0) ∙ p))
+        ∙ ap (λ b. (if b || false then changed ch (ref_at e.0 e.1) else ref_at e.0 e.1) ∷ map f (refs_in es)) (sym (same_id-turned o e.0 ∙ id-is-key o e.0 ∙ p))
 
 changed-id : (ch : Change) (r : ClientRef) → (changed ch r).id ≡ r.id
 changed-id (Confirm number) r = refl

@@ -5,6 +5,9 @@
 //! With the word PORT it listens on 127.0.0.1:PORT and serves until its input ends. With the words
 //! PORT and LINKS it serves so many connections and exits. Without words it serves recorded
 //! clients in memory, and prints the bytes that each got. It proves nothing of its own sums.
+//!
+//! The last line on standard error says why it stopped. The status is 0 where its input ended or all
+//! LINKS were served, and 1 in each other case.
 #![tactic(auto)]
 
 mod clients;
@@ -13,9 +16,9 @@ mod recorded;
 
 use crate::ledger::{LEDGER, Ledger, kinds};
 use crate::recorded::serve_recorded;
-use anyhow::Result;
+use anyhow::{Result, bail};
 use indexmap::IndexMap;
-use rmi_server::{Named, Site, TcpDoor, host_tcp, seed, serve_tcp};
+use rmi_server::{Named, Site, Stop, TcpDoor, host_tcp, seed, serve_tcp};
 use std::env;
 
 fn main(rt: HostRuntime) -> Result<()> {
@@ -39,13 +42,37 @@ fn main(rt: HostRuntime) -> Result<()> {
         balances: IndexMap::new(alloc),
     };
     if links.is_some() {
-        serve_tcp(&rt, alloc, ledger, &site)?;
-        return Ok(());
+        let report = serve_tcp(&rt, alloc, ledger, &site)?;
+        return end_counted(&rt, report.stop);
     }
     let door = TcpDoor {
         address: "127.0.0.1",
         input: rt.stdin(),
     };
-    host_tcp(&rt, alloc, ledger, &site, door)?;
+    let hosted = host_tcp(&rt, alloc, ledger, &site, door)?;
+    end_hosted(&rt, hosted.stop)
+}
+
+/// Tells why the hosted service stopped. It is an error unless the input ended, so that a service manager starts the program again.
+fn end_hosted(rt: &impl Eprint, stop: Stop) -> Result<()> {
+    match stop {
+        Stop::Told => tell(rt, "stopped: the input ended"),
+        Stop::All => bail!("stopped: no more connections can be numbered"),
+        Stop::AcceptFault => bail!("stopped: the listener failed"),
+        Stop::OutOfMemory => bail!("stopped: no memory for a connection"),
+    }
+}
+
+/// Tells why the service of so many connections stopped. It is an error unless it served them all.
+fn end_counted(rt: &impl Eprint, stop: Stop) -> Result<()> {
+    match stop {
+        Stop::All => tell(rt, "stopped: all connections were served"),
+        stop => end_hosted(rt, stop),
+    }
+}
+
+/// Prints a line on standard error. That it could not be written changes nothing.
+fn tell(rt: &impl Eprint, line: &str) -> Result<()> {
+    let _ = rt.eprintln(line);
     Ok(())
 }

@@ -12,14 +12,15 @@ use Rattle.input_end.specs.declared.watch.Readiness.{Readiness}
 use Rattle.input_end.specs.declared.watch.Readiness.TheVariants.{WouldWait, WouldAnswer, HungUp}
 
 -- what a listener shows that is told to stop at the end of an input too: what the listener inside shows, with its own count of faults
--- added, and told where that end was seen
-abbrev pub listening_until : Bool → ℕ → Listening → Listening
-listening_until seen faults inner = record {
+-- added, told where that end was seen, and closed where it was itself
+abbrev pub listening_until : Bool → ℕ → Bool → Listening → Listening
+listening_until seen faults closed inner = record {
   ports = inner.ports;
   accepted = inner.accepted;
   faults = inner.faults + faults;
   told = seen || inner.told;
   quiets = inner.quiets;
+  closed = closed;
 }
 
 -- an end in memory: the index of the first look that sees it, if any does, how many looks there were, which is the index of the next one,

@@ -18,8 +18,9 @@
 //!
 //! # What is not
 //!
-//! `test_input_end` tests these. The watch is asked before each read. The system is asked, and its
-//! answers are true. The system refuses files and `/dev/null`, so those never stop a server.
+//! `test_input_end` tests these. The watch is asked before each read. A flag is set at the end that a
+//! look sees. The system is asked, and its answers are true. The system refuses files and
+//! `/dev/null`, so those never stop a server.
 #![tactic(auto)]
 
 mod descriptor;

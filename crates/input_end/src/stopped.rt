@@ -1,7 +1,7 @@
 //! A listener that is told to stop at the end of an input.
 ghost use Rattle.std.specs.Prelude.{◌≡◌, ◌||◌, true, false, if◌then◌else◌, IfOk, IsErr, OnOk, Ok};
 ghost use Rattle.input_end.specs.Ends.{listening_until};
-ghost use Rattle.wire_io.specs.Links.{accepted_as, Listens, Accepts, Waits, Looks, IfCame};
+ghost use Rattle.wire_io.specs.Links.{accepted_as, Listens, Accepts, Waits, Looks, IfCame, IsClosedLike};
 ghost use Rattle.wire_io.specs.Wire.{AreNewHalves, next_count};
 ghost use Rattle.wire_io.specs.declared.listener.Waited.TheVariants.{Told};
 
@@ -17,6 +17,7 @@ pub struct StoppedByInput<L, E> {
     listener: L,
     input: E,
     faults: u64,
+    closed: bool,
 }
 
 impl<L, E> StoppedByInput<L, E> {
@@ -25,11 +26,13 @@ impl<L, E> StoppedByInput<L, E> {
         ensures listener { result.listener ≡ listener }
         ensures input { result.input ≡ input }
         ensures faults { result.faults ≡ 0 }
+        ensures closed { result.closed ≡ false }
     {
         StoppedByInput {
             listener,
             input,
             faults: 0,
+            closed: false,
         }
     }
 
@@ -57,20 +60,22 @@ impl<L: Listener, E: InputEnd> Listener for StoppedByInput<L, E> {
 
     ghost use Rattle.input_end.specs.Ends.{listening_until};
 
-    ghost listening = { λ s. listening_until (E.seen s.input) s.faults (L.listening s.listener) };
+    ghost listening = { λ s.
+        listening_until (E.seen s.input) s.faults s.closed (L.listening s.listener) };
 
     /// Has the listener inside listen. It does not look at the input.
     fn listen(&mut self, address: &str, port: u16) -> Result<(), Failed>
         ensures listens { Listens
-            (listening_until (E.seen self.old.input) self.old.faults
+            (listening_until (E.seen self.old.input) self.old.faults self.old.closed
             (L.listening self.old.listener))
-            (listening_until (E.seen self.new.input) self.new.faults
+            (listening_until (E.seen self.new.input) self.new.faults self.new.closed
             (L.listening self.new.listener)) address.now port result }
         ensures accepted { (L.listening self.new.listener).accepted
             ≡ (L.listening self.old.listener).accepted }
         ensures told { (E.seen self.new.input || (L.listening self.new.listener).told)
             ≡ (E.seen self.old.input || (L.listening self.old.listener).told) }
         ensures input { self.new.input ≡ self.old.input }
+        ensures closed { self.new.closed ≡ self.old.closed }
         ensures faults { self.new.faults ≡ self.old.faults }
         ensures inside { Listens (L.listening self.old.listener) (L.listening self.new.listener)
             address.now port result }
@@ -81,9 +86,9 @@ impl<L: Listener, E: InputEnd> Listener for StoppedByInput<L, E> {
     /// Has the listener inside accept, unless a look has seen the end of the input.
     fn accept(&mut self) -> Result<Link<L::In, L::Out, L::Ticks>, Failed>
         ensures accepts { Accepts (accepted_as L.In.half L.Out.half L.Ticks.given)
-            (listening_until (E.seen self.old.input) self.old.faults
+            (listening_until (E.seen self.old.input) self.old.faults self.old.closed
             (L.listening self.old.listener))
-            (listening_until (E.seen self.new.input) self.new.faults
+            (listening_until (E.seen self.new.input) self.new.faults self.new.closed
             (L.listening self.new.listener)) result }
         ensures halves { IfOk result
             (λ link. AreNewHalves (L.In.half link.source) (L.Out.half link.sink)) }
@@ -94,6 +99,7 @@ impl<L: Listener, E: InputEnd> Listener for StoppedByInput<L, E> {
         ensures untold { OnOk result
             ((E.seen self.old.input || (L.listening self.old.listener).told) ≡ false) }
         ensures input { self.new.input ≡ self.old.input }
+        ensures closed { self.new.closed ≡ self.old.closed }
         ensures faults { self.new.faults
             ≡ (if E.seen self.old.input then next_count self.old.faults else self.old.faults) }
         ensures ended { E.seen self.old.input ≡ true
@@ -112,9 +118,9 @@ impl<L: Listener, E: InputEnd> Listener for StoppedByInput<L, E> {
     /// Looks for the end of the input, once. At the end it closes the listener inside and answers Told. Else it has that listener wait.
     fn wait(&mut self) -> Result<Waited<Link<L::In, L::Out, L::Ticks>>, Failed>
         ensures waits { Waits (accepted_as L.In.half L.Out.half L.Ticks.given)
-            (listening_until (E.seen self.old.input) self.old.faults
+            (listening_until (E.seen self.old.input) self.old.faults self.old.closed
             (L.listening self.old.listener))
-            (listening_until (E.seen self.new.input) self.new.faults
+            (listening_until (E.seen self.new.input) self.new.faults self.new.closed
             (L.listening self.new.listener)) result }
         ensures halves { IfOk result (λ waited. IfCame waited
             (λ link. AreNewHalves (L.In.half link.source) (L.Out.half link.sink))) }
@@ -122,8 +128,9 @@ impl<L: Listener, E: InputEnd> Listener for StoppedByInput<L, E> {
             ≡ (L.listening self.old.listener).ports }
         ensures looks_once { E.looked self.old.input self.new.input (E.seen self.new.input) }
         ensures faults { self.new.faults ≡ self.old.faults }
-        ensures ended { E.seen self.new.input ≡ true
-            → (result ≡ Ok Told) × (self.new.listener ≡ self.old.listener) }
+        ensures closed { self.new.closed ≡ self.old.closed }
+        ensures ended { E.seen self.new.input ≡ true → (result ≡ Ok Told)
+            × IsClosedLike (L.listening self.old.listener) (L.listening self.new.listener) }
         ensures inside { E.seen self.new.input ≡ false
             → Waits (accepted_as L.In.half L.Out.half L.Ticks.given)
             (L.listening self.old.listener) (L.listening self.new.listener) result }
@@ -138,14 +145,15 @@ impl<L: Listener, E: InputEnd> Listener for StoppedByInput<L, E> {
     /// Looks for the end of the input, once. At the end it closes the listener inside. Else it has that listener look.
     fn is_told(&mut self) -> bool
         ensures looks { Looks
-            (listening_until (E.seen self.old.input) self.old.faults
+            (listening_until (E.seen self.old.input) self.old.faults self.old.closed
             (L.listening self.old.listener))
-            (listening_until (E.seen self.new.input) self.new.faults
+            (listening_until (E.seen self.new.input) self.new.faults self.new.closed
             (L.listening self.new.listener)) result }
         ensures looks_once { E.looked self.old.input self.new.input (E.seen self.new.input) }
         ensures faults { self.new.faults ≡ self.old.faults }
-        ensures ended { E.seen self.new.input ≡ true
-            → (result ≡ true) × (self.new.listener ≡ self.old.listener) }
+        ensures closed { self.new.closed ≡ self.old.closed }
+        ensures ended { E.seen self.new.input ≡ true → (result ≡ true)
+            × IsClosedLike (L.listening self.old.listener) (L.listening self.new.listener) }
         ensures inside { E.seen self.new.input ≡ false
             → Looks (L.listening self.old.listener) (L.listening self.new.listener) result }
     {
@@ -156,10 +164,18 @@ impl<L: Listener, E: InputEnd> Listener for StoppedByInput<L, E> {
         self.listener.is_told()
     }
 
-    /// Closes the listener inside.
+    /// Closes the listener inside too.
     fn close(&mut self)
-        ensures { self.new ≡ self.old }
+        ensures closed { listening_until (E.seen self.new.input) self.new.faults self.new.closed
+            (L.listening self.new.listener)
+            ≡ record (listening_until (E.seen self.old.input) self.old.faults self.old.closed
+            (L.listening self.old.listener)) { closed = true } }
+        ensures input { self.new.input ≡ self.old.input }
+        ensures faults { self.new.faults ≡ self.old.faults }
+        ensures inside { IsClosedLike (L.listening self.old.listener)
+            (L.listening self.new.listener) }
     {
         self.listener.close();
+        self.closed = true;
     }
 }

@@ -20,6 +20,7 @@ use Rattle.ser_values.specs.Node.{is_desc, admits, admits_null, item_wants, fiel
 use Rattle.ser_values.specs.Shape.{joined_from, are_typed, is_shaped, parts_in}
 use Rattle.ser_values.specs.Ranges.{ItemFits, NodeFits, UnitsFitIn, NameFits}
 use Rattle.ser_values.specs.Numbered.{a_null, fresh, Numbered, NumberAll, IsGraph}
+use Rattle.ser_values.proofs.Lists.{slice_get-append_seam}
 use Rattle.java_shapes.specs.Fault.{class_node}
 use Rattle.java_shapes.specs.Objects.{text_in}
 use Rattle.java_shapes.specs.Shapes.{AreTexts, TextsAt}
@@ -67,16 +68,12 @@ unfolding slots_from
 slots_many at [] = refl
 slots_many at (name ∷ names) = ap suc (slots_many (suc at) names)
 
-seam : (front rest : List Node) (i : Node) → slice_get (front ++ i ∷ rest) (length front) ≡ Some i
-seam [] rest i = refl
-seam (x ∷ front) rest i = seam front rest i
-
 -- the texts stand behind what is before them
 texts_stand : (front : List Node) (at : ℕ) (names : List (List ℕ)) → at ≡ length front → AreTexts (front ++ text_nodes names) names (slots_from at names)
 unfolding slots_from
 texts_stand front at [] is = refl
 texts_stand front at (name ∷ names) is =
-    let one : slice_get (front ++ text_nodes (name ∷ names)) at ≡ Some (Text name) = rw is (seam front (text_nodes names) (Text name)) in
+    let one : slice_get (front ++ text_nodes (name ∷ names)) at ≡ Some (Text name) = rw is (slice_get-append_seam front (Text name) (text_nodes names)) in
     let place : suc at ≡ length (front ++ Text name ∷ []) = omega (arith, is, length-append front (Text name ∷ [])) in
     let more : AreTexts ((front ++ Text name ∷ []) ++ text_nodes names) names (slots_from (suc at) names) = texts_stand (front ++ Text name ∷ []) (suc at) names place in
     (ap text_in one, rw (append_assoc front (Text name ∷ []) (text_nodes names)) at more)

@@ -39,6 +39,6 @@ pub(crate) mod unread;
 pub mod write;
 
 pub use lines::{read_event, read_first_line, split_line};
-pub use number::{read_below, read_duration, read_signed};
+pub use number::{begins_plainly, read_below, read_duration, read_signed};
 pub use outline::{ObjectRow, Word};
 pub use write::{put_event_line, put_first_line};

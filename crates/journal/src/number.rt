@@ -16,7 +16,7 @@ use std::alloc::Global;
 const MAX_DIGITS: usize = 19;
 
 /// Returns whether there is a first byte that is no plus sign, and no zero before further bytes.
-fn begins_plainly(word: &[u8]) -> bool
+pub fn begins_plainly(word: &[u8]) -> bool
     ensures { IsTrue result ↔ BeginsPlainly word.now }
 {
     !word.is_empty() && word[0] != b'+' && (word[0] != b'0' || word.len() == 1)

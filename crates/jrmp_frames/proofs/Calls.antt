@@ -21,7 +21,7 @@ use Rattle.ser_read.proofs.Served.{want_ok, lifted_ok, given_is}
 use Rattle.ser_read.proofs.SpelledWants.{serve_fits, serve_items}
 use Rattle.ser_read.proofs.Steps.{leads_read, done, reads_two}
 use Rattle.ser_read.proofs.Breaking.{want_first, want_breaks_two}
-use Rattle.ser_read.proofs.InOrder.{takes_asked}
+use Rattle.ser_read.proofs.InOrder.{Serving, Whole, takes_asked}
 use Rattle.jrmp_frames.specs.declared.head.CallHead.{CallHead}
 use Rattle.jrmp_frames.specs.declared.arguments.Arguments.{Arguments}
 use Rattle.jrmp_frames.specs.Messages.{head_bytes, wants_of}
@@ -29,9 +29,6 @@ use Rattle.jrmp_frames.specs.Calls.{front_at, head_at, ReadsHead, ReadsArguments
 use Rattle.jrmp_frames.proofs.Heads.{some_bytes}
 
 -- ---- what the arguments' wants gave
-
-abbrev pub Whole : Type 0
-Whole = List Item × List Node × List Item × List ℕ
 
 pub record Given (ws : List Want) (head : List ℕ) (answers whole : List Item) : Type 0 where
   pub fits : Fits ws answers
@@ -70,9 +67,6 @@ parameters_given ws s head answers nodes whole long stood r = given_parts _ ws s
 
 abbrev pub headed : List ℕ → Result Whole WantFault → Result Whole WantFault
 headed b read = read ▸ λ y. Ok (items.Bytes b ∷ y.0, y.1, y.2, y.3)
-
-abbrev pub Serving : Type 0
-Serving = Result (List Item × Stand × List ℕ) WantFault
 
 abbrev pub closed : ℕ → Serving → Result Whole WantFault
 closed end r = r ▸ λ x. close_at (end - length x.2) x.1 ▸ λ g. Ok (x.0, g.0, g.1, x.2)

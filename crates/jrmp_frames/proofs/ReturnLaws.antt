@@ -12,13 +12,13 @@ use Rattle.stream_grammar.specs.Reading.{magic_at}
 use Rattle.stream_grammar.proofs.PlainSound as plain
 use Rattle.ser_read.specs.declared.serving.Want.{Want}
 use Rattle.ser_read.specs.declared.serving.Want.TheVariants as wanted
-use Rattle.ser_read.specs.Here.{AreBytes}
+use Rattle.stream_grammar.specs.Faults.{AreBytes}
 use Rattle.ser_read.specs.Wants.{WantFault, ◌▸◌, Stand, nothing_read, bytes_at, run_at, serve_to_close, wants_at}
 use Rattle.ser_read.specs.SpelledWants.{SpellsWants}
 use Rattle.ser_read.proofs.Served.{want_ok, lifted_ok, given_is, are}
 use Rattle.ser_read.proofs.SpelledWants.{asked_sound}
 use Rattle.ser_read.proofs.Given.{asked_complete}
-use Rattle.ser_read.proofs.InOrder.{magic_is}
+use Rattle.ser_read.proofs.InOrder.{Whole, magic_is}
 use Rattle.ser_read.proofs.WantLaws.{spelled_is_one}
 use Rattle.ser_read.proofs.Heading.{spelled_is_headed, head_runs}
 use Rattle.jrmp_frames.specs.declared.message.Body.{Body}
@@ -28,8 +28,9 @@ use Rattle.jrmp_frames.specs.Returns.{carried_type, wants_carried, Carries, kind
 use Rattle.jrmp_frames.specs.MessageLaws.{ReturnInFront, ReturnsAreRead, SameBody, ReturnIsOne, HasType, WrittenIsReturn}
 use Rattle.jrmp_frames.proofs.Heads.{front_is}
 use Rattle.ser_values.specs.Node.{item_wants}
-use Rattle.jrmp_frames.proofs.Calls.{Whole, headed, front_then}
-use Rattle.jrmp_frames.proofs.ReturnReading.{Answered, kind_known, put_two, split_contents}
+use Rattle.ser_values.proofs.FrontLaws.{put_both}
+use Rattle.jrmp_frames.proofs.Calls.{headed, front_then}
+use Rattle.jrmp_frames.proofs.ReturnReading.{Answered, kind_known, split_contents}
 
 -- ---- the kind and the identifier, apart and together
 
@@ -42,7 +43,7 @@ together ws k b answers nodes bytes h = record {
   blocks = h.blocks;
   spelled = h.spelled;
   full = h.full;
-  same = sym (put_two k b (joined answers)) ∙ h.same;
+  same = put_both (k ∷ []) b (joined answers) ∙ h.same;
   numbers = h.numbers;
   units = h.units;
   few_parts = h.few_parts;
@@ -57,7 +58,7 @@ apart ws k b answers nodes bytes long h = record {
   blocks = h.blocks;
   spelled = h.spelled;
   full = h.full;
-  same = put_two k b (joined answers) ∙ h.same;
+  same = sym (put_both (k ∷ []) b (joined answers)) ∙ h.same;
   numbers = h.numbers;
   units = h.units;
   few_parts = h.few_parts;
@@ -149,7 +150,7 @@ return_read result_type end normal uid answers nodes contents rest h =
     ∙ ap (λ (b : ℕ). behind_kind result_type b end x.0.1 x.0.2) byte
     ∙ ap (λ (o : Option Bool). by_kind result_type (cond normal 1 2) o end x.0.1 x.0.2) (known_kind normal)
     ∙ ap (λ r. r ▸ wide) read
-    ∙ ap (λ (w : List Item). wide (y.0, y.1, w, y.3)) (put_two (cond normal 1 2) (bytes_of_uid uid) (joined answers))
+    ∙ ap (λ (w : List Item). wide (y.0, y.1, w, y.3)) (sym (put_both (cond normal 1 2 ∷ []) (bytes_of_uid uid) (joined answers)))
 
 pub returns_are_read : ReturnsAreRead
 returns_are_read result_type end normal uid answers nodes bytes rest all = (

@@ -12,7 +12,7 @@ use Rattle.class_desc.specs.declared.slot.Item.{Item}
 use Rattle.class_desc.specs.declared.slot.Item.TheVariants as items
 use Rattle.ser_values.specs.declared.node.Node.{Node}
 use Rattle.ser_values.specs.Fronts.{put_block, without_front}
-use Rattle.ser_values.proofs.FrontLaws.{front_undone}
+use Rattle.ser_values.proofs.FrontLaws.{front_undone, put_both}
 use Rattle.ser_values.proofs.Lists.{some_same}
 use Rattle.stream_grammar.specs.Spelled.{joined}
 use Rattle.stream_grammar.specs.Reading.{short, magic_at}
@@ -34,7 +34,8 @@ use Rattle.jrmp_frames.specs.Messages.{want_of, arg_of}
 use Rattle.jrmp_frames.specs.Calls.{CausedIn}
 use Rattle.jrmp_frames.specs.Returns.{carried_type, wants_carried, Carries, kind_of_byte, ReturnRead, no_kind, of_kind, kind_at, contents_at, by_kind, behind_kind, first_byte, return_at, ReadsReturn, BreaksReturn, GivesReturn, IsArgument, IsBodyOf, ReadsCarried, ReadsContents}
 use Rattle.jrmp_frames.proofs.Heads.{front_is}
-use Rattle.jrmp_frames.proofs.Calls.{Whole, Serving, headed, closed, regroup, served_whole}
+use Rattle.ser_read.proofs.InOrder.{Whole, Serving}
+use Rattle.jrmp_frames.proofs.Calls.{headed, closed, regroup, served_whole}
 
 -- ---- the kind
 
@@ -154,20 +155,13 @@ contents_later {p} {q} {r} {e} n ws s later b one two =
     want_breaks_two (leads_read (λ end bs. headed b (serve_to_close end ws later bs)) one (λ end bs rest here is. split_contents end n ws s bs ∙ rw is refl) (λ end bs here is. split_contents end n ws s bs ∙ rw is refl))
     (want_first (λ end y. Ok (items.Bytes b ∷ y.0, y.1, y.2, y.3)) two)
 
--- Bytes before others join them.
-pub put_two : (k : ℕ) (b : List ℕ) (is : List Item) → put_block (k ∷ []) (put_block b is) ≡ put_block (k ∷ b) is
-put_two k [] is = refl
-put_two k (x ∷ b) [] = refl
-put_two k (x ∷ b) (items.Bytes p ∷ is) = refl
-put_two k (x ∷ b) (items.Ref s ∷ is) = refl
-
 -- What stands behind the kind and the identifier is what the other wants gave.
 pub carried_left : {p q : PullState} (ws : List Want) (s : Stand) (k : ℕ) (b : List ℕ) (answers : List Item) (nodes : List Node) (whole : List Item) → s.items ≡ items.Bytes (k ∷ []) ∷ []
     → Reads (inside short) p q (λ end. serve_to_close end (wanted.Bytes 14 ∷ ws) s) (λ rest. (items.Bytes b ∷ answers, nodes, whole, rest)) → without_front 15 whole ≡ Some (joined answers)
 carried_left ws s k b answers nodes whole stood r =
     let (fits, all) = served_whole _ (wanted.Bytes 14 ∷ ws) s _ (items.Bytes (k ∷ []) ∷ []) (items.Bytes b ∷ answers, nodes, whole, []) (r.is []) stood in
     let long : length (k ∷ b) ≡ 15 = omega (arith, fits.0) in
-    ap (without_front 15) (all ∙ put_two k b (joined answers)) ∙ ap (λ n. without_front n (put_block (k ∷ b) (joined answers))) (sym long) ∙ front_undone (k ∷ b) (joined answers) (joined_joined answers)
+    ap (without_front 15) (all ∙ sym (put_both (k ∷ []) b (joined answers))) ∙ ap (λ n. without_front n (put_block (k ∷ b) (joined answers))) (sym long) ∙ front_undone (k ∷ b) (joined answers) (joined_joined answers)
 
 -- ---- a kind, and then what follows it
 

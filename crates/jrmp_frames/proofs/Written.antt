@@ -23,7 +23,7 @@ use Rattle.ser_write.proofs.Streams.{bytes_full}
 use Rattle.ser_write.specs.Canonical.{blocks, write_items, contents, value_bytes, IsFull, SpellFully}
 use Rattle.ser_read.specs.declared.serving.Want.{Want}
 use Rattle.ser_read.specs.declared.serving.Want.TheVariants as wanted
-use Rattle.ser_read.specs.Here.{AreBytes}
+use Rattle.stream_grammar.specs.Faults.{AreBytes}
 use Rattle.ser_read.specs.SpelledWants.{Fits, IsSome, EndsFull, SpellsWants}
 use Rattle.jrmp_frames.specs.declared.head.CallHead.{CallHead}
 use Rattle.jrmp_frames.specs.declared.message.Body.{Body}

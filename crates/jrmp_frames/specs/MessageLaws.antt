@@ -8,7 +8,7 @@ use Rattle.class_desc.specs.declared.slot.Item.{Item}
 use Rattle.class_desc.specs.declared.slot.Item.TheVariants as items
 use Rattle.ser_values.specs.declared.node.Node.{Node}
 use Rattle.ser_read.specs.declared.serving.Want.TheVariants as wanted
-use Rattle.ser_read.specs.Here.{AreBytes}
+use Rattle.stream_grammar.specs.Faults.{AreBytes}
 use Rattle.ser_read.specs.Heading.{EndsInBlock}
 use Rattle.ser_read.specs.SpelledWants.{SpellsWants}
 use Rattle.ser_write.specs.Canonical.{value_bytes}

@@ -5,7 +5,7 @@ ghost use Rattle.class_desc.specs.declared.slot.Item.{Item};
 ghost use Rattle.stream_grammar.specs.Spelled.{joined};
 ghost use Rattle.ser_values.specs.Fronts.{put_block};
 ghost use Rattle.ser_write.specs.Canonical.{blocks, contents, value_bytes, SpellFully};
-ghost use Rattle.ser_read.specs.Here.{AreBytes};
+ghost use Rattle.stream_grammar.specs.Faults.{AreBytes};
 ghost use Rattle.ser_read.specs.SpelledWants.{Fits};
 ghost use Rattle.jrmp_frames.specs.Messages.{wants_of, args_of, items_of, nodes_of, return_front, call_message, return_message, CallBytes, ReturnBytes};
 

@@ -21,5 +21,5 @@ pub mod runs;
 pub mod words;
 
 pub use due::first_due;
-pub use runs::plain_run;
+pub use runs::{is_plain, plain_run};
 pub use words::{be_words32, be_words64};

@@ -50,7 +50,7 @@ fn run_from(bytes: &[u8], from: usize) -> usize
 }
 
 /// Returns whether a byte is from 01 to 7F.
-fn is_plain(byte: u8) -> bool
+pub fn is_plain(byte: u8) -> bool
     ensures { result ≡ is_plain byte }
 {
     1 <= byte && byte <= 0x7F

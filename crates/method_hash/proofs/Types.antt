@@ -5,6 +5,7 @@ use Rattle.class_desc.specs.declared.field.TypeCode.{TypeCode}
 use Rattle.class_desc.specs.declared.field.TypeCode.TheVariants as codes
 use Rattle.class_desc.specs.TypeCode.{is_primitive, letter}
 use Rattle.class_desc.specs.TypeText.{code_of}
+use Rattle.class_desc.proofs.TypeTexts.{letter_back}
 use Rattle.method_hash.specs.MethodText.{is_class_byte, AreClassBytes, IsClassTail, IsType, IsTail, HasType}
 use Rattle.method_hash.specs.Next.{begun_by, begin, part_next}
 use Rattle.method_hash.specs.TextReading.{CompletesPart}
@@ -19,18 +20,6 @@ CompletesBegun Whole t = t ≡ []
 CompletesBegun (In part) t = CompletesPart part t
 
 -- ---- letters
-
-pub letter_code : (code : TypeCode) → code_of (letter code) ≡ Some code
-letter_code codes.Byte = refl
-letter_code codes.Char = refl
-letter_code codes.Double = refl
-letter_code codes.Float = refl
-letter_code codes.Int = refl
-letter_code codes.Long = refl
-letter_code codes.Short = refl
-letter_code codes.Boolean = refl
-letter_code codes.Array = refl
-letter_code codes.Object = refl
 
 -- The type that a byte stands for has that byte as its letter.
 pub code_letter : (b : ℕ) (code : TypeCode) → code_of b ≡ Some code → b ≡ letter code
@@ -110,7 +99,7 @@ begun_type b x t h c = go (code_of b) refl h
 -- A text of a type of this kind begins with its letter.
 pub type_begun : (code : TypeCode) (t : List ℕ) → HasType code t → (tail : List ℕ) × (x : Begun) × (t ≡ letter code ∷ tail) × (begin (letter code) ≡ Some x) × CompletesBegun x tail
 unfolding begin
-type_begun code t (tail, is, h) = let r = tail_begun code tail h in (tail, r.0, is, ap begun_by (letter_code code) ∙ r.1, r.2)
+type_begun code t (tail, is, h) = let r = tail_begun code tail h in (tail, r.0, is, ap begun_by (letter_back code) ∙ r.1, r.2)
 
 -- ---- types of elements
 
@@ -188,7 +177,7 @@ part_back Elements [] h = absurd h
 part_back Elements (b ∷ t) h =
     let k = kind_of b t h in
     let r = tail_begun k.0 t k.2 in
-    (b, t, r.0, refl, ap (λ n. begun_by (code_of n)) k.1 ∙ ap begun_by (letter_code k.0) ∙ r.1, r.2)
+    (b, t, r.0, refl, ap (λ n. begun_by (code_of n)) k.1 ∙ ap begun_by (letter_back k.0) ∙ r.1, r.2)
 part_back Class t ([], some, are, is) = absurd (omega arith)
 part_back Class t (b ∷ name, some, are, is) = (b, name ++ 0x3B ∷ [], In ClassName, is, rw (are.0) refl, (name, are.1, refl))
 part_back ClassName t ([], are, is) = (0x3B, [], Whole, is, refl, refl)

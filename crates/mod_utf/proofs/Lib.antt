@@ -1,3 +1,4 @@
+pub mod Characters
 pub mod Decoded
 pub mod Fronts
 pub mod Spelling

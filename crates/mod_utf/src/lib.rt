@@ -18,7 +18,9 @@
 #![tactic(auto)]
 
 pub mod decode;
+mod text;
 pub mod utf;
 
 pub use decode::{UtfFault, decode_onto};
+pub use text::units_of_text;
 pub use utf::{encode, encoded_len, units_of_ascii};

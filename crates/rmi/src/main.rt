@@ -10,6 +10,7 @@
 //! written but the line that says so.
 #![tactic(auto)]
 
+use conn_server::random_seed;
 use input_end::{DescriptorEnd, FlaggedEnd, StoppedByInput, descriptor_end};
 use rmi_cli::{Host, RunEnd, Words, run};
 use std::alloc::Global;
@@ -82,7 +83,7 @@ where
     E: Write + Drop,
 {
     let alloc = rt.alloc();
-    let seed = [word(rt)?, word(rt)?, word(rt)?, word(rt)?];
+    let seed = random_seed(rt)?;
     let Streams {
         input,
         watched,
@@ -112,13 +113,6 @@ fn streams_of(rt: &HostRuntime, is_watched: bool) -> Streams<Stdin, Stdout, Stde
         output: rt.stdout(),
         errors: rt.stderr(),
     }
-}
-
-/// A word by chance.
-fn word(rt: &impl RandomSource) -> io::Result<u64> {
-    let mut bytes = [0; 8];
-    rt.fill_bytes(&mut bytes)?;
-    Ok(u64::from_be_bytes(bytes))
 }
 
 /// The status is that of `run`. Where there is no memory for the words or for the input's buffer, or the system gives no words by chance,

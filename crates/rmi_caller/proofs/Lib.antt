@@ -2,6 +2,5 @@ mod Colons
 mod Fitting
 mod Lending
 mod Putting
-mod Spelling
 mod Taking
 mod Telling

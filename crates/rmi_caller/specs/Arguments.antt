@@ -23,7 +23,7 @@ use Rattle.rmi_caller.specs.declared.argument.Argument.TheVariants.{Boolean, Byt
 use Rattle.rmi_caller.specs.declared.arguments.Draft.{Draft}
 use Rattle.rmi_caller.specs.declared.error.CallError.{CallError}
 use Rattle.rmi_caller.specs.declared.error.CallError.TheVariants.{ArgumentCount, WrongArgument}
-use Rattle.rmi_caller.specs.Texts.{units_of}
+use Rattle.mod_utf.specs.Texts.{units_of}
 
 -- ---- whether they fit
 

@@ -5,4 +5,3 @@ pub mod Errors
 pub mod Exceptions
 pub mod Finding
 pub mod Leasing
-pub mod Texts

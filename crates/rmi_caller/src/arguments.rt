@@ -10,14 +10,14 @@ ghost use Rattle.rmi_client.specs.Requests.{sent_ref};
 ghost use Rattle.stream_grammar.specs.Spelled.{joined};
 ghost use Rattle.rmi_caller.specs.Arguments.{AddsItem, AreArguments, IsProxyItem, IsSent, IsTextItem, before_items};
 ghost use Rattle.ser_write.specs.Canonical.{value_bytes};
-ghost use Rattle.rmi_caller.specs.Texts.{units_of};
+ghost use Rattle.mod_utf.specs.Texts.{units_of};
 ghost use Rattle.rmi_caller.specs.declared.error.CallError.TheVariants as errors;
 
 use crate::argument::Argument;
 use crate::error::CallError;
-use crate::text::units_of_text;
 use class_desc::{Item, Items, Slot};
 use java_shapes::{LiveRef, put_live_ref};
+use mod_utf::units_of_text;
 use mod_utf::utf::encoded_len;
 use rmi_client::sent_ref;
 use sequence::ByteList;

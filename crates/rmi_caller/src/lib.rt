@@ -50,7 +50,6 @@ mod exception;
 mod lookup;
 mod prepared;
 mod remote;
-mod text;
 
 pub use answer::Answer;
 pub use argument::Argument;

@@ -3,7 +3,7 @@ ghost use Rattle.std.specs.Prelude.{◌≡◌, ◌≢◌, ◌≤◌, Err, ◌<�
 ghost use Rattle.history.specs.declared.limits.TheConstants.{MAX_NAME_UNITS};
 ghost use Rattle.rmi_client.specs.Sessions.{link_of};
 ghost use Rattle.rmi_caller.specs.Finding.{AcksIf, AcksNot, Finds, Holds};
-ghost use Rattle.rmi_caller.specs.Texts.{units_of};
+ghost use Rattle.mod_utf.specs.Texts.{units_of};
 ghost use Rattle.rmi_caller.specs.declared.error.CallError.TheVariants as errors;
 ghost use Rattle.wire_io.specs.Wire.{Rose};
 
@@ -12,9 +12,9 @@ use crate::connect::{SessionOf, connect};
 use crate::error::{CallError, error_of};
 use crate::exception::class_of;
 use crate::remote::Remote;
-use crate::text::units_of_text;
 use history::Name;
 use java_shapes::LiveRef;
+use mod_utf::units_of_text;
 use object_ids::Uid;
 use rmi_client::ClientEnd;
 use std::alloc::Global;

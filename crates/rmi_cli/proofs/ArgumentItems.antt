@@ -15,7 +15,7 @@ use Rattle.ser_values.specs.Finished.{IsGraphOf}
 use Rattle.ser_values.specs.Fronts.{put_block}
 use Rattle.ser_values.specs.Renumber.{Renaming, item_by, node_by, node_or_by, place_in, reordered}
 use Rattle.ser_values.specs.Visits.{VisitAll, a_null, again, fresh, Visits}
-use Rattle.ser_values.proofs.FrontLaws.{put_wants}
+use Rattle.ser_values.proofs.FrontLaws.{put_both, put_wants}
 use Rattle.ser_values.proofs.Lists.{slice_get-append_seam}
 use Rattle.ser_write.specs.Canonical.{value_bytes}
 use Rattle.stream_grammar.specs.Spelled.{joined}
@@ -23,15 +23,6 @@ use Rattle.rmi_words.specs.declared.call_words.Argument.{Argument}
 use Rattle.rmi_words.specs.declared.call_words.Argument.TheVariants.{Prim, Text}
 use Rattle.rmi_cli.specs.declared.call_arguments.ItemDraft.{ItemDraft}
 use Rattle.rmi_cli.specs.Arguments.{answers_from, argument_items, argument_nodes, before_items, node_of, with_arguments}
-
--- ---- block data before items
-
-put_both : (p q : List ℕ) (is : List Item) → put_block (p ++ q) is ≡ put_block p (put_block q is)
-put_both [] q is = refl
-put_both (x ∷ p) [] is = ap (λ (b : List ℕ). put_block b is) (append-nil (x ∷ p))
-put_both (x ∷ p) (y ∷ q) [] = refl
-put_both (x ∷ p) (y ∷ q) (items.Bytes r ∷ is) = ap (λ (b : List ℕ). items.Bytes b ∷ is) (append_assoc (x ∷ p) (y ∷ q) r)
-put_both (x ∷ p) (y ∷ q) (items.Ref s ∷ is) = refl
 
 -- ---- one argument more
 

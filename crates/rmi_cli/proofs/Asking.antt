@@ -20,7 +20,7 @@ use Rattle.rmi_words.specs.declared.command.Command.TheVariants.{Client}
 use Rattle.rmi_cli.specs.Line.{status_of_run}
 use Rattle.rmi_cli.specs.Talked.{Asks, AsksBy, AsksServer, LinkFailed, PrintsAnswer, Side, SinkFailed, names_text, ok_text, place_of, reference_text}
 use Rattle.rmi_cli.specs.TalkEnds.{status_of_talk}
-use Rattle.rmi_cli.specs.Told.{Reported, TellsEnd, TellsExactly}
+use Rattle.rmi_cli.specs.Told.{Reported, TellsExactly}
 use Rattle.rmi_cli.specs.declared.end.RunEnd.{RunEnd}
 use Rattle.rmi_cli.specs.declared.end.RunEnd.TheVariants.{Done, Talked, OutOfMemory}
 
@@ -64,11 +64,9 @@ same_client : (a b : ClientCommand) → Client a ≡ Client b → a ≡ b
 same_client a b same = cc
 
 -- The command that is named twice was asked, and that is told.
-pub asks_named : (command : Command) (a b : ClientCommand) (old new : Side) (given given2 : Option (List ℕ)) (told : Reported) (end : RunEnd) → command ≡ Client a → command ≡ Client b
-    → AsksBy a old new given given2 end → TellsEnd told end → AsksServer b old new given given2 told
-asks_named command a b old new given given2 told end is is2 asks tells =
-    let P : ClientCommand → Type 0 = λ c. AsksBy c old new given given2 end in
-    (end, subst P (same_client a b (sym is ∙ is2)) asks, tells)
+pub asks_named : (command : Command) (a b : ClientCommand) (old new : Side) (given given2 : Option (List ℕ)) (told : Reported) → command ≡ Client a → command ≡ Client b
+    → AsksServer a old new given given2 told → AsksServer b old new given given2 told
+asks_named command a b old new given given2 told is is2 = subst (λ (c : ClientCommand). AsksServer c old new given given2 told) (same_client a b (sym is ∙ is2))
 
 -- ---- want of memory
 

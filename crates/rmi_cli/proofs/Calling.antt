@@ -15,7 +15,7 @@ use Rattle.rmi_words.specs.declared.command.Command.TheVariants.{Answer, Serve, 
 use Rattle.rmi_cli.specs.Called.{AsksAServer, Calls, CallsObject, IsRequestOf, LacksRequest, answer_text}
 use Rattle.rmi_cli.specs.Line.{status_of_run}
 use Rattle.rmi_cli.specs.Talked.{Asks, Side}
-use Rattle.rmi_cli.specs.Told.{Reported, TellsEnd, TellsExactly}
+use Rattle.rmi_cli.specs.Told.{Reported, TellsExactly}
 use Rattle.rmi_cli.specs.declared.end.RunEnd.{RunEnd}
 use Rattle.rmi_cli.specs.declared.end.RunEnd.TheVariants.{OutOfMemory}
 use Rattle.rmi_cli.proofs.Asking.{Causes, causes_of}
@@ -43,11 +43,9 @@ same_call : (a b : CallWords) → Call a ≡ Call b → a ≡ b
 same_call a b same = cc
 
 -- The call that is named twice was made, and that is told.
-pub calls_named : (command : Command) (a b : CallWords) (seed : List ℕ) (old new : Side) (given given2 : Option (List ℕ)) (told : Reported) (end : RunEnd)
-    → command ≡ Call a → command ≡ Call b → Calls seed a old new given given2 end → TellsEnd told end → CallsObject seed b old new given given2 told
-calls_named command a b seed old new given given2 told end is is2 calls tells =
-    let P : CallWords → Type 0 = λ c. Calls seed c old new given given2 end in
-    (end, subst P (same_call a b (sym is ∙ is2)) calls, tells)
+pub calls_named : (command : Command) (a b : CallWords) (seed : List ℕ) (old new : Side) (given given2 : Option (List ℕ)) (told : Reported)
+    → command ≡ Call a → command ≡ Call b → CallsObject seed a old new given given2 told → CallsObject seed b old new given given2 told
+calls_named command a b seed old new given given2 told is is2 = subst (λ (c : CallWords). CallsObject seed c old new given given2 told) (same_call a b (sym is ∙ is2))
 
 -- A request was asked to an end.
 pub asked : (seed : List ℕ) (call : CallWords) (request : Request) (old new : Side) (given given2 : Option (List ℕ)) (end : RunEnd)

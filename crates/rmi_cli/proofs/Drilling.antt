@@ -46,7 +46,7 @@ steps_taken config h (e ∷ events) (a ∷ given) h2 (next, step, steps) =
         let P : List Event → Type 0 = λ g. AllTaken config g more in (e ∷ more, is ∙ ap (λ g. g ++ more) same ∙ append_assoc h (e ∷ []) more, (first, subst P same taken))
 
 -- The events of a legal history are all taken.
-legal_taken : (config : SpaceConfig) (h : List Event) → IsLegal config h → AllTaken config [] h
+pub legal_taken : (config : SpaceConfig) (h : List Event) → IsLegal config h → AllTaken config [] h
 legal_taken config h (events, given, steps) =
     let went = steps_taken config [] events given h steps in
     let P : List Event → Type 0 = λ g. AllTaken config [] g in subst P (sym went.1) went.2

@@ -1,6 +1,6 @@
 -- How a run of `host` goes and ends.
 use Rattle.std.proofs.Common.{◌≡◌, ◌≢◌, ◌≤◌, ◌<◌, ◌⊎◌, ℕ, List, [], ◌∷◌, ◌++◌, length, take, Option, None, Some, ap, ap₂, refl, sym, subst, ◌∙◌, inl, inr, arith, append-nil}
-use Rattle.std.specs.Prelude.{Bool, true, false, map}
+use Rattle.std.specs.Prelude.{◌↔◌, Bool, IsTrue, true, false, map}
 use Rattle.std.proofs.lemmas.List.{length-append, map-append}
 use Rattle.std.specs.List.Sorted.{IsPermutation}
 use Rattle.wire_io.specs.Links.{Accepted, Listening, with_next}
@@ -13,7 +13,6 @@ use Rattle.history.specs.Steps.{IsLegal}
 use Rattle.space.specs.Built.{SpaceHistory}
 use Rattle.space.specs.EventLists.{CollectsEach}
 use Rattle.space.specs.declared.asked.Asked.{Asked}
-use Rattle.space.specs.Standing.{standing}
 use Rattle.system_objects.specs.declared.book.Kind.{Kind}
 use Rattle.turn_lock.specs.Handles.{opening_of}
 use Rattle.turn_lock.specs.Rule.{StartsWith}
@@ -45,11 +44,10 @@ use Rattle.rmi_cli.specs.LinkLine.{listening_line}
 use Rattle.rmi_cli.specs.Opening.{hosted_opening}
 use Rattle.rmi_cli.specs.ServedLinks.{Printed, end_after}
 use Rattle.rmi_cli.specs.Hosted.{AreHostTimed, ArePartsOf, AreReady, HostEnds, HostPrinted, HostServed, HostSide, Hosting, Hosts, HostsFrom, HostsTelling, IsClosed, TellsHost, after_ticks, end_of_record, first_text, hand_shown, host_lines, host_plan, host_side, journal_lines}
-use Rattle.rmi_cli.specs.Sinks.{Goes, Wrote, WroteBefore, WroteLess, joined}
+use Rattle.rmi_cli.specs.Sinks.{Goes, Wrote, WroteLess, joined}
 use Rattle.rmi_cli.specs.Told.{Reported, TellsEnd, TellsExactly, Took, told_line, told_of_halves}
 use Rattle.rmi_cli.specs.declared.end.RunEnd.{RunEnd}
 use Rattle.rmi_cli.specs.declared.end.RunEnd.TheVariants.{Usage, Answered, Talked, Done, BadLine, Refused, TooLarge, NotShown, ListenFault, AcceptFault, ReadFault, WriteFault, OutOfMemory}
-use Rattle.rmi_cli.specs.declared.host_desk.Given.{Given}
 use Rattle.rmi_cli.specs.declared.host_parts.HostParts.{HostParts}
 use Rattle.rmi_cli.specs.declared.sink_state.SinkState.{SinkState}
 use Rattle.rmi_cli.specs.declared.sink_state.SinkState.TheVariants.{Whole, Failed, Lost}
@@ -148,6 +146,17 @@ deaf_end faults faults2 stops.Told printed end (inr (inl fault)) so is = absurd 
 deaf_end faults faults2 stops.Told printed end (inr (inr memory)) so is = absurd (omega (arith, sym is ∙ ap status_of_run (so ∙ memory)))
 deaf_end faults faults2 stops.AcceptFault printed end p so is = refl
 deaf_end faults faults2 stops.OutOfMemory printed end p so is = absurd (omega (arith, sym is ∙ ap status_of_run so))
+
+-- All went well where the status says so.
+zero_end : (faults faults2 : ℕ) (stop : Stop) (printed end : RunEnd) → IsPrinted faults faults2 printed → end ≡ end_after stop printed → status_of_run end ≡ 0 → end ≡ Done
+zero_end faults faults2 stops.All printed end (inl done) so is = so ∙ done
+zero_end faults faults2 stops.All printed end (inr (inl fault)) so is = absurd (omega (arith, sym is ∙ ap status_of_run (so ∙ fault.0)))
+zero_end faults faults2 stops.All printed end (inr (inr memory)) so is = absurd (omega (arith, sym is ∙ ap status_of_run (so ∙ memory)))
+zero_end faults faults2 stops.Told printed end (inl done) so is = so ∙ done
+zero_end faults faults2 stops.Told printed end (inr (inl fault)) so is = absurd (omega (arith, sym is ∙ ap status_of_run (so ∙ fault.0)))
+zero_end faults faults2 stops.Told printed end (inr (inr memory)) so is = absurd (omega (arith, sym is ∙ ap status_of_run (so ∙ memory)))
+zero_end faults faults2 stops.AcceptFault printed end p so is = absurd (omega (arith, sym is ∙ ap status_of_run so))
+zero_end faults faults2 stops.OutOfMemory printed end p so is = absurd (omega (arith, sym is ∙ ap status_of_run so))
 
 -- ---- what a run prints
 
@@ -321,15 +330,10 @@ module _ {I O T : Type 0} (R : Type 0) (read_half : I → ReadHalf) (write_half 
     tells = inl tells;
   }
 
-  -- The run that is named twice was made, and that is told.
-  pub hosts_named : (command : Command) (a b : HostWords) (old new : HostSide) (first mid final : WriteHalf) (state : SinkState) (status : ℕ) (end : RunEnd) → command ≡ Host a → command ≡ Host b
-      → HostsTelling R read_half write_half given seed a old new first mid state end
-      → ((lines : List (List ℕ)) → Goes first mid lines Whole state → TellsHost (told_of_halves first final status) lines end)
-      → Hosting R read_half write_half given seed b old new (told_of_halves first final status)
-  hosts_named command a b old new first mid final state status end is is2 hosts tells =
-      let P : HostWords → Type 0 = λ h. HostsTelling R read_half write_half given seed h old new first mid state end in
-      let run = subst P (same_host a b (sym is ∙ is2)) hosts in
-      record { end = end; hosts = run.0; tells = tells (host_lines b run.0.served) run.1 }
+  -- The run that is named twice was made.
+  pub hosts_named : (command : Command) (a b : HostWords) (old new : HostSide) (told : Reported) → command ≡ Host a → command ≡ Host b
+      → Hosting R read_half write_half given seed a old new told → Hosting R read_half write_half given seed b old new told
+  hosts_named command a b old new told is is2 = subst (λ (h : HostWords). Hosting R read_half write_half given seed h old new told) (same_host a b (sym is ∙ is2))
 
   ended : (host : HostWords) (opening : SpaceHistory) (old new : WriteHalf) (served : Option (HostServed I O T R)) (end : RunEnd) → HostEnds host.output opening old new served end → IsServed (status_of_run end)
   ended host opening old new None end (inl fault, held) = inr (inl (ap status_of_run fault))
@@ -337,6 +341,21 @@ module _ {I O T : Type 0} (R : Type 0) (read_half : I → ReadHalf) (write_half 
   ended host opening old new (Some served) end ends =
       settled old.faults new.faults served.stop (after_ticks served.tick_missed ends.0) end
       (ticks_printed old.faults new.faults served.tick_missed ends.0 (host_printed host.output opening old new served ends.0 ends.1)) ends.2
+
+  well : (host : HostWords) (opening : SpaceHistory) (old new : WriteHalf) (served : Option (HostServed I O T R)) (end : RunEnd) → HostEnds host.output opening old new served end → status_of_run end ≡ 0 → end ≡ Done
+  well host opening old new None end (inl fault, held) is = absurd (omega (arith, sym is ∙ ap status_of_run fault))
+  well host opening old new None end (inr memory, held) is = absurd (omega (arith, sym is ∙ ap status_of_run memory))
+  well host opening old new (Some served) end ends is =
+      zero_end old.faults new.faults served.stop (after_ticks served.tick_missed ends.0) end
+      (ticks_printed old.faults new.faults served.tick_missed ends.0 (host_printed host.output opening old new served ends.0 ends.1)) ends.2 is
+
+  -- The status 0 tells that all was done.
+  pub hosting_done : (host : HostWords) (old new : HostSide) (told : Reported) (hosting : Hosting R read_half write_half given seed host old new told) → told.status ≡ 0 → hosting.end ≡ Done
+  hosting_done host old new told hosting zero = by hosting.tells
+    where
+      by : TellsHost told (host_lines host hosting.hosts.served) hosting.end → hosting.end ≡ Done
+      by (inl tells) = well host _ old.output new.output hosting.hosts.served hosting.end hosting.hosts.ends (sym tells.0 ∙ zero)
+      by (inr tells) = absurd (omega (arith, sym zero ∙ tells.status))
 
   -- Where neither the listener nor the output failed, all went well, or memory lacked.
   pub hosting_settles : (host : HostWords) (old new : HostSide) (told : Reported) → Hosting R read_half write_half given seed host old new told
@@ -347,12 +366,12 @@ module _ {I O T : Type 0} (R : Type 0) (read_half : I → ReadHalf) (write_half 
   -- What a server that was given a desk hosted is what its desk was given.
   pub hosts_given : {C : Type 0} (taken : C → Taken (LinkReport I O T (SampleHand R))) (IsLink : ℕ → Accepted × Asked → LinkReport I O T (SampleHand R) → Type 0) (opening : SpaceHistory) (count : ℕ)
       (before after : Listening) (gave_first gave_last : Option (List ℕ)) (h : Hosted I O T C (SampleHand R)) (served : HostServed I O T R)
-      → taken h.taker ≡ taken_of served.taker → (served.stop ≡ h.stop) × (served.lost ≡ h.lost) × (served.space ≡ h.space) × (served.whole ≡ h.whole) × (served.hand ≡ h.hand) × (served.tick_missed ≡ h.tick_missed)
+      → taken h.taker ≡ taken_of served.taker → (served.stop ≡ h.stop) × (served.lost ≡ h.lost) × (served.space ≡ h.space) × (served.whole ≡ h.whole) × (served.hand ≡ h.hand) × (served.tick_missed ≡ h.tick_missed) × (served.ticks_missed ≡ h.ticks_missed)
       → HostsLinks IsLink (IsLostLink read_half write_half given) hand_shown Moves taken opening count before after gave_first gave_last h
       → HostsLinks IsLink (IsLostLink read_half write_half given) hand_shown Moves taken_of opening count before after gave_first gave_last served
   hosts_given taken IsLink opening count before after gave_first gave_last h served same rest x =
       let IsLost = IsLostLink read_half write_half given in
-      let Quiet : Bool → SpaceHistory → List Asked → Option (SampleHand R) → Type 0 = λ missed s ticks hand.
+      let Quiet : ℕ → SpaceHistory → List Asked → Option (SampleHand R) → Type 0 = λ missed s ticks hand.
       TicksQuietly hand_shown Moves opening s.events missed gave_first gave_last before.quiets after.quiets (ticks_of x.served) ticks hand in
       let space = sym rest.2 in record {
         config = subst (λ (s : SpaceHistory). s.configuration ≡ opening.configuration) space x.config;
@@ -367,15 +386,17 @@ module _ {I O T : Type 0} (R : Type 0) (read_half : I → ReadHalf) (write_half 
         reports = subst (λ (c : Taken (LinkReport I O T (SampleHand R))). IsPermutation x.links c.reports) same x.reports;
         ticks = subst (λ (s : SpaceHistory). AreTurnsOf opening 0 (taken_of served.taker).ticks s) space
             (subst (λ (c : Taken (LinkReport I O T (SampleHand R))). AreTurnsOf opening 0 c.ticks h.space) same x.ticks);
-        quiet = subst (λ (missed : Bool). Quiet missed served.space (taken_of served.taker).ticks served.hand) (sym rest.5)
-            (subst (λ (s : SpaceHistory). Quiet h.tick_missed s (taken_of served.taker).ticks served.hand) space
-            (subst (λ (a : Option (SampleHand R)). Quiet h.tick_missed h.space (taken_of served.taker).ticks a) (sym rest.4)
-            (subst (λ (c : Taken (LinkReport I O T (SampleHand R))). Quiet h.tick_missed h.space c.ticks h.hand) same x.quiet)));
+        quiet = subst (λ (missed : ℕ). Quiet missed served.space (taken_of served.taker).ticks served.hand) (sym rest.6)
+            (subst (λ (s : SpaceHistory). Quiet h.ticks_missed s (taken_of served.taker).ticks served.hand) space
+            (subst (λ (a : Option (SampleHand R)). Quiet h.ticks_missed h.space (taken_of served.taker).ticks a) (sym rest.4)
+            (subst (λ (c : Taken (LinkReport I O T (SampleHand R))). Quiet h.ticks_missed h.space c.ticks h.hand) same x.quiet)));
+        any_missed = subst (λ (any : Bool). IsTrue any ↔ (0 < served.ticks_missed)) (sym rest.5) (subst (λ (n : ℕ). IsTrue h.tick_missed ↔ (0 < n)) (sym rest.6) x.any_missed);
         others = subst (λ (s : SpaceHistory). (n : ℕ) → length x.links < n → events_after opening n s ≡ []) space x.others;
         stopped = subst (λ (s : Stop). HostStopped s after.told count (length x.links) x.missed) (sym rest.0) x.stopped;
         fault = λ is. x.fault (sym rest.0 ∙ is);
         back = subst (λ (l : Option (LostLink I O T)). AreGivenBack IsLost x.missed l) (sym rest.1) x.back;
         untold = subst (λ (s : Stop). s ≢ stops.Told → after.told ≡ before.told) (sym rest.0) x.untold;
+        closed = x.closed;
         handed = subst (λ (s : SpaceHistory). StartsWith s.events (opening.events ++ (taken_of served.taker).events)) space
             (subst (λ (c : Taken (LinkReport I O T (SampleHand R))). StartsWith h.space.events (opening.events ++ c.events)) same x.handed);
         all_handed = λ all. subst (λ (s : SpaceHistory). s.events ≡ opening.events ++ (taken_of served.taker).events) space

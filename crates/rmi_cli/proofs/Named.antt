@@ -1,7 +1,6 @@
 -- What is said of the command that words ask for.
 use Rattle.wire_io.specs.Links.{Listening}
 use Rattle.std.proofs.Common.{◌≡◌, ℕ, List, Option, sym, subst, ◌∙◌}
-use Rattle.std.specs.Prelude.{IfSome}
 use Rattle.wire_io.specs.Wire.{ReadHalf, WriteHalf, Wires}
 use Rattle.conn_server.specs.declared.server.Report.{Report}
 use Rattle.sample_app.specs.declared.crew.SampleHand.{SampleHand}
@@ -11,11 +10,9 @@ use Rattle.rmi_cli.proofs.Calling.{few_arguments}
 use Rattle.rmi_words.specs.Command.{AskFor}
 use Rattle.rmi_cli.specs.Drilled.{DrillEnds, drill_text}
 use Rattle.rmi_cli.specs.Limits.{IsInLimits}
-use Rattle.rmi_cli.specs.Opening.{served_opening}
-use Rattle.conn_server.specs.Reports.{ServesLinks}
 use Rattle.conn_server.specs.Stops.{IsLostLink}
-use Rattle.rmi_cli.specs.ServedLinks.{IsSampleLink, ListensAlone, ServeEnds, Serving, serve_plan}
-use Rattle.rmi_cli.specs.Told.{Reported, TellsEnd}
+use Rattle.rmi_cli.specs.ServedLinks.{IsSampleLink, Serving, serve_plan}
+use Rattle.rmi_cli.specs.Told.{Reported}
 use Rattle.rmi_cli.specs.declared.end.RunEnd.{RunEnd}
 use Rattle.rmi_words.specs.declared.options.ServeWords.{ServeWords}
 use Rattle.rmi_words.specs.declared.options.LeaseOptions.{LeaseOptions}
@@ -72,10 +69,9 @@ drills_named command text text2 m n m2 n2 held held2 end is is2 ends =
     subst R same.2 (subst Q same.1 (subst P same.0 ends))
 
 pub serving_asked : {I O T R : Type 0} (read_half : I → ReadHalf) (write_half : O → WriteHalf) (given : T → Option (List ℕ)) (seed : List ℕ) (command : Command) (s s2 : ServeWords)
-    (log_before log_after : Listening) (old new : Wires) (faults faults2 : ℕ) (told : Reported) (served : Option (Report I O T (SampleHand R))) (end : RunEnd) → command ≡ Serve s → command ≡ Serve s2
-    → IfSome served (ServesLinks (IsSampleLink {R = R} read_half write_half given (serve_plan seed s)) (IsLostLink read_half write_half given) (served_opening seed s.options) s.count log_before.accepted log_after.accepted)
-    → ListensAlone s.port log_before log_after served → ServeEnds old.held new.held faults faults2 served end → TellsEnd told end → new.left ≡ old.left
+    (log_before log_after : Listening) (old new : Wires) (faults faults2 : ℕ) (told : Reported) (served : Option (Report I O T (SampleHand R))) → command ≡ Serve s → command ≡ Serve s2
+    → Serving (IsSampleLink {R = R} read_half write_half given (serve_plan seed s)) (IsLostLink read_half write_half given) seed s served log_before log_after old new faults faults2 told
     → Serving (IsSampleLink {R = R} read_half write_half given (serve_plan seed s2)) (IsLostLink read_half write_half given) seed s2 served log_before log_after old new faults faults2 told
-serving_asked {I} {O} {T} {R} read_half write_half given seed command s s2 log_before log_after old new faults faults2 told served end is is2 links alone ends tells unread =
+serving_asked {I} {O} {T} {R} read_half write_half given seed command s s2 log_before log_after old new faults faults2 told served is is2 =
     let P : ServeWords → Type 0 = λ x. Serving (IsSampleLink {R = R} read_half write_half given (serve_plan seed x)) (IsLostLink read_half write_half given) seed x served log_before log_after old new faults faults2 told in
-    subst P (same_serve s s2 (sym is ∙ is2)) (record { alone = alone; links = links; end = end; ends = ends; tells = tells; unread = unread })
+    subst P (same_serve s s2 (sym is ∙ is2))

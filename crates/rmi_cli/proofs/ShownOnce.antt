@@ -11,11 +11,10 @@ use Rattle.ser_read.specs.declared.fault.StreamKind.TheVariants as kinds
 use Rattle.ser_read.specs.declared.fault.StreamFault.{StreamFault}
 use Rattle.ser_read.specs.declared.fault.StreamFault.TheVariants as faults
 use Rattle.ser_read.specs.declared.fault.Large.TheVariants.{Bytes, Nodes, Depth}
-use Rattle.ser_read.specs.Here.{Fails, IsInBytes, kind_of}
+use Rattle.ser_read.specs.Here.{Fails, IsInBytes, kind_of, stream_kind}
 use Rattle.ser_read.specs.Whole.{stream_at, going_on}
 use Rattle.graph_text.specs.GraphText.{graph_text}
 use Rattle.wire_io.specs.Wire.{Wires, with_end}
-use Rattle.rmi_client.specs.Ends.{stream_kind}
 use Rattle.rmi_cli.specs.declared.end.RunEnd.{RunEnd}
 use Rattle.rmi_cli.specs.declared.end.RunEnd.TheVariants as ends
 use Rattle.rmi_cli.specs.Answer.{IsOutsideStatus}

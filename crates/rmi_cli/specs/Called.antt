@@ -17,9 +17,12 @@ use Rattle.conn_server.specs.Plans.{low_signed}
 use Rattle.client_talk.specs.Calling.{Lessee, lessee_of, call_script}
 use Rattle.client_talk.specs.Contents.{CallAnswer, Content, nothing, single, tree}
 use Rattle.client_talk.specs.declared.request.Request.{Request}
+use Rattle.rmi_words.specs.Command.{AskFor}
 use Rattle.rmi_words.specs.declared.call_words.CallWords.{CallWords}
 use Rattle.rmi_words.specs.declared.command.Command.{Command}
-use Rattle.rmi_words.specs.declared.command.Command.TheVariants.{Answer, Host, Client, Call}
+use Rattle.rmi_words.specs.declared.command.Command.TheVariants.{Answer, Serve, Host, Client, Call}
+use Rattle.rmi_words.specs.declared.host_words.HostWords.{HostWords}
+use Rattle.rmi_words.specs.declared.options.ServeWords.{ServeWords}
 use Rattle.rmi_cli.specs.Arguments.{argument_items, argument_nodes}
 use Rattle.rmi_cli.specs.Talked.{Asks, Side, place_of, reference_text}
 use Rattle.rmi_cli.specs.Told.{Reported, TellsEnd}
@@ -114,3 +117,21 @@ AsksTheClock (Answer options) = Unit {0}
 AsksTheClock (Call call) = Unit {0}
 AsksTheClock (Host host) = Unit {0}
 AsksTheClock _ = ⊥
+
+-- ---- words that ask for no such command
+
+-- These words ask for no command that asks a server.
+abbrev pub AskNoServer : List (List ℕ) → Type 0
+AskNoServer words = (command : Command) → AskFor words command → AsksAServer command → ⊥
+
+-- They ask for none that asks the clock.
+abbrev pub AskNoClock : List (List ℕ) → Type 0
+AskNoClock words = (command : Command) → AskFor words command → AsksTheClock command → ⊥
+
+-- They don't ask for `serve`.
+abbrev pub AskNoServe : List (List ℕ) → Type 0
+AskNoServe words = (serve : ServeWords) → AskFor words (Serve serve) → ⊥
+
+-- They don't ask for `host`.
+abbrev pub AskNoHost : List (List ℕ) → Type 0
+AskNoHost words = (asked : HostWords) → AskFor words (Host asked) → ⊥

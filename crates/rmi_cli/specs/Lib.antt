@@ -5,6 +5,7 @@ pub mod Desk
 pub mod Drilled
 pub mod Helped
 pub mod Hosted
+pub mod Journals
 pub mod Limits
 pub mod Line
 pub mod LinkLine

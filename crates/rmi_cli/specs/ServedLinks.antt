@@ -39,6 +39,10 @@ Printed held held_after faults faults_after text end =
     ⊎ (((end ≡ WriteFault) × WroteLess held held_after text × Rose faults faults_after)
     ⊎ ((end ≡ OutOfMemory) × (held_after ≡ held) × (faults_after ≡ faults)))
 
+-- The same of a sink, by what it shows before and after.
+abbrev pub PrintedOn : {K : Type 0} → (K → WriteHalf) → K → K → List ℕ → RunEnd → Type 0
+PrintedOn half old new text end = Printed (half old).held (half new).held (half old).faults (half new).faults text end
+
 -- How the run ends where the accepting stopped so and printing ended so.
 abbrev pub end_after : Stop → RunEnd → RunEnd
 end_after stops.All printed = printed

@@ -11,10 +11,9 @@ use Rattle.stream_grammar.specs.Reading.{stream_of, Fault, short, bad, too_many,
 use Rattle.ser_read.specs.declared.fault.StreamFault.{StreamFault}
 use Rattle.ser_read.specs.declared.fault.StreamFault.TheVariants as faults
 use Rattle.ser_read.specs.declared.fault.Large.TheVariants.{Bytes, Nodes, Depth}
-use Rattle.ser_read.specs.Here.{Fails}
+use Rattle.ser_read.specs.Here.{Fails, stream_kind}
 use Rattle.ser_read.specs.Whole.{stream_at, going_on, BreaksWhole}
 use Rattle.graph_text.specs.GraphText.{graph_text}
-use Rattle.rmi_client.specs.Ends.{stream_kind}
 use Rattle.rmi_cli.specs.Answer.{IsOutsideStatus}
 use Rattle.rmi_cli.specs.Line.{status_of_run}
 use Rattle.rmi_cli.specs.Told.{Failures, Ran, Reported, TellsExactly}

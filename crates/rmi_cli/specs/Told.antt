@@ -1,5 +1,6 @@
 -- How the end of a run is told: by the status of the process, and by a line on the errors' sink.
 use Rattle.std.specs.Prelude.{◌≡◌, ◌≢◌, ℕ, ◌<◌, ◌⊎◌, List, [], ◌∷◌, ◌++◌, length, take, Option}
+use Rattle.wire_io.specs.Links.{Listening}
 use Rattle.wire_io.specs.Wire.{ReadHalf, WriteHalf, with_end, Rose}
 use Rattle.rmi_cli.specs.Line.{line_of, status_of_run}
 use Rattle.rmi_words.specs.declared.command.WordsFault.{WordsFault}
@@ -67,6 +68,16 @@ end_of_words words.OutOfMemory = OutOfMemory
 -- It is told that the words are no command line, or that there was no memory to read them.
 abbrev pub TellsNoCommand : Reported → Type 0
 TellsNoCommand told = TellsExactly told Usage ⊎ TellsExactly told OutOfMemory
+
+-- The input, the output or the listener failed meanwhile: its count of faults rose.
+abbrev pub ReadFailed : {I : Type 0} → (I → ReadHalf) → I → I → Type 0
+ReadFailed half old new = Rose (half old).faults (half new).faults
+
+abbrev pub WriteFailed : {O : Type 0} → (O → WriteHalf) → O → O → Type 0
+WriteFailed half old new = Rose (half old).faults (half new).faults
+
+abbrev pub ListenerFailed : {L : Type 0} → (L → Listening) → L → L → Type 0
+ListenerFailed listening old new = Rose (listening old).faults (listening new).faults
 
 -- How often the input and the output have failed.
 pub record Failures : Type 0 where

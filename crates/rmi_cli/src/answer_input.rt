@@ -1,13 +1,13 @@
 //! `answer` over the program's input and output.
 ghost use Rattle.std.specs.Prelude.{◌≡◌, IfOk};
-ghost use Rattle.wire_io.specs.Wire.{Rose, wires};
+ghost use Rattle.wire_io.specs.Wire.{wires};
 ghost use Rattle.call_dispatch.specs.End.{IsWriteFault};
 ghost use Rattle.system_objects.specs.Terms.{terms_of};
 ghost use Rattle.sample_app.specs.Kinds.{sample_kinds};
 ghost use Rattle.rmi_cli.specs.Answer.{answer_terms, ServesOne, ServesExactly};
 ghost use Rattle.rmi_cli.specs.Opening.{served_opening};
 ghost use Rattle.rmi_words.specs.Options.{IsInRange};
-ghost use Rattle.rmi_cli.specs.Told.{StayOpen};
+ghost use Rattle.rmi_cli.specs.Told.{ReadFailed, StayOpen, WriteFailed};
 
 use crate::loopback::loopback_host;
 use crate::opening::opened_space;
@@ -45,10 +45,8 @@ pub fn answer_input<S: Source, K: Sink, C: Clock>(
         (C.given clock.old) (C.given clock.new) result }
     ensures exact { ServesExactly seed.now options
         (wires S.half K.half source.old sink.old) (wires S.half K.half source.new sink.new) result }
-    ensures read_fault { result ≡ ConnEnd.ReadFault
-        → Rose (S.half source.old).faults (S.half source.new).faults }
-    ensures write_fault { IsWriteFault result → Rose (K.half sink.old).faults
-        (K.half sink.new).faults }
+    ensures read_fault { result ≡ ConnEnd.ReadFault → ReadFailed S.half source.old source.new }
+    ensures write_fault { IsWriteFault result → WriteFailed K.half sink.old sink.new }
     ensures open { StayOpen S.half K.half source.old sink.old source.new sink.new }
 {
     let mut parts = match answer_parts(alloc, seed, options) {

@@ -1,9 +1,9 @@
 //! `suid`, `suidtext` and `describe` over the program's input and output.
 ghost use Rattle.std.specs.Prelude.{◌≡◌, ◌≢◌};
-ghost use Rattle.wire_io.specs.Wire.{Rose, wires};
+ghost use Rattle.wire_io.specs.Wire.{wires};
 ghost use Rattle.rmi_cli.specs.Line.{status_of_run};
 ghost use Rattle.rmi_cli.specs.Printing.{PrintEnds};
-ghost use Rattle.rmi_cli.specs.Told.{StayOpen};
+ghost use Rattle.rmi_cli.specs.Told.{ReadFailed, StayOpen, WriteFailed};
 
 use crate::class_output::{ClassFault, class_output};
 use crate::end::RunEnd;
@@ -28,10 +28,8 @@ pub fn print_class<S: Source, K: Sink>(
         (wires S.half K.half source.new sink.new)
         (K.half sink.old).faults (K.half sink.new).faults result }
     ensures known { status_of_run result ≢ 1 }
-    ensures read_fault { status_of_run result ≡ 3
-        → Rose (S.half source.old).faults (S.half source.new).faults }
-    ensures write_fault { status_of_run result ≡ 4
-        → Rose (K.half sink.old).faults (K.half sink.new).faults }
+    ensures read_fault { status_of_run result ≡ 3 → ReadFailed S.half source.old source.new }
+    ensures write_fault { status_of_run result ≡ 4 → WriteFailed K.half sink.old sink.new }
     ensures open { StayOpen S.half K.half source.old sink.old source.new sink.new }
 {
     let limit = OUTLINE_BYTES as u64;

@@ -1,7 +1,7 @@
 //! `list`, `lookup`, `bind` and `unbind` over the program's dialer and output.
 ghost use Rattle.std.specs.Prelude.{◌≡◌, ℕ, List, Option, IfOk, map};
 ghost use Rattle.client_talk.specs.Sessions.{ended_as};
-ghost use Rattle.rmi_cli.specs.ServedLinks.{Printed};
+ghost use Rattle.rmi_cli.specs.ServedLinks.{PrintedOn};
 ghost use Rattle.rmi_cli.specs.Talked.{AsksBy, PrintsAnswer, names_text, ok_text, place_of, reference_text, side};
 
 use crate::end::RunEnd;
@@ -105,8 +105,7 @@ fn print_ok<K: Sink>(sink: &mut K, answer: Result<(), CommandEnd>) -> RunEnd
 /// Writes a text, where there was memory for it.
 pub(crate) fn print_text<K: Sink>(sink: &mut K, text: Result<ByteList, AllocError>) -> RunEnd
     ensures printed { (bytes : List ℕ) → IfOk text (λ written. written ≡ bytes)
-        → Printed (K.half sink.old).held (K.half sink.new).held (K.half sink.old).faults
-        (K.half sink.new).faults bytes result }
+        → PrintedOn K.half sink.old sink.new bytes result }
     ensures open { (K.half sink.new).shut ≡ (K.half sink.old).shut }
 {
     match text {
@@ -117,8 +116,7 @@ pub(crate) fn print_text<K: Sink>(sink: &mut K, text: Result<ByteList, AllocErro
 
 /// Writes bytes.
 fn print_bytes<K: Sink>(sink: &mut K, bytes: &[u8]) -> RunEnd
-    ensures printed { Printed (K.half sink.old).held (K.half sink.new).held (K.half sink.old).faults
-        (K.half sink.new).faults bytes.now result }
+    ensures printed { PrintedOn K.half sink.old sink.new bytes.now result }
     ensures open { (K.half sink.new).shut ≡ (K.half sink.old).shut }
 {
     match put_all(sink, bytes) {

@@ -1,11 +1,11 @@
 //! `drill` and `journal` over the program's output.
 ghost use Rattle.std.specs.Prelude.{◌≡◌, ◌≢◌, ◌≤◌, true, IfOk, IfErr};
-ghost use Rattle.wire_io.specs.Wire.{Rose};
 ghost use Rattle.space.specs.Built.{space_of};
 ghost use Rattle.drill.specs.Rounds.{drill_config, drill_events};
 ghost use Rattle.rmi_cli.specs.Drilled.{text_of, drill_text, TakesAll, DrillStops, end_of_refused, DrillEnds};
 ghost use Rattle.rmi_cli.specs.Line.{status_of_run};
 ghost use Rattle.rmi_words.specs.declared.numbers.TheConstants.{MAX_ROUNDS};
+ghost use Rattle.rmi_cli.specs.Told.{WriteFailed};
 
 use crate::end::RunEnd;
 use drill::drill;
@@ -30,8 +30,7 @@ pub fn write_drill<K: Sink>(
         (K.half sink.new).held result }
     ensures known { status_of_run result ≢ 1 }
     ensures unread { status_of_run result ≢ 3 }
-    ensures write_fault { status_of_run result ≡ 4
-        → Rose (K.half sink.old).faults (K.half sink.new).faults }
+    ensures write_fault { status_of_run result ≡ 4 → WriteFailed K.half sink.old sink.new }
     ensures open { (K.half sink.new).shut ≡ (K.half sink.old).shut }
 {
     let space = match drilled_space(alloc, seed, rounds) {

@@ -1,14 +1,14 @@
 //! `host` over the program's listener, clock, output and errors' sink.
 ghost use Rattle.std.specs.Prelude.{◌≡◌, ◌≢◌, ◌≤◌, ◌∷◌, [], ℕ, List, IfOk, true};
-ghost use Rattle.wire_io.specs.Wire.{Rose};
 ghost use Rattle.space.specs.Standing.{standing};
 ghost use Rattle.rmi_cli.specs.Desk.{recorded_lines, told_lines};
 ghost use Rattle.rmi_cli.specs.Hosted.{AreHostTimed, ArePartsOf, AreReady, HostsFrom, HostsTelling, IsClosed, after_ticks, end_of_record, host_side};
 ghost use Rattle.rmi_cli.specs.Line.{status_of_run};
 ghost use Rattle.rmi_cli.specs.LinkLine.{listening_line};
-ghost use Rattle.rmi_cli.specs.ServedLinks.{Printed, end_after};
+ghost use Rattle.rmi_cli.specs.ServedLinks.{PrintedOn, end_after};
 ghost use Rattle.rmi_cli.specs.Sinks.{Goes, joined};
 ghost use Rattle.rmi_cli.specs.declared.sink_state.SinkState.TheVariants.{Whole};
+ghost use Rattle.rmi_cli.specs.Told.{ListenerFailed, WriteFailed};
 
 use crate::end::RunEnd;
 use crate::host::Host;
@@ -97,9 +97,9 @@ pub(crate) fn host_input<
         (E.half host.old.errors) (E.half host.new.errors) result.told result.end }
     ensures known { status_of_run result.end ≢ 1 }
     ensures fault { status_of_run result.end ≡ 3
-        → Rose (L.listening host.old.listener).faults (L.listening host.new.listener).faults }
+        → ListenerFailed L.listening host.old.listener host.new.listener }
     ensures write_fault { status_of_run result.end ≡ 4
-        → Rose (O.half host.old.output).faults (O.half host.new.output).faults }
+        → WriteFailed O.half host.old.output host.new.output }
     ensures open { (O.half host.new.output).shut ≡ (O.half host.old.output).shut }
     ensures errors_open { (E.half host.new.errors).shut ≡ (E.half host.old.errors).shut }
     ensures rest { (host.new.input ≡ host.old.input) × (host.new.dialer ≡ host.old.dialer)
@@ -140,9 +140,9 @@ fn host_on<
         (E.half host.old.errors) (E.half host.new.errors) result.told result.end }
     ensures known { status_of_run result.end ≢ 1 }
     ensures fault { status_of_run result.end ≡ 3
-        → Rose (L.listening host.old.listener).faults (L.listening host.new.listener).faults }
+        → ListenerFailed L.listening host.old.listener host.new.listener }
     ensures write_fault { status_of_run result.end ≡ 4
-        → Rose (O.half host.old.output).faults (O.half host.new.output).faults }
+        → WriteFailed O.half host.old.output host.new.output }
     ensures open { (O.half host.new.output).shut ≡ (O.half host.old.output).shut }
     ensures errors_open { (E.half host.new.errors).shut ≡ (E.half host.old.errors).shut }
     ensures rest { (host.new.input ≡ host.old.input) × (host.new.dialer ≡ host.old.dialer)
@@ -212,7 +212,7 @@ fn host_links<
     ensures times { AreHostTimed L.Ticks.given result.hosted }
     ensures ports { (L.listening host.new.listener).ports ≡ (L.listening host.old.listener).ports }
     ensures fault { result.hosted.stop ≡ Stop.AcceptFault
-        → Rose (L.listening host.old.listener).faults (L.listening host.new.listener).faults }
+        → ListenerFailed L.listening host.old.listener host.new.listener }
     ensures faults { (L.listening host.old.listener).faults
         ≤ (L.listening host.new.listener).faults }
     ensures rest { (host.new.input ≡ host.old.input) × (host.new.dialer ≡ host.old.dialer)
@@ -261,7 +261,7 @@ fn serve_at_desk<'s, 't, R: Threads + Wait + Sync, K: Sink, E: Sink, T: Clock, L
     ensures times { AreHostTimed L.Ticks.given result.2.hosted }
     ensures ports { (L.listening listener.new).ports ≡ (L.listening listener.old).ports }
     ensures fault { result.2.hosted.stop ≡ Stop.AcceptFault
-        → Rose (L.listening listener.old).faults (L.listening listener.new).faults }
+        → ListenerFailed L.listening listener.old listener.new }
     ensures faults { (L.listening listener.old).faults ≤ (L.listening listener.new).faults }
 {
     let HostBegun {
@@ -321,7 +321,8 @@ fn take_apart<'s, 't, R: Wait + Sync, K, E, I, O, T>(
         × (result.2.hosted.space ≡ served.entry.space)
         × (result.2.hosted.whole ≡ served.entry.whole)
         × (result.2.hosted.hand ≡ served.entry.hand)
-        × (result.2.hosted.tick_missed ≡ served.entry.tick_missed) }
+        × (result.2.hosted.tick_missed ≡ served.entry.tick_missed)
+        × (result.2.hosted.ticks_missed ≡ served.entry.ticks_missed) }
 {
     let Hosted {
         taker,
@@ -331,6 +332,7 @@ fn take_apart<'s, 't, R: Wait + Sync, K, E, I, O, T>(
         whole,
         hand,
         tick_missed,
+        ticks_missed,
     } = served;
     let (output, errors, DeskLeft { given, states }) = taker.into_parts();
     let hosted = Hosted {
@@ -341,6 +343,7 @@ fn take_apart<'s, 't, R: Wait + Sync, K, E, I, O, T>(
         whole,
         hand,
         tick_missed,
+        ticks_missed,
     };
     (output, errors, HostLeft { hosted, states })
 }
@@ -409,8 +412,7 @@ fn end_of_record(state: SinkState, whole: bool) -> RunEnd
 
 /// Writes what stands of the space that is left, and answers how that ended.
 fn print_standing<K: Sink>(alloc: Global, sink: &mut K, space: &Space) -> RunEnd
-    ensures printed { Printed (K.half sink.old).held (K.half sink.new).held
-        (K.half sink.old).faults (K.half sink.new).faults
+    ensures printed { PrintedOn K.half sink.old sink.new
         (standing space.now.configuration space.now.events) result }
     ensures open { (K.half sink.new).shut ≡ (K.half sink.old).shut }
 {

@@ -1,9 +1,9 @@
 //! `replay` over the program's input and output.
 ghost use Rattle.std.specs.Prelude.{◌≡◌, ◌≢◌};
-ghost use Rattle.wire_io.specs.Wire.{Rose, wires};
+ghost use Rattle.wire_io.specs.Wire.{wires};
 ghost use Rattle.rmi_cli.specs.Line.{status_of_run};
 ghost use Rattle.rmi_cli.specs.Replayed.{ReplayEnds};
-ghost use Rattle.rmi_cli.specs.Told.{StayOpen};
+ghost use Rattle.rmi_cli.specs.Told.{ReadFailed, StayOpen, WriteFailed};
 
 use crate::end::RunEnd;
 use crate::outlines::{ReplayFault, replay};
@@ -21,10 +21,8 @@ pub fn replay_input<S: Source, K: Sink>(alloc: Global, source: &mut S, sink: &mu
     ensures ends { ReplayEnds (wires S.half K.half source.old sink.old)
         (wires S.half K.half source.new sink.new) result }
     ensures known { status_of_run result ≢ 1 }
-    ensures read_fault { status_of_run result ≡ 3
-        → Rose (S.half source.old).faults (S.half source.new).faults }
-    ensures write_fault { status_of_run result ≡ 4
-        → Rose (K.half sink.old).faults (K.half sink.new).faults }
+    ensures read_fault { status_of_run result ≡ 3 → ReadFailed S.half source.old source.new }
+    ensures write_fault { status_of_run result ≡ 4 → WriteFailed K.half sink.old sink.new }
     ensures open { StayOpen S.half K.half source.old sink.old source.new sink.new }
 {
     let input = match take_whole(alloc, source, JOURNAL_BYTES) {

@@ -34,7 +34,10 @@
 //!   and the status is 5. The milliseconds of a link run from the moment of one of the server's own
 //!   turns to the moment that the link's clock gave next (`IsTimed`). If memory lacked for a Tick
 //!   that was due (`tick_missed`), the status is 5 at the end, unless the output or the listener
-//!   failed. The host's own input is not read (`host_unread`).
+//!   failed. The host's own input is not read (`host_unread`). With `journal` and status 0 the whole
+//!   journal was written. If its numbers are within their ranges and its units within the limit of a
+//!   kept history, `replay` prints what stands, and then the withdrawals (`host_journal`:
+//!   `hosts` with the law `laws::journals_replay`).
 //! - `list`, `lookup`, `bind`, `unbind`: one talk by the command's script, the only one if the link
 //!   tells its bytes. The answer was printed if the talk ended well, and nothing otherwise. The
 //!   halves are left in `talked`, shut (`asks`).
@@ -66,7 +69,8 @@
 //!   server's own turns or, as for lack of memory, at its end: `ReportTaker` is told which link
 //!   begins by no clause. The test `a_link_takes_the_time_of_its_own_clock` shows it.
 //! - At `host`, when a link is accepted, and when a line is written, before the stop or at it. That
-//!   `replay` reads the journal of `host` is tested with Java's clients (`interop/run`).
+//!   the numbers of its events are within their types' ranges (`CanBeRead`): `interop/run` replays
+//!   journals of Java's clients.
 //!
 //! Limits are constants that clauses cite. That they are what the documents say is proved (`prove!`
 //! in `src/limits.rt`).
@@ -89,6 +93,7 @@ mod host_desk;
 mod host_input;
 mod host_parts;
 mod journal_input;
+pub mod laws;
 mod limits;
 mod link_line;
 mod loopback;

@@ -1,11 +1,14 @@
 //! All that the program does.
-ghost use Rattle.std.specs.Prelude.{◌≡◌, ◌≢◌, ◌⊎◌, ◌++◌, ◌∷◌, [], ℕ, List, Option, None, IfOk, map, string_bytes};
-ghost use Rattle.wire_io.specs.Wire.{Rose, WriteHalf, wires};
+ghost use Rattle.std.specs.Prelude.{◌≡◌, ◌≢◌, ◌≤◌, ◌⊎◌, ◌++◌, ◌∷◌, [], ℕ, List, Option, None, IfOk, length, map, string_bytes};
+ghost use Rattle.wire_io.specs.Wire.{WriteHalf, wires};
 ghost use Rattle.rmi_cli.specs.Answer.{Answers, AnswersExactly};
-ghost use Rattle.rmi_words.specs.Command.{AskFor};
+ghost use Rattle.rmi_words.specs.Command.{AskFor, AskForNothing};
+ghost use Rattle.rmi_words.specs.HostWords.{IsHostInRange};
+ghost use Rattle.rmi_words.specs.Options.{IsInRange, IsServeInRange};
 ghost use Rattle.rmi_cli.specs.Drilled.{Drills, DrillsExactly};
 ghost use Rattle.rmi_cli.specs.Helped.{Helps};
 ghost use Rattle.rmi_cli.specs.Hosted.{Hosting, TellsHost, host_side};
+ghost use Rattle.rmi_cli.specs.Journals.{PrintsJournal};
 ghost use Rattle.rmi_cli.specs.Limits.{IsInLimits};
 ghost use Rattle.rmi_cli.specs.Line.{line_of, status_of_run};
 ghost use Rattle.rmi_cli.specs.Printing.{PrintsClass, PrintsExactly};
@@ -14,12 +17,11 @@ ghost use Rattle.conn_server.specs.Stops.{IsLostLink};
 ghost use Rattle.rmi_cli.specs.ServedLinks.{IsSampleLink, Serving, serve_plan};
 ghost use Rattle.rmi_cli.specs.Shown.{ShowsInput, ShowsExactly};
 ghost use Rattle.rmi_cli.specs.Sinks.{Goes};
-ghost use Rattle.rmi_cli.specs.Called.{AsksAServer, AsksTheClock, CallsObject};
+ghost use Rattle.rmi_cli.specs.Called.{AskNoClock, AskNoHost, AskNoServe, AskNoServer, AsksAServer, CallsObject};
 ghost use Rattle.client_talk.specs.Sessions.{ended_as};
 ghost use Rattle.rmi_cli.specs.Talked.{AsksServer, LinkFailed, SinkFailed, side};
-ghost use Rattle.rmi_cli.specs.Told.{told_by, told_of_halves, failures, StayOpen, end_of_words, TellsExactly, TellsEnd, TellsNoCommand};
+ghost use Rattle.rmi_cli.specs.Told.{ListenerFailed, ReadFailed, StayOpen, TellsEnd, TellsExactly, TellsNoCommand, WriteFailed, end_of_words, failures, told_by, told_of_halves};
 ghost use Rattle.rmi_cli.specs.Worlds.{MakesWorld, MakesWorldExactly, PrintsKeptWorld};
-ghost use Rattle.rmi_words.specs.declared.call_words.CallWords.{CallWords};
 ghost use Rattle.rmi_words.specs.declared.client.ClientCommand.{ClientCommand as ClientCommands};
 ghost use Rattle.rmi_words.specs.declared.command.ClassOutput.{ClassOutput as ClassOutputs};
 ghost use Rattle.rmi_words.specs.declared.command.Command.{Command as Commands};
@@ -42,7 +44,10 @@ use crate::serve_input::serve_input;
 use crate::sink_state::SinkState;
 use crate::stream_input::show_input;
 use crate::world_input::print_world;
-use rmi_words::{Command, HostWords, LeaseOptions, ServeWords, Words, WordsFault};
+use rmi_words::{
+    CallWords, ClientCommand, Command, HostWords, LeaseOptions, Record, ServeWords, Words,
+    WordsFault,
+};
 use sample_app::SampleHand;
 use std::alloc::{AllocError, Global};
 use std::sync::Wait;
@@ -87,10 +92,10 @@ pub fn run<
     host: &mut Host<I, O, E, T, L, D, SampleHand<'t, R>>,
 ) -> u8
     // Words that ask for nothing are no command line: that is told, with the status 1, or want of memory to read them, with the status 5.
-    ensures usage { result ≡ 1 → (command : Commands) → AskFor words.now command → ⊥ }
-    ensures no_command { ((command : Commands) → AskFor words.now command → ⊥)
+    ensures usage { result ≡ 1 → AskForNothing words.now }
+    ensures no_command { AskForNothing words.now
         → TellsNoCommand (told_by E.half host.old.errors host.new.errors result) }
-    ensures untouched { ((command : Commands) → AskFor words.now command → ⊥)
+    ensures untouched { AskForNothing words.now
         → ((I.half host.new.input).left ≡ (I.half host.old.input).left)
         × ((O.half host.new.output).held ≡ (O.half host.old.output).held) }
 
@@ -138,6 +143,10 @@ pub fn run<
         (told_by E.half host.old.errors host.new.errors result) }
     ensures host_unread { (asked : HostWords) → AskFor words.now (Command.Host asked)
         → host.new.input ≡ host.old.input }
+    // Where it records events and ends well, all of the journal was printed, and what `replay` prints of that is what stands, and then the withdrawals.
+    ensures host_journal { (asked : HostWords) → AskFor words.now (Command.Host asked)
+        → asked.output ≡ Record.Journal → result ≡ 0
+        → PrintsJournal host.old.seed asked (O.half host.old.output) (O.half host.new.output) }
 
     // `list`, `lookup`, `bind` and `unbind` dial a server and talk to it as their scripts say: what was sent and read on the link, and how it ended, is
     // one talk, the only one of the bytes that the server answers, where the link tells them, unless something outside failed or memory lacked. Nothing is
@@ -247,31 +256,28 @@ pub fn run<
 
     // None but `answer`, `call` and `host` asks the clock. None but `serve` and `host` asks the listener, and none but `serve` leaves anything as served.
     // None but a command that asks a server dials, or leaves halves of links, and these take nothing of the input. None changes the seed.
-    ensures clock { ((command : Commands) → AskFor words.now command → AsksTheClock command → ⊥)
-        → T.given host.new.ticks ≡ T.given host.old.ticks }
-    ensures network { ((serve : ServeWords) → AskFor words.now (Command.Serve serve) → ⊥)
-        → ((asked : HostWords) → AskFor words.now (Command.Host asked) → ⊥)
+    ensures clock { AskNoClock words.now → T.given host.new.ticks ≡ T.given host.old.ticks }
+    ensures network { AskNoServe words.now
+        → AskNoHost words.now
         → host.new.listener ≡ host.old.listener }
-    ensures served { ((serve : ServeWords) → AskFor words.now (Command.Serve serve) → ⊥)
-        → host.new.served ≡ None }
+    ensures served { AskNoServe words.now → host.new.served ≡ None }
     ensures seed { host.new.seed ≡ host.old.seed }
-    ensures dialing { ((command : Commands) → AskFor words.now command → AsksAServer command → ⊥)
+    ensures dialing { AskNoServer words.now
         → (host.new.dialer ≡ host.old.dialer) × (host.new.talked ≡ host.old.talked) }
     ensures unread { (command : Commands) → AskFor words.now command → AsksAServer command
         → host.new.input ≡ host.old.input }
 
     // The outside's failures.
-    ensures read_fault { ((serve : ServeWords) → AskFor words.now (Command.Serve serve) → ⊥)
-        → ((asked : HostWords) → AskFor words.now (Command.Host asked) → ⊥)
-        → ((command : Commands) → AskFor words.now command → AsksAServer command → ⊥)
-        → result ≡ 3 → Rose (I.half host.old.input).faults (I.half host.new.input).faults }
+    ensures read_fault { AskNoServe words.now
+        → AskNoHost words.now
+        → AskNoServer words.now
+        → result ≡ 3 → ReadFailed I.half host.old.input host.new.input }
     ensures network_fault { (serve : ServeWords) → AskFor words.now (Command.Serve serve) → result
-        ≡ 3 → Rose (L.listening host.old.listener).faults (L.listening host.new.listener).faults }
+        ≡ 3 → ListenerFailed L.listening host.old.listener host.new.listener }
     ensures host_fault { (asked : HostWords) → AskFor words.now (Command.Host asked) → result ≡ 3
-        → Rose (L.listening host.old.listener).faults (L.listening host.new.listener).faults }
-    ensures write_fault { ((command : Commands) → AskFor words.now command → AsksAServer command
-        → ⊥)
-        → result ≡ 4 → Rose (O.half host.old.output).faults (O.half host.new.output).faults }
+        → ListenerFailed L.listening host.old.listener host.new.listener }
+    ensures write_fault { AskNoServer words.now
+        → result ≡ 4 → WriteFailed O.half host.old.output host.new.output }
     ensures link_fault { (command : Commands) → AskFor words.now command → AsksAServer command
         → result ≡ 3 → LinkFailed
         (side (D.dialing host.old.dialer)
@@ -287,13 +293,13 @@ pub fn run<
 
     // Where the listener and the output did not fail, `serve` and `host` end well, or memory lacked: however their links ended.
     ensures settled { (serve : ServeWords) → AskFor words.now (Command.Serve serve)
-        → ¬ Rose (L.listening host.old.listener).faults (L.listening host.new.listener).faults
-        → ¬ Rose (O.half host.old.output).faults (O.half host.new.output).faults
+        → ¬ ListenerFailed L.listening host.old.listener host.new.listener
+        → ¬ WriteFailed O.half host.old.output host.new.output
         → (result ≡ 0) ⊎ (result ≡ 5) }
 
     ensures host_settled { (asked : HostWords) → AskFor words.now (Command.Host asked)
-        → ¬ Rose (L.listening host.old.listener).faults (L.listening host.new.listener).faults
-        → ¬ Rose (O.half host.old.output).faults (O.half host.new.output).faults
+        → ¬ ListenerFailed L.listening host.old.listener host.new.listener
+        → ¬ WriteFailed O.half host.old.output host.new.output
         → (result ≡ 0) ⊎ (result ≡ 5) }
 
     // Neither the input, nor the output, nor the errors' sink is shut.
@@ -480,14 +486,14 @@ fn obey<
         → ((asked : HostWords) → command ≡ Command.Host asked → ⊥)
         → ((asked : ClientCommands) → command ≡ Command.Client asked → ⊥)
         → ((call : CallWords) → command ≡ Command.Call call → ⊥)
-        → result ≡ 3 → Rose (I.half host.old.input).faults (I.half host.new.input).faults }
+        → result ≡ 3 → ReadFailed I.half host.old.input host.new.input }
     ensures network_fault { (serve : ServeWords) → command ≡ Command.Serve serve → result ≡ 3
-        → Rose (L.listening host.old.listener).faults (L.listening host.new.listener).faults }
+        → ListenerFailed L.listening host.old.listener host.new.listener }
     ensures host_fault { (asked : HostWords) → command ≡ Command.Host asked → result ≡ 3
-        → Rose (L.listening host.old.listener).faults (L.listening host.new.listener).faults }
+        → ListenerFailed L.listening host.old.listener host.new.listener }
     ensures write_fault { ((asked : ClientCommands) → command ≡ Command.Client asked → ⊥)
         → ((call : CallWords) → command ≡ Command.Call call → ⊥)
-        → result ≡ 4 → Rose (O.half host.old.output).faults (O.half host.new.output).faults }
+        → result ≡ 4 → WriteFailed O.half host.old.output host.new.output }
     ensures link_fault { (asked : ClientCommands) → command ≡ Command.Client asked → result ≡ 3
         → LinkFailed
         (side (D.dialing host.old.dialer)
@@ -521,55 +527,11 @@ fn obey<
     ensures errors_open { (E.half host.new.errors).shut ≡ (E.half host.old.errors).shut }
 {
     match command {
-        Command::Answer(options) => {
-            let end = answer_input(
-                alloc,
-                &mut host.input,
-                &mut host.output,
-                &mut host.ticks,
-                &host.seed,
-                options,
-            );
-            report_end(alloc, &mut host.errors, RunEnd::Answered(end))
-        }
-        Command::Serve(serve) => {
-            let served = serve_input(
-                rt,
-                alloc,
-                &mut host.listener,
-                &mut host.output,
-                &host.seed,
-                &serve,
-            );
-            host.served = served.report;
-            report_end(alloc, &mut host.errors, served.end)
-        }
-        Command::Host(asked) => {
-            let parts = host_parts(rt, alloc, &host.seed, &asked);
-            let ended = host_input(rt, host, parts);
-            report_host(alloc, &mut host.errors, ended)
-        }
-        Command::Client(asked) => {
-            let end = ask_server(
-                alloc,
-                &mut host.dialer,
-                &mut host.talked,
-                &mut host.output,
-                asked,
-            );
-            report_end(alloc, &mut host.errors, end)
-        }
-        Command::Call(call) => {
-            let request = request_of(alloc, &host.seed, &call);
-            let end = call_object(
-                &mut host.dialer,
-                &mut host.ticks,
-                &mut host.talked,
-                &mut host.output,
-                request,
-            );
-            report_end(alloc, &mut host.errors, end)
-        }
+        Command::Answer(options) => obey_answer(alloc, host, options),
+        Command::Serve(serve) => obey_serve(rt, alloc, host, &serve),
+        Command::Host(asked) => obey_host(rt, alloc, host, &asked),
+        Command::Client(asked) => obey_client(alloc, host, asked),
+        Command::Call(call) => obey_call(alloc, host, &call),
         Command::Replay => {
             let end = replay_input(alloc, &mut host.input, &mut host.output);
             report_end(alloc, &mut host.errors, end)
@@ -595,6 +557,216 @@ fn obey<
             report_end(alloc, &mut host.errors, end)
         }
     }
+}
+
+/// Serves the input and the output as one connection, and tells the end.
+fn obey_answer<I: Source, O: Sink, E: Sink, T: Clock, L: Listener, D: Dialer, H>(
+    alloc: Global,
+    host: &mut Host<I, O, E, T, L, D, H>,
+    options: LeaseOptions,
+) -> u8
+    requires { IsInRange options }
+    ensures known { result ≢ 1 }
+    ensures answers { Answers host.old.seed options
+        (wires I.half O.half host.old.input host.old.output)
+        (wires I.half O.half host.new.input host.new.output)
+        (failures I.half O.half host.old.input host.old.output)
+        (failures I.half O.half host.new.input host.new.output)
+        (T.given host.old.ticks) (T.given host.new.ticks)
+        (told_by E.half host.old.errors host.new.errors result) }
+    ensures exact { AnswersExactly host.old.seed options
+        (wires I.half O.half host.old.input host.old.output)
+        (wires I.half O.half host.new.input host.new.output)
+        (told_by E.half host.old.errors host.new.errors result) }
+    ensures read_fault { result ≡ 3 → ReadFailed I.half host.old.input host.new.input }
+    ensures write_fault { result ≡ 4 → WriteFailed O.half host.old.output host.new.output }
+    ensures open { StayOpen I.half O.half host.old.input host.old.output host.new.input
+        host.new.output }
+    ensures errors_open { (E.half host.new.errors).shut ≡ (E.half host.old.errors).shut }
+    ensures rest { (host.new.listener ≡ host.old.listener) × (host.new.dialer ≡ host.old.dialer)
+        × (host.new.talked ≡ host.old.talked) × (host.new.seed ≡ host.old.seed)
+        × (host.new.served ≡ host.old.served) }
+{
+    let end = answer_input(
+        alloc,
+        &mut host.input,
+        &mut host.output,
+        &mut host.ticks,
+        &host.seed,
+        options,
+    );
+    report_end(alloc, &mut host.errors, RunEnd::Answered(end))
+}
+
+/// Serves links, leaves their report in the host, writes the outline, and tells the end.
+fn obey_serve<
+    't,
+    R: Threads + Wait + Sync,
+    I: Source,
+    O: Sink,
+    E: Sink,
+    T: Clock,
+    L: Listener,
+    D: Dialer,
+>(
+    rt: &'t R,
+    alloc: Global,
+    host: &mut Host<I, O, E, T, L, D, SampleHand<'t, R>>,
+    serve: &ServeWords,
+) -> u8
+    requires { IsServeInRange serve.now }
+    ensures known { result ≢ 1 }
+    ensures serves { Serving
+        (IsSampleLink L.In.half L.Out.half L.Ticks.given (serve_plan host.old.seed serve.now))
+        (IsLostLink L.In.half L.Out.half L.Ticks.given)
+        host.old.seed serve.now host.new.served (L.listening host.old.listener)
+        (L.listening host.new.listener)
+        (wires I.half O.half host.old.input host.old.output)
+        (wires I.half O.half host.new.input host.new.output)
+        (O.half host.old.output).faults (O.half host.new.output).faults
+        (told_by E.half host.old.errors host.new.errors result) }
+    ensures network_fault { result ≡ 3
+        → ListenerFailed L.listening host.old.listener host.new.listener }
+    ensures write_fault { result ≡ 4 → WriteFailed O.half host.old.output host.new.output }
+    ensures open { StayOpen I.half O.half host.old.input host.old.output host.new.input
+        host.new.output }
+    ensures errors_open { (E.half host.new.errors).shut ≡ (E.half host.old.errors).shut }
+    ensures rest { (host.new.input ≡ host.old.input) × (host.new.ticks ≡ host.old.ticks)
+        × (host.new.dialer ≡ host.old.dialer) × (host.new.talked ≡ host.old.talked)
+        × (host.new.seed ≡ host.old.seed) }
+{
+    let served = serve_input(
+        rt,
+        alloc,
+        &mut host.listener,
+        &mut host.output,
+        &host.seed,
+        serve,
+    );
+    host.served = served.report;
+    report_end(alloc, &mut host.errors, served.end)
+}
+
+/// Serves links until the listener is told to stop, and tells the end behind the lines of the links.
+fn obey_host<
+    't,
+    R: Threads + Wait + Sync,
+    I: Source,
+    O: Sink,
+    E: Sink,
+    T: Clock,
+    L: Listener,
+    D: Dialer,
+>(
+    rt: &'t R,
+    alloc: Global,
+    host: &mut Host<I, O, E, T, L, D, SampleHand<'t, R>>,
+    asked: &HostWords,
+) -> u8
+    requires { IsHostInRange asked.now }
+    ensures known { result ≢ 1 }
+    ensures hosts { Hosting R L.In.half L.Out.half L.Ticks.given host.old.seed asked.now
+        (host_side (L.listening host.old.listener) (T.given host.old.ticks)
+        (O.half host.old.output))
+        (host_side (L.listening host.new.listener) (T.given host.new.ticks)
+        (O.half host.new.output))
+        (told_by E.half host.old.errors host.new.errors result) }
+    ensures host_fault { result ≡ 3
+        → ListenerFailed L.listening host.old.listener host.new.listener }
+    ensures write_fault { result ≡ 4 → WriteFailed O.half host.old.output host.new.output }
+    ensures open { StayOpen I.half O.half host.old.input host.old.output host.new.input
+        host.new.output }
+    ensures errors_open { (E.half host.new.errors).shut ≡ (E.half host.old.errors).shut }
+    ensures rest { (host.new.input ≡ host.old.input) × (host.new.dialer ≡ host.old.dialer)
+        × (host.new.talked ≡ host.old.talked) × (host.new.seed ≡ host.old.seed)
+        × (host.new.served ≡ host.old.served) }
+{
+    let parts = host_parts(rt, alloc, &host.seed, asked);
+    let ended = host_input(rt, host, parts);
+    report_host(alloc, &mut host.errors, ended)
+}
+
+/// Asks a server, prints its answer, and tells the end.
+fn obey_client<I: Source, O: Sink, E: Sink, T: Clock, L: Listener, D: Dialer, H>(
+    alloc: Global,
+    host: &mut Host<I, O, E, T, L, D, H>,
+    asked: ClientCommand,
+) -> u8
+    ensures known { result ≢ 1 }
+    ensures asks { (given : Option (List ℕ)) → AsksServer asked
+        (side (D.dialing host.old.dialer)
+        (map (ended_as D.In.half D.Out.half) host.old.talked.items) (O.half host.old.output))
+        (side (D.dialing host.new.dialer)
+        (map (ended_as D.In.half D.Out.half) host.new.talked.items) (O.half host.new.output))
+        given given
+        (told_by E.half host.old.errors host.new.errors result) }
+    ensures link_fault { result ≡ 3 → LinkFailed
+        (side (D.dialing host.old.dialer)
+        (map (ended_as D.In.half D.Out.half) host.old.talked.items) (O.half host.old.output))
+        (side (D.dialing host.new.dialer)
+        (map (ended_as D.In.half D.Out.half) host.new.talked.items) (O.half host.new.output)) }
+    ensures sink_fault { result ≡ 4 → SinkFailed
+        (side (D.dialing host.old.dialer)
+        (map (ended_as D.In.half D.Out.half) host.old.talked.items) (O.half host.old.output))
+        (side (D.dialing host.new.dialer)
+        (map (ended_as D.In.half D.Out.half) host.new.talked.items) (O.half host.new.output)) }
+    ensures open { StayOpen I.half O.half host.old.input host.old.output host.new.input
+        host.new.output }
+    ensures errors_open { (E.half host.new.errors).shut ≡ (E.half host.old.errors).shut }
+    ensures rest { (host.new.input ≡ host.old.input) × (host.new.ticks ≡ host.old.ticks)
+        × (host.new.listener ≡ host.old.listener) × (host.new.seed ≡ host.old.seed)
+        × (host.new.served ≡ host.old.served) }
+{
+    let end = ask_server(
+        alloc,
+        &mut host.dialer,
+        &mut host.talked,
+        &mut host.output,
+        asked,
+    );
+    report_end(alloc, &mut host.errors, end)
+}
+
+/// Calls an object, prints what that returns, and tells the end.
+fn obey_call<I: Source, O: Sink, E: Sink, T: Clock, L: Listener, D: Dialer, H>(
+    alloc: Global,
+    host: &mut Host<I, O, E, T, L, D, H>,
+    call: &CallWords,
+) -> u8
+    requires { length call.now.arguments ≤ 255 }
+    ensures known { result ≢ 1 }
+    ensures calls { CallsObject host.old.seed call.now
+        (side (D.dialing host.old.dialer)
+        (map (ended_as D.In.half D.Out.half) host.old.talked.items) (O.half host.old.output))
+        (side (D.dialing host.new.dialer)
+        (map (ended_as D.In.half D.Out.half) host.new.talked.items) (O.half host.new.output))
+        (T.given host.old.ticks) (T.given host.new.ticks)
+        (told_by E.half host.old.errors host.new.errors result) }
+    ensures link_fault { result ≡ 3 → LinkFailed
+        (side (D.dialing host.old.dialer)
+        (map (ended_as D.In.half D.Out.half) host.old.talked.items) (O.half host.old.output))
+        (side (D.dialing host.new.dialer)
+        (map (ended_as D.In.half D.Out.half) host.new.talked.items) (O.half host.new.output)) }
+    ensures sink_fault { result ≡ 4 → SinkFailed
+        (side (D.dialing host.old.dialer)
+        (map (ended_as D.In.half D.Out.half) host.old.talked.items) (O.half host.old.output))
+        (side (D.dialing host.new.dialer)
+        (map (ended_as D.In.half D.Out.half) host.new.talked.items) (O.half host.new.output)) }
+    ensures open { StayOpen I.half O.half host.old.input host.old.output host.new.input
+        host.new.output }
+    ensures errors_open { (E.half host.new.errors).shut ≡ (E.half host.old.errors).shut }
+    ensures rest { (host.new.input ≡ host.old.input) × (host.new.listener ≡ host.old.listener)
+        × (host.new.seed ≡ host.old.seed) × (host.new.served ≡ host.old.served) }
+{
+    let request = request_of(alloc, &host.seed, call);
+    let end = call_object(
+        &mut host.dialer,
+        &mut host.ticks,
+        &mut host.talked,
+        &mut host.output,
+        request,
+    );
+    report_end(alloc, &mut host.errors, end)
 }
 
 /// Writes the line that tells an end, where the sink takes it, and answers the status. Where there is no memory for the line, want of

@@ -4,7 +4,6 @@ ghost use Rattle.mod_utf.specs.Utf.{utf};
 ghost use Rattle.conn_server.specs.Reports.{ServesLinks};
 ghost use Rattle.conn_server.specs.Stops.{IsLostLink};
 ghost use Rattle.conn_server.specs.declared.plan.TheConstants.{MAX_LINKS};
-ghost use Rattle.wire_io.specs.Wire.{Rose};
 ghost use Rattle.wire_io.specs.declared.limits.TheConstants.{MAX_HOST_BYTES};
 ghost use Rattle.history.specs.Outline.{outline};
 ghost use Rattle.turn_lock.specs.Handles.{IsFresh, opening_of};
@@ -12,7 +11,8 @@ ghost use Rattle.sample_app.specs.Kinds.{sample_kinds};
 ghost use Rattle.rmi_cli.specs.Line.{status_of_run};
 ghost use Rattle.rmi_cli.specs.Opening.{served_opening};
 ghost use Rattle.rmi_words.specs.Options.{IsServeInRange};
-ghost use Rattle.rmi_cli.specs.ServedLinks.{serve_plan, IsSampleLink, ListensAlone, Printed, ServeEnds, end_after};
+ghost use Rattle.rmi_cli.specs.ServedLinks.{serve_plan, IsSampleLink, ListensAlone, PrintedOn, ServeEnds, end_after};
+ghost use Rattle.rmi_cli.specs.Told.{ListenerFailed, WriteFailed};
 
 use crate::end::RunEnd;
 use crate::loopback::loopback_host;
@@ -69,10 +69,9 @@ pub fn serve_input<'t, R: Threads + Wait + Sync, L: Listener, K: Sink>(
     ensures ends { ServeEnds (K.half sink.old).held (K.half sink.new).held (K.half sink.old).faults
         (K.half sink.new).faults result.report result.end }
     ensures known { status_of_run result.end ≢ 1 }
-    ensures fault { status_of_run result.end ≡ 3 → Rose (L.listening listener.old).faults
-        (L.listening listener.new).faults }
-    ensures write_fault { status_of_run result.end ≡ 4
-        → Rose (K.half sink.old).faults (K.half sink.new).faults }
+    ensures fault { status_of_run result.end ≡ 3
+        → ListenerFailed L.listening listener.old listener.new }
+    ensures write_fault { status_of_run result.end ≡ 4 → WriteFailed K.half sink.old sink.new }
     ensures open { (K.half sink.new).shut ≡ (K.half sink.old).shut }
 {
     match serve_parts(rt, alloc, seed, words) {
@@ -105,10 +104,9 @@ fn serve_on<'t, R: Threads + Wait + Sync, L: Listener, K: Sink>(
     ensures ends { ServeEnds (K.half sink.old).held (K.half sink.new).held (K.half sink.old).faults
         (K.half sink.new).faults result.report result.end }
     ensures known { status_of_run result.end ≢ 1 }
-    ensures fault { status_of_run result.end ≡ 3 → Rose (L.listening listener.old).faults
-        (L.listening listener.new).faults }
-    ensures write_fault { status_of_run result.end ≡ 4
-        → Rose (K.half sink.old).faults (K.half sink.new).faults }
+    ensures fault { status_of_run result.end ≡ 3
+        → ListenerFailed L.listening listener.old listener.new }
+    ensures write_fault { status_of_run result.end ≡ 4 → WriteFailed K.half sink.old sink.new }
     ensures open { (K.half sink.new).shut ≡ (K.half sink.old).shut }
 {
     if listener.listen("127.0.0.1", port).is_err() {
@@ -139,7 +137,7 @@ fn serve_links<'t, R: Threads + Wait + Sync, L: Listener>(
         (L.listening listener.new).accepted result }
     ensures ports { (L.listening listener.new).ports ≡ (L.listening listener.old).ports }
     ensures fault { result.stop ≡ Stop.AcceptFault
-        → Rose (L.listening listener.old).faults (L.listening listener.new).faults }
+        → ListenerFailed L.listening listener.old listener.new }
     ensures faults { (L.listening listener.old).faults ≤ (L.listening listener.new).faults }
 {
     let ServeParts {
@@ -168,8 +166,7 @@ fn nothing_served<I, O, T, H>(end: RunEnd) -> ServeOutcome<I, O, T, H>
 /// Writes the outline of the space that is left, and answers how that ended.
 fn print_outline<K: Sink>(alloc: Global, sink: &mut K, space: &Space) -> RunEnd
     requires { space.now.configuration.stored ≡ true }
-    ensures printed { Printed (K.half sink.old).held (K.half sink.new).held (K.half sink.old).faults
-        (K.half sink.new).faults
+    ensures printed { PrintedOn K.half sink.old sink.new
         (outline space.now.configuration space.now.events) result }
     ensures open { (K.half sink.new).shut ≡ (K.half sink.old).shut }
 {

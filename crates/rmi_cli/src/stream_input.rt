@@ -1,10 +1,10 @@
 //! `show` over the program's input and output.
 ghost use Rattle.std.specs.Prelude.{◌≡◌, ◌≢◌, IfOk, IfErr};
-ghost use Rattle.wire_io.specs.Wire.{Rose, wires};
+ghost use Rattle.wire_io.specs.Wire.{wires};
 ghost use Rattle.ser_read.specs.Here.{Caused};
 ghost use Rattle.rmi_cli.specs.Line.{status_of_run};
 ghost use Rattle.rmi_cli.specs.Shown.{TakesGraph, IsFaultOf, StopsAt, ShowEnds, EndsExactly};
-ghost use Rattle.rmi_cli.specs.Told.{StayOpen};
+ghost use Rattle.rmi_cli.specs.Told.{ReadFailed, StayOpen, WriteFailed};
 
 use crate::end::RunEnd;
 use graph_text::graph_text;
@@ -27,10 +27,8 @@ pub fn show_input<S: Source, K: Sink>(alloc: Global, source: &mut S, sink: &mut 
     ensures exact { EndsExactly (wires S.half K.half source.old sink.old)
         (wires S.half K.half source.new sink.new) result }
     ensures known { status_of_run result ≢ 1 }
-    ensures read_fault { status_of_run result ≡ 3
-        → Rose (S.half source.old).faults (S.half source.new).faults }
-    ensures write_fault { status_of_run result ≡ 4
-        → Rose (K.half sink.old).faults (K.half sink.new).faults }
+    ensures read_fault { status_of_run result ≡ 3 → ReadFailed S.half source.old source.new }
+    ensures write_fault { status_of_run result ≡ 4 → WriteFailed K.half sink.old sink.new }
     ensures open { StayOpen S.half K.half source.old sink.old source.new sink.new }
 {
     let graph = match read_input(alloc, source) {

@@ -13,6 +13,7 @@ use Rattle.ser_read.specs.declared.fault.Large.TheVariants as larges
 use Rattle.ser_read.specs.Here.{fault_of, Caused}
 use Rattle.ser_read.specs.Wants.{WantFault, inside, fault_at, WantFails}
 use Rattle.ser_read.proofs.Pulling.{byte_ends, byte_passes}
+use Rattle.ser_read.proofs.Breaking.{no_byte}
 use Rattle.rmi_client.specs.Ends.{end_of, end_by, IsOutside, BlamesRead}
 use Rattle.rmi_client.specs.Replies.{IsTold, to_come, past_fault, NoCode}
 use Rattle.rmi_client.specs.declared.end.ReplyKind.TheVariants as replies
@@ -53,10 +54,6 @@ fault_ends more (faults.Bad kind at) read h = inr (record { fault = fault_at kin
 
 -- ---- no first byte
 
-pub none_come : (bs : List ℕ) → byte_at bs ≡ Err short → bs ≡ []
-none_come [] h = refl
-none_come (b ∷ bs) h = absurd cc
-
 -- Nothing comes, and the end is that of who wants a byte more.
 pub record ComesToEnd (old : PullState) (end : ClientEnd) : Type 0 where
   pub none : to_come old ≡ []
@@ -68,10 +65,10 @@ no_code_ends old new end h told = go h.why h.memory h.stops h.is
     go : (why : PullEnd) → why ≢ pulls.OutOfMemory → Stops old new why → end ≡ end_of (fault_of why) → IsOutside end ⊎ ComesToEnd old end
     go (pulls.End at) memory stops is =
         let f = byte_ends old new stops.1 stops.2 told in
-        inr (record { none = none_come (to_come old) f.0; is = is ∙ ap ends.Truncated stops.0 ∙ ap end_of (sym f.1) })
+        inr (record { none = no_byte (to_come old) f.0; is = is ∙ ap ends.Truncated stops.0 ∙ ap end_of (sym f.1) })
     go (pulls.Limit at) memory stops is =
         let f = byte_passes old new stops.1 told in
-        inr (record { none = none_come (to_come old) f.0; is = is ∙ ap (ends.TooLarge larges.Bytes) stops.0 ∙ ap end_of (sym f.1) })
+        inr (record { none = no_byte (to_come old) f.0; is = is ∙ ap (ends.TooLarge larges.Bytes) stops.0 ∙ ap end_of (sym f.1) })
     go pulls.ReadFault memory stops is = inl (subst IsOutside (sym is) tt)
     go pulls.OutOfMemory memory stops is = absurd (memory refl)
 

@@ -1,12 +1,13 @@
 -- Why a client has no answer, beside the faults of what is read.
 use Rattle.std.specs.Prelude.{◌≡◌, ◌⊎◌, ℕ, ◌≤◌, Bool, true, false, Result, Ok, Err}
 use Rattle.wire_io.specs.Wire.{Rose}
-use Rattle.stream_grammar.specs.Reading.{FaultKind, short, bad, too_many, too_deep, bad_magic, bad_code, bad_handle, wrong_handle_kind, bad_desc, bad_utf, negative_length, reset, inner_exception, old_external}
+use Rattle.stream_grammar.specs.Reading.{short, bad, too_many, too_deep}
 use Rattle.ser_read.specs.declared.fault.StreamKind.{StreamKind}
 use Rattle.ser_read.specs.declared.fault.StreamKind.TheVariants as kinds
 use Rattle.ser_read.specs.declared.fault.StreamFault.{StreamFault}
 use Rattle.ser_read.specs.declared.fault.StreamFault.TheVariants as faults
 use Rattle.ser_read.specs.declared.fault.Large.TheVariants as larges
+use Rattle.ser_read.specs.Here.{stream_kind}
 use Rattle.ser_read.specs.Wants.{WantFault, inside, missing_block, block_left}
 use Rattle.rmi_client.specs.declared.end.ReplyKind.TheVariants as replies
 use Rattle.rmi_client.specs.declared.end.ClientEnd.{ClientEnd}
@@ -21,19 +22,6 @@ end_of faults.ReadFault = ends.ReadFault
 end_of faults.OutOfMemory = ends.OutOfMemory
 
 -- ---- the end that bytes come to
-
--- the kind of a fault of what is read
-abbrev pub stream_kind : FaultKind → StreamKind
-stream_kind bad_magic = kinds.BadMagic
-stream_kind bad_code = kinds.BadCode
-stream_kind bad_handle = kinds.BadHandle
-stream_kind wrong_handle_kind = kinds.WrongHandleKind
-stream_kind bad_desc = kinds.BadDesc
-stream_kind bad_utf = kinds.BadUtf
-stream_kind negative_length = kinds.NegativeLength
-stream_kind reset = kinds.Reset
-stream_kind inner_exception = kinds.InnerException
-stream_kind old_external = kinds.OldExternal
 
 -- the end where reading a stream gives this; `after` is the fault of who wants one byte more than there are
 abbrev pub end_by : StreamFault → WantFault → ClientEnd

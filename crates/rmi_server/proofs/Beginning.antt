@@ -40,14 +40,14 @@ use Rattle.space.proofs.NotedLaws.{taken-turn}
 use Rattle.space.proofs.Quiet.{adds-are, adds-length}
 use Rattle.space.proofs.Room.{calls-are, exports-is, full-is}
 use Rattle.space.specs.TurnAnswers.{IsRefusalOf}
-use Rattle.space.specs.Built.{SpaceHistory}
+use Rattle.space.specs.Built.{open_event, SpaceHistory}
 use Rattle.rmi_server.specs.declared.serving.ServeFault.{ServeFault}
 use Rattle.rmi_server.specs.declared.serving.ServeFault.TheVariants.{NameTooLong, NameTaken, TooManyNames, OutOfMemory as NoMemory}
 use Rattle.rmi_server.specs.declared.site.Named.{Named}
 use Rattle.rmi_server.specs.SiteFaults.{AreSoundNames, HasShortName, IsBound, RefusesBind, RefusesEvent, RefusesNamed, RefusesNames, RefusesSite, names_of}
 use Rattle.rmi_server.specs.declared.site.Site.{Site}
 use Rattle.rmi_server.specs.Begun.{HasCounts, IsBegun}
-use Rattle.rmi_server.specs.Opens.{bind_event, open_event, opened_events}
+use Rattle.rmi_server.specs.Opens.{bind_event, opened_events}
 
 -- ---- no event yet
 

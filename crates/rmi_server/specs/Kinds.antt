@@ -1,8 +1,9 @@
 -- Kinds from their texts.
-use Rattle.std.specs.Prelude.{◌≤◌, ◌<◌, ◌⊎◌, ℕ, List, length, All, Contains}
+use Rattle.std.specs.Prelude.{◌≤◌, ◌<◌, ◌⊎◌, ℕ, List, length, map, All, Contains}
 use Rattle.mod_utf.specs.Utf.{utf}
 use Rattle.method_hash.specs.MethodText.{IsUnread}
 use Rattle.system_objects.specs.Book.{FaultsBook}
+use Rattle.method_hash.specs.declared.method.Method.{Method}
 use Rattle.method_hash.specs.declared.method.MethodFault.{MethodFault}
 use Rattle.method_hash.specs.declared.method.MethodFault.TheVariants as methods
 use Rattle.system_objects.specs.declared.book.BookFault.{BookFault}
@@ -14,6 +15,10 @@ use Rattle.rmi_server.specs.declared.kinds.KindFault.TheVariants.{BadMethod, Flo
 -- A kind's name and the list of its methods are short enough.
 abbrev pub IsShort : Kind → Type 0
 IsShort kind = (length (utf kind.interface) ≤ 65535) × (length kind.methods ≤ 65535)
+
+-- the texts of methods
+abbrev pub texts_of : List Method → List (List ℕ)
+texts_of methods = map (λ method. method.text) methods
 
 -- why a text gives no kind
 abbrev pub method_fault : MethodFault → KindFault

@@ -1,15 +1,17 @@
 -- The history with which a server begins.
-use Rattle.std.specs.Prelude.{ℕ, ◌+◌, true, List, [], ◌∷◌}
+use Rattle.std.specs.Prelude.{ℕ, ◌+◌, List, [], ◌∷◌}
 use Rattle.object_ids.specs.declared.ids.ObjId.{ObjId}
 use Rattle.object_ids.specs.declared.ids.Uid.{Uid}
 use Rattle.history.specs.declared.asks.Event.{Event}
-use Rattle.history.specs.declared.asks.Ask.TheVariants.{Open, Bind}
-use Rattle.history.specs.Places.{id_at}
+use Rattle.history.specs.declared.asks.Ask.TheVariants.{Bind}
+use Rattle.history.specs.Places.{exported_count, id_at}
+use Rattle.history.specs.Table.{places}
+use Rattle.space.specs.Built.{SpaceHistory, open_event}
 use Rattle.rmi_server.specs.declared.site.Named.{Named}
 
--- The server exports an object of a kind for good.
-abbrev pub open_event : ℕ → Event
-open_event kind = record { by = 0; moment = 0; ask = Open kind true }
+-- The object that a space exports next.
+abbrev pub next_object : SpaceHistory → ObjId
+next_object space = id_at space.configuration.uid (exported_count (places space.configuration space.events))
 
 -- The server binds a name to an object.
 abbrev pub bind_event : List ℕ → ObjId → Event

@@ -2,8 +2,12 @@
 use Rattle.std.specs.Prelude.{◌≡◌, ◌≢◌, ◌⊎◌, ℕ, List, [], ◌∷◌, slice_get, Option, Some, None, Result, Ok, Err}
 use Rattle.class_desc.specs.declared.slot.Slot.{Slot}
 use Rattle.class_desc.specs.declared.slot.Item.TheVariants as contents
+use Rattle.java_shapes.specs.LiveRefs.{live_ref_at}
+use Rattle.java_shapes.specs.Objects.{text_at}
 use Rattle.java_shapes.specs.declared.fault.ShapeFault.{ShapeFault}
 use Rattle.java_shapes.specs.declared.fault.ShapeFault.TheVariants as shapes
+use Rattle.java_shapes.specs.declared.ref_views.LiveRef.{LiveRef}
+use Rattle.call_dispatch.specs.declared.outcome.Invocation.{Invocation}
 use Rattle.jrmp_frames.specs.declared.arguments.Arg.{Arg}
 use Rattle.jrmp_frames.specs.declared.arguments.Arg.TheVariants as arguments
 use Rattle.ser_values.specs.declared.value.Value.{Value}
@@ -65,6 +69,24 @@ ReadsPart nodes place slot (Err fault) = (fault ≡ WrongArgument place wanted_k
 abbrev pub ReadsGraph : List Node → ℕ → Option Slot → Result Graph CallFault → Type 0
 ReadsGraph nodes place (Some slot) result = ReadsPart nodes place slot result
 ReadsGraph nodes place None result = result ≡ Err (WrongArgument place wanted_kinds.Object)
+
+-- ---- what is read of a call
+
+-- The number, character or truth value of a kind that is the argument at a place, or the fault that names the place and the type.
+abbrev pub ReadsPrimitive : {T : Type 0} → (T → Value) → Wanted → Invocation → ℕ → Result T CallFault → Type 0
+ReadsPrimitive kind wanted call place result = ReadsValue kind wanted place (value_at call.arguments.values place) result
+
+-- The text that is the argument at a place, as its 16-bit units.
+abbrev pub ReadsText : Invocation → ℕ → Result (List ℕ) CallFault → Type 0
+ReadsText call place result = ReadsAt (text_at call.arguments.graph.nodes) wanted_kinds.Text place (slot_at call.arguments.values place) result
+
+-- The reference to a remote object that is the argument at a place.
+abbrev pub ReadsReference : Invocation → ℕ → Result LiveRef CallFault → Type 0
+ReadsReference call place result = ReadsAt (live_ref_at call.arguments.graph.nodes) wanted_kinds.Reference place (slot_at call.arguments.values place) result
+
+-- The object that is the argument at a place, with all that it refers to.
+abbrev pub ReadsObject : Invocation → ℕ → Result Graph CallFault → Type 0
+ReadsObject call place result = ReadsGraph call.arguments.graph.nodes place (slot_at call.arguments.values place) result
 
 -- The fault of an argument that was not read as a type.
 abbrev pub shape_fault : ShapeFault → ℕ → Wanted → CallFault

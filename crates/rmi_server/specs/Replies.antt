@@ -2,8 +2,10 @@
 use Rattle.std.specs.Prelude.{◌≡◌, ℕ, List, [], ◌∷◌, Result, Ok, Err}
 use Rattle.class_desc.specs.declared.slot.Item.{Item}
 use Rattle.class_desc.specs.declared.slot.Item.TheVariants as contents
+use Rattle.class_desc.specs.declared.slot.Slot.{Slot}
 use Rattle.class_desc.specs.declared.slot.Slot.TheVariants as slots
 use Rattle.ser_values.specs.declared.value.Value.TheVariants as values
+use Rattle.ser_values.specs.declared.graph.Graph.{Graph}
 use Rattle.ser_values.specs.declared.node.Node.{Node}
 use Rattle.ser_values.specs.declared.node.Node.TheVariants as nodes
 use Rattle.ser_values.specs.Finished.{IsGraphOf}
@@ -15,6 +17,10 @@ use Rattle.rmi_server.specs.declared.reply.Reply.{Reply}
 use Rattle.rmi_server.specs.declared.reply.Reply.TheVariants.{Void, Boolean, Byte, Char, Short, Int, Long, Null, Text, Texts, New, Object}
 use Rattle.rmi_server.specs.declared.reply.Reply.TheVariants as replies
 use Rattle.rmi_server.specs.Faults.{FaultGives}
+
+-- The graph is that of these loose nodes whose one item is this reference.
+abbrev pub IsGraphAt : List Node → Slot → Graph → Type 0
+IsGraphAt nodes slot graph = IsGraphOf nodes (contents.Ref slot ∷ []) graph.nodes graph.items
 
 -- These are the nodes and the items of a list of texts.
 abbrev pub IsTextsGraph : List (List ℕ) → List Node → List Item → Type 0

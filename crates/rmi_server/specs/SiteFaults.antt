@@ -1,5 +1,5 @@
 -- Why a site is not served.
-use Rattle.std.specs.Prelude.{◌≡◌, ◌≤◌, ◌<◌, ℕ, true, false, List, length, map, All, Some, None}
+use Rattle.std.specs.Prelude.{◌≡◌, ◌≤◌, ◌<◌, ◌⊎◌, ℕ, true, false, List, length, map, All, Some, None}
 use Rattle.std.specs.List.{list_any}
 use Rattle.mod_utf.specs.Utf.{utf}
 use Rattle.object_ids.specs.declared.ids.ObjId.{ObjId}
@@ -48,6 +48,10 @@ RefusesSite site HostTooLong = MAX_HOST_BYTES < length (utf site.host.now)
 RefusesSite site NoSeed = ⊥
 RefusesSite site ListenFault = ⊥
 RefusesSite site OutOfMemory = Unit {0}
+
+-- The address and port of a site can't be listened on, or the site is refused.
+abbrev pub RefusesListening : Site → ServeFault → Type 0
+RefusesListening site fault = (fault ≡ ListenFault) ⊎ RefusesSite site fault
 
 -- Each name is short, no two objects have one name, and there are no more names than a registry has.
 pub record AreSoundNames (objects : List Named) : Type 0 where

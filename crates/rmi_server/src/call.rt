@@ -1,8 +1,14 @@
 //! A call, as a service gets it.
 ghost use Rattle.std.specs.Prelude.{◌≡◌};
-ghost use Rattle.java_shapes.specs.LiveRefs.{live_ref_at};
-ghost use Rattle.java_shapes.specs.Objects.{text_at};
-ghost use Rattle.rmi_server.specs.Reading.{ReadsAt, ReadsGraph, ReadsValue, slot_at, shape_fault, value_at};
+ghost use Rattle.rmi_server.specs.Reading.{
+  ReadsObject,
+  ReadsPrimitive,
+  ReadsReference,
+  ReadsText,
+  slot_at,
+  shape_fault,
+  value_at,
+};
 ghost use Rattle.ser_values.specs.declared.value.Value.TheVariants as values;
 ghost use Rattle.rmi_server.specs.declared.fault.Wanted.TheVariants as wanted_kinds;
 
@@ -79,8 +85,7 @@ impl Call<'_> {
 
     /// The `boolean` at a place. WrongArgument comes exactly where there is none.
     pub fn boolean(&self, place: usize) -> Result<bool, CallFault>
-        ensures { ReadsValue values.Boolean wanted_kinds.Boolean place
-            (value_at self.now.invocation.now.arguments.values place) result }
+        ensures { ReadsPrimitive values.Boolean wanted_kinds.Boolean self.now.invocation.now place result }
     {
         match self.value(place) {
             Some(Value::Boolean(value)) => Ok(value),
@@ -90,8 +95,7 @@ impl Call<'_> {
 
     /// The bits of the `byte` at a place. WrongArgument comes exactly where there is none.
     pub fn byte(&self, place: usize) -> Result<u8, CallFault>
-        ensures { ReadsValue values.Byte wanted_kinds.Byte place
-            (value_at self.now.invocation.now.arguments.values place) result }
+        ensures { ReadsPrimitive values.Byte wanted_kinds.Byte self.now.invocation.now place result }
     {
         match self.value(place) {
             Some(Value::Byte(value)) => Ok(value),
@@ -101,8 +105,7 @@ impl Call<'_> {
 
     /// The `char` at a place. WrongArgument comes exactly where there is none.
     pub fn char(&self, place: usize) -> Result<u16, CallFault>
-        ensures { ReadsValue values.Char wanted_kinds.Char place
-            (value_at self.now.invocation.now.arguments.values place) result }
+        ensures { ReadsPrimitive values.Char wanted_kinds.Char self.now.invocation.now place result }
     {
         match self.value(place) {
             Some(Value::Char(value)) => Ok(value),
@@ -112,8 +115,7 @@ impl Call<'_> {
 
     /// The `short` at a place. WrongArgument comes exactly where there is none.
     pub fn short(&self, place: usize) -> Result<i16, CallFault>
-        ensures { ReadsValue values.Short wanted_kinds.Short place
-            (value_at self.now.invocation.now.arguments.values place) result }
+        ensures { ReadsPrimitive values.Short wanted_kinds.Short self.now.invocation.now place result }
     {
         match self.value(place) {
             Some(Value::Short(value)) => Ok(value),
@@ -123,8 +125,7 @@ impl Call<'_> {
 
     /// The `int` at a place. WrongArgument comes exactly where there is none.
     pub fn int(&self, place: usize) -> Result<i32, CallFault>
-        ensures { ReadsValue values.Int wanted_kinds.Int place
-            (value_at self.now.invocation.now.arguments.values place) result }
+        ensures { ReadsPrimitive values.Int wanted_kinds.Int self.now.invocation.now place result }
     {
         match self.value(place) {
             Some(Value::Int(value)) => Ok(value),
@@ -134,8 +135,7 @@ impl Call<'_> {
 
     /// The `long` at a place. WrongArgument comes exactly where there is none.
     pub fn long(&self, place: usize) -> Result<i64, CallFault>
-        ensures { ReadsValue values.Long wanted_kinds.Long place
-            (value_at self.now.invocation.now.arguments.values place) result }
+        ensures { ReadsPrimitive values.Long wanted_kinds.Long self.now.invocation.now place result }
     {
         match self.value(place) {
             Some(Value::Long(value)) => Ok(value),
@@ -145,8 +145,7 @@ impl Call<'_> {
 
     /// The `String` at a place. WrongArgument comes exactly where there is none, as where it is null.
     pub fn string(&self, place: usize) -> Result<Units, CallFault>
-        ensures { ReadsAt (text_at self.now.invocation.now.arguments.graph.nodes) wanted_kinds.Text
-            place (slot_at self.now.invocation.now.arguments.values place) result }
+        ensures { ReadsText self.now.invocation.now place result }
     {
         let Some(slot) = self.slot(place) else {
             return Err(wrong(place, Wanted::Text));
@@ -159,9 +158,7 @@ impl Call<'_> {
 
     /// The reference to a remote object at a place. WrongArgument comes exactly where there is none, as where it is null.
     pub fn reference(&self, place: usize) -> Result<LiveRef, CallFault>
-        ensures { ReadsAt (live_ref_at self.now.invocation.now.arguments.graph.nodes)
-            wanted_kinds.Reference place (slot_at self.now.invocation.now.arguments.values place)
-            result }
+        ensures { ReadsReference self.now.invocation.now place result }
     {
         let Some(slot) = self.slot(place) else {
             return Err(wrong(place, Wanted::Reference));
@@ -175,8 +172,7 @@ impl Call<'_> {
     /// The object at a place, or null, with all that it refers to: a graph whose one item it is. WrongArgument comes where the argument is no
     /// reference, or where its part of the call's graph is no graph of its own.
     pub fn graph(&self, place: usize) -> Result<Graph, CallFault>
-        ensures { ReadsGraph self.now.invocation.now.arguments.graph.nodes place
-            (slot_at self.now.invocation.now.arguments.values place) result }
+        ensures { ReadsObject self.now.invocation.now place result }
     {
         let Some(slot) = self.slot(place) else {
             return Err(wrong(place, Wanted::Object));

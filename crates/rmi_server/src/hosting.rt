@@ -1,9 +1,6 @@
 //! Hosting a service: serving it until its listener is told to stop.
-ghost use Rattle.std.specs.Prelude.{◌≡◌, ◌≤◌, ◌+◌, ◌⊎◌, false, IfOk, IfErr, OnOk, OnErr};
-ghost use Rattle.wire_io.specs.Wire.{Rose};
-ghost use Rattle.conn_server.specs.Hosts.{FailedTimes};
-ghost use Rattle.conn_server.specs.declared.host_loop.TheConstants.{MAX_IDLE_TRIES};
-ghost use Rattle.rmi_server.specs.Served.{IsHostedBy};
+ghost use Rattle.std.specs.Prelude.{◌≡◌, ◌≤◌, false, IfOk, IfErr, OnOk, OnErr};
+ghost use Rattle.rmi_server.specs.Served.{GaveUpLate, IsHostedBy, RanToItsEnd, door_shown};
 ghost use Rattle.rmi_server.specs.SiteFaults.{IsSound, RefusesSite};
 
 use crate::crew::ServiceHand;
@@ -11,7 +8,7 @@ use crate::service::Service;
 use crate::serving::{Extent, ServeFault, ServeParts, parts_of};
 use crate::site::Site;
 use conn_server::plan::LAST_NUMBER;
-use conn_server::{DropsReports, HostBegin, Hosted, LinkReport, MAX_LIVE, Server, Stop};
+use conn_server::{DropsReports, HostBegin, Hosted, LinkReport, MAX_LIVE, Server};
 use std::alloc::Global;
 use std::sync::Wait;
 use std::thread::Threads;
@@ -52,19 +49,13 @@ pub fn host<'t, R: Threads + Wait + Sync, L: Listener, Q: Clock, S: Service + Se
 ) -> Result<HostedService<'t, R, S, L::In, L::Out, L::Ticks>, ServeFault>
     ensures hosts { IfOk result
         (IsHostedBy S.may_answer L.In.half L.Out.half L.Ticks.given site.now
-        (L.listening door.old.listener) (L.listening door.new.listener)
-        (Q.given door.old.ticks) (Q.given door.new.ticks)) }
+        (door_shown L.listening Q.given door.old) (door_shown L.listening Q.given door.new)) }
     ensures unrecorded { IfOk result (λ hosted. hosted.whole ≡ false) }
     ensures sound { OnOk result (IsSound site.now) }
     ensures causes { IfErr result (RefusesSite site.now) }
     ensures err { OnErr result (door.new ≡ door.old) }
-    ensures fault { IfOk result (λ hosted. hosted.stop ≡ Stop.AcceptFault →
-        FailedTimes (MAX_IDLE_TRIES + 1)
-        (L.listening door.old.listener).faults (L.listening door.new.listener).faults) }
-    ensures all { IfOk result (λ hosted.
-        (¬ Rose (L.listening door.old.listener).faults (L.listening door.new.listener).faults) →
-        (hosted.stop ≡ Stop.Told)
-        ⊎ ((hosted.stop ≡ Stop.All) ⊎ (hosted.stop ≡ Stop.OutOfMemory))) }
+    ensures fault { IfOk result (GaveUpLate L.listening door.old.listener door.new.listener) }
+    ensures all { IfOk result (RanToItsEnd L.listening door.old.listener door.new.listener) }
     ensures ports { (L.listening door.new.listener).ports
         ≡ (L.listening door.old.listener).ports }
     ensures faults { (L.listening door.old.listener).faults

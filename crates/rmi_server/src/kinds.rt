@@ -1,6 +1,6 @@
 //! Kinds of objects, from the texts by which Java knows them.
 ghost use Rattle.std.specs.Prelude.{◌≡◌, ◌↔◌, All, map, IfOk, IfErr, IsTrue};
-ghost use Rattle.rmi_server.specs.Kinds.{IsShort, RefusesKinds, RefusesTexts};
+ghost use Rattle.rmi_server.specs.Kinds.{IsShort, RefusesKinds, RefusesTexts, texts_of};
 
 use call_dispatch::{Book, BookFault, Kind, KindList};
 use method_hash::{Method, MethodFault, MethodList};
@@ -77,8 +77,7 @@ impl From<BookFault> for KindFault {
 
 /// The methods of these texts, in their order. BadMethod comes where a text is no method's.
 fn methods_of(alloc: Global, texts: &[&str]) -> Result<MethodList, KindFault>
-    ensures ok { IfOk result (λ methods. map (λ method. method.text) methods
-        ≡ map (λ text. text.now) texts.now) }
+    ensures ok { IfOk result (λ methods. texts_of methods ≡ map (λ text. text.now) texts.now) }
     ensures err { IfErr result (RefusesTexts (map (λ text. text.now) texts.now)) }
 {
     let mut methods = MethodList::new(alloc);
@@ -92,8 +91,8 @@ fn methods_of(alloc: Global, texts: &[&str]) -> Result<MethodList, KindFault>
 /// is a class's full name in ASCII, as `example.Ledger`. BadMethod comes where a text is no method's.
 pub fn kind(alloc: Global, interface: &str, methods: &[&str]) -> Result<Kind, KindFault>
     ensures interface { IfOk result (λ kind. kind.interface ≡ interface.now) }
-    ensures methods { IfOk result (λ kind. map (λ method. method.text) kind.methods
-        ≡ map (λ text. text.now) methods.now) }
+    ensures methods { IfOk result
+        (λ kind. texts_of kind.methods ≡ map (λ text. text.now) methods.now) }
     ensures err { IfErr result (RefusesTexts (map (λ text. text.now) methods.now)) }
 {
     Ok(Kind {

@@ -19,8 +19,8 @@
 //! - The outcome of each call is that of an answer which the service gave to this very call
 //!   (`IsAnswer`, `May`). An author who says which answers the service may give (`may_answer`) has
 //!   this said of each call by `IsServedBy` and `IsHostedBy`.
-//! - `Call` reads an argument exactly if one of that type is at its place (`ReadsAt`,
-//!   `ReadsGraph`, `ReadsValue`).
+//! - `Call` reads an argument exactly if one of that type is at its place (`ReadsPrimitive`,
+//!   `ReadsText`, `ReadsReference`, `ReadsObject`).
 //! - `kind` and `book_of` refuse for the faults that `RefusesTexts` and `RefusesKinds` name.
 //!   `ServeFault` names a fault that the site has (`RefusesSite`). A site that is served has none
 //!   in its names or its host (`IsSound`).

@@ -1,18 +1,15 @@
 //! The space in which a server's first objects are exported.
-ghost use Rattle.std.specs.Prelude.{◌≡◌, ◌≤◌, ◌++◌, ◌∷◌, [], List, length, IfOk, IfErr, OnOk};
+ghost use Rattle.std.specs.Prelude.{◌≡◌, ◌≤◌, ◌++◌, ◌∷◌, [], length, IfOk, IfErr, OnOk};
 ghost use Rattle.history.specs.declared.limits.TheConstants.{MAX_NAME_UNITS};
-ghost use Rattle.history.specs.Places.{exported_count, id_at};
-ghost use Rattle.history.specs.Table.{places};
-ghost use Rattle.rmi_server.specs.Begun.{IsBegun};
-ghost use Rattle.rmi_server.specs.Opens.{bind_event, open_event};
-ghost use Rattle.rmi_server.specs.declared.site.Named.{Named};
+ghost use Rattle.space.specs.Built.{open_event};
+ghost use Rattle.rmi_server.specs.Begun.{IsBegun, OpensFurther, RefusesFurther};
+ghost use Rattle.rmi_server.specs.Opens.{bind_event, next_object};
 ghost use Rattle.rmi_server.specs.SiteFaults.{
   AreSoundNames,
   IsBound,
   RefusesBind,
   RefusesEvent,
   RefusesName,
-  RefusesNamed,
   RefusesNames,
   RefusesSite,
 };
@@ -29,8 +26,7 @@ use std::alloc::Global;
 /// Exports a new object of a kind for good. Connection 0 is the server's own.
 fn open(space: &mut Space, kind: u32) -> Result<ObjId, ServeFault>
     ensures opens { OnOk result (space.new.events ≡ space.old.events ++ open_event kind ∷ []) }
-    ensures object { IfOk result (λ object. object ≡ id_at space.old.configuration.uid
-        (exported_count (places space.old.configuration space.old.events))) }
+    ensures object { IfOk result (λ object. object ≡ next_object space.old) }
     ensures config { space.new.configuration ≡ space.old.configuration }
     ensures causes { IfErr result (RefusesEvent space.old (open_event kind)) }
 {
@@ -79,13 +75,9 @@ fn bind(alloc: Global, space: &mut Space, name: &str, object: ObjId) -> Result<(
 
 /// Exports an object that is there from the start, and binds its name.
 fn add(alloc: Global, space: &mut Space, named: &Named<'_>) -> Result<(), ServeFault>
-    ensures opens { OnOk result ((before : List Named) →
-        IsBegun space.old.configuration before space.old.events →
-        IsBegun space.old.configuration (before ++ named.now ∷ []) space.new.events) }
+    ensures opens { OnOk result (OpensFurther space.old named.now space.new) }
     ensures config { space.new.configuration ≡ space.old.configuration }
-    ensures causes { IfErr result (λ fault. (before : List Named) →
-        IsBegun space.old.configuration before space.old.events →
-        RefusesNamed before named.now fault) }
+    ensures causes { IfErr result (RefusesFurther space.old named.now) }
 {
     match open(space, named.kind) {
         Ok(object) => bind(alloc, space, named.name, object),

@@ -4,7 +4,13 @@ ghost use Rattle.class_desc.specs.declared.slot.Item.TheVariants as contents;
 ghost use Rattle.class_desc.specs.declared.slot.Slot.TheVariants as slots;
 ghost use Rattle.ser_values.specs.declared.node.Node.TheVariants as nodes;
 ghost use Rattle.ser_values.specs.Finished.{IsGraphOf};
-ghost use Rattle.rmi_server.specs.Replies.{AnswerGives, GivesTree, IsTextsGraph, ReplyGives};
+ghost use Rattle.rmi_server.specs.Replies.{
+  AnswerGives,
+  GivesTree,
+  IsGraphAt,
+  IsTextsGraph,
+  ReplyGives,
+};
 
 use crate::fault::{CallFault, outcome_of_fault};
 use call_dispatch::Outcome;
@@ -48,8 +54,7 @@ pub enum Reply {
 
 /// The graph whose one item is this reference to a loose node.
 fn graph_with(alloc: Global, builder: Builder, slot: Slot) -> Result<Graph, BuildFault>
-    ensures { IfOk result
-        (λ graph. IsGraphOf builder (contents.Ref slot ∷ []) graph.nodes graph.items) }
+    ensures { IfOk result (IsGraphAt builder slot) }
 {
     let mut items = Items::new(alloc);
     items.push(Item::Ref(slot))?;
@@ -58,17 +63,14 @@ fn graph_with(alloc: Global, builder: Builder, slot: Slot) -> Result<Graph, Buil
 
 /// The graph of null.
 fn null_graph(alloc: Global) -> Result<Graph, BuildFault>
-    ensures { IfOk result
-        (λ graph. IsGraphOf [] (contents.Ref slots.Null ∷ []) graph.nodes graph.items) }
+    ensures { IfOk result (IsGraphAt [] slots.Null) }
 {
     graph_with(alloc, Builder::new(alloc), Slot::Null)
 }
 
 /// The graph of a text.
 fn text_graph(alloc: Global, text: Units) -> Result<Graph, BuildFault>
-    ensures { IfOk result
-        (λ graph. IsGraphOf (nodes.Text text ∷ []) (contents.Ref (slots.Node 0) ∷ [])
-        graph.nodes graph.items) }
+    ensures { IfOk result (IsGraphAt (nodes.Text text ∷ []) (slots.Node 0)) }
 {
     let mut builder = Builder::new(alloc);
     let slot = builder.text(text)?;

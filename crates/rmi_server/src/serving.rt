@@ -1,10 +1,9 @@
 //! Serving a service over a listener.
-ghost use Rattle.std.specs.Prelude.{◌≡◌, ◌≤◌, ◌⊎◌, ◌↔◌, All, length, IfOk, IfErr, OnOk, OnErr, IsTrue};
+ghost use Rattle.std.specs.Prelude.{◌≡◌, ◌≤◌, ◌↔◌, All, length, IfOk, IfErr, OnOk, OnErr, IsTrue};
 ghost use Rattle.mod_utf.specs.Utf.{utf};
-ghost use Rattle.wire_io.specs.Wire.{Rose};
 ghost use Rattle.wire_io.specs.declared.limits.TheConstants.{MAX_HOST_BYTES};
 ghost use Rattle.turn_lock.specs.Handles.{IsFresh, opening_of};
-ghost use Rattle.rmi_server.specs.Served.{IsOpening, IsServedBy};
+ghost use Rattle.rmi_server.specs.Served.{GaveUp, IsOpening, IsServedBy, ServedAll};
 ghost use Rattle.rmi_server.specs.SiteFaults.{AreSoundNames, HasKind, IsSound, RefusesSite};
 ghost use Rattle.rmi_server.specs.Sites.{plan_of};
 
@@ -13,7 +12,7 @@ use crate::kinds::{KindFault, book_of};
 use crate::opening::opened_space;
 use crate::service::Service;
 use crate::site::{Named, Site};
-use conn_server::{Report, ServePlan, Server, Stop};
+use conn_server::{Report, ServePlan, Server};
 use history::Refused;
 use std::alloc::{AllocError, Global};
 use std::sync::Wait;
@@ -195,15 +194,12 @@ pub fn serve<'t, R: Threads + Wait + Sync, L: Listener, S: Service + Send>(
 ) -> Result<Report<L::In, L::Out, L::Ticks, ServiceHand<'t, R, S>>, ServeFault>
     ensures served { IfOk result
         (IsServedBy S.may_answer L.In.half L.Out.half L.Ticks.given site.now
-        (L.listening listener.old).accepted (L.listening listener.new).accepted) }
+        (L.listening listener.old) (L.listening listener.new)) }
     ensures sound { OnOk result (IsSound site.now) }
     ensures causes { IfErr result (RefusesSite site.now) }
     ensures err { OnErr result (L.listening listener.new ≡ L.listening listener.old) }
-    ensures fault { IfOk result (λ report. report.stop ≡ Stop.AcceptFault →
-        Rose (L.listening listener.old).faults (L.listening listener.new).faults) }
-    ensures all { IfOk result (λ report.
-        (¬ Rose (L.listening listener.old).faults (L.listening listener.new).faults) →
-        (report.stop ≡ Stop.All) ⊎ (report.stop ≡ Stop.OutOfMemory)) }
+    ensures fault { IfOk result (GaveUp L.listening listener.old listener.new) }
+    ensures all { IfOk result (ServedAll L.listening listener.old listener.new) }
     ensures ports { (L.listening listener.new).ports ≡ (L.listening listener.old).ports }
     ensures faults { (L.listening listener.old).faults ≤ (L.listening listener.new).faults }
 {

@@ -1,19 +1,17 @@
 //! Serving over TCP.
-ghost use Rattle.std.specs.Prelude.{◌≡◌, ◌⊎◌, [], false, IfOk, IfErr, OnOk};
+ghost use Rattle.std.specs.Prelude.{◌≡◌, false, IfOk, IfErr, OnOk};
 ghost use Rattle.history.specs.Steps.{IsLegal};
-ghost use Rattle.space.specs.EventLists.{CollectsEach};
-ghost use Rattle.rmi_server.specs.SiteFaults.{IsSound, RefusesSite};
-ghost use Rattle.rmi_server.specs.Sites.{config_of};
+ghost use Rattle.rmi_server.specs.Served.{CollectedEach, KeepsTo};
+ghost use Rattle.rmi_server.specs.SiteFaults.{IsSound, RefusesListening};
 
 use crate::crew::ServiceHand;
 use crate::hosting::{Door, HostedService, host};
 use crate::service::Service;
 use crate::serving::{ServeFault, serve};
 use crate::site::Site;
-use conn_server::Report;
+use conn_server::{Report, random_seed};
 use input_end::{DescriptorEnd, FlaggedEnd, StoppedByInput, descriptor_end};
 use std::alloc::{AllocError, Global};
-use std::io;
 use std::io::Read;
 use std::net::{Net, TcpListener, TcpStream};
 use std::os::fd::AsRawFd;
@@ -43,23 +41,11 @@ pub struct TcpDoor<'d, I> {
 /// A listener over TCP that is told to stop at the end of an input. Its connections then give no more bytes.
 type ListensUntil<'t, R, I> = StoppedByInput<TcpListen<&'t R>, FlaggedEnd<DescriptorEnd<I>>>;
 
-/// A random word.
-fn word(rt: &impl RandomSource) -> io::Result<u64> {
-    let mut bytes = [0; 8];
-    rt.fill_bytes(&mut bytes)?;
-    Ok(u64::from_be_bytes(bytes))
-}
-
-/// Four random words.
-fn words(rt: &impl RandomSource) -> io::Result<[u64; 4]> {
-    Ok([word(rt)?, word(rt)?, word(rt)?, word(rt)?])
-}
-
 /// Four random words, of which a server makes its identifiers. NoSeed comes where the system gives none.
 pub fn seed(rt: &impl RandomSource) -> Result<[u64; 4], ServeFault>
     ensures { IfErr result (λ fault. fault ≡ ServeFault.NoSeed) }
 {
-    words(rt).map_err(|_error| ServeFault::NoSeed)
+    random_seed(rt).map_err(|_error| ServeFault::NoSeed)
 }
 
 /// Listens on the site's host and port, and serves a service as [`serve`] does. ListenFault comes where they cannot be listened on. For a service that runs
@@ -74,15 +60,12 @@ pub fn serve_tcp<'t, R, S: Service + Send>(
 ) -> Result<TcpReport<'t, R, S>, ServeFault>
 where
     R: Threads + Wait + Sync + Clock + Net<Listener = TcpListener, Stream = TcpStream>,
-    ensures config { IfOk result (λ report. report.space.configuration
-        ≡ config_of site.now.seed site.now.stored) }
+    ensures config { IfOk result (λ report. KeepsTo site.now site.now.stored report.space) }
     ensures legal { IfOk result
         (λ report. IsLegal report.space.configuration report.space.events) }
-    ensures collects { IfOk result (λ report. CollectsEach report.space.configuration [] []
-        report.space.events report.space.events report.space.rows) }
+    ensures collects { IfOk result (λ report. CollectedEach report.space) }
     ensures sound { OnOk result (IsSound site.now) }
-    ensures causes { IfErr result
-        (λ fault. (fault ≡ ServeFault.ListenFault) ⊎ RefusesSite site.now fault) }
+    ensures causes { IfErr result (RefusesListening site.now) }
 {
     let mut listener = TcpListen::new(alloc, rt);
     if listener.listen(site.host, site.port).is_err() {
@@ -123,15 +106,12 @@ pub fn host_tcp<'t, R, S: Service + Send, I>(
 where
     R: Threads + Wait + Sync + Clock + Net<Listener = TcpListener, Stream = TcpStream>,
     I: Read + AsRawFd + Drop,
-    ensures config { IfOk result (λ hosted. hosted.space.configuration
-        ≡ config_of site.now.seed false) }
+    ensures config { IfOk result (λ hosted. KeepsTo site.now false hosted.space) }
     ensures legal { IfOk result
         (λ hosted. IsLegal hosted.space.configuration hosted.space.events) }
-    ensures collects { IfOk result (λ hosted. CollectsEach hosted.space.configuration [] []
-        hosted.space.events hosted.space.events hosted.space.rows) }
+    ensures collects { IfOk result (λ hosted. CollectedEach hosted.space) }
     ensures sound { OnOk result (IsSound site.now) }
-    ensures causes { IfErr result
-        (λ fault. (fault ≡ ServeFault.ListenFault) ⊎ RefusesSite site.now fault) }
+    ensures causes { IfErr result (RefusesListening site.now) }
 {
     let TcpDoor { address, input } = door;
     let mut listener = listener_until(rt, alloc, input)?;

@@ -14,7 +14,6 @@ mod NotFound
 pub mod OneName
 pub mod Places
 pub mod SignedNumbers
-pub mod Spelling
 pub mod Subcommands
 pub mod Taking
 pub mod Walking

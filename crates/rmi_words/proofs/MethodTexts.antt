@@ -9,6 +9,7 @@ use Rattle.class_desc.specs.declared.field.TypeCode.{TypeCode}
 use Rattle.class_desc.specs.declared.field.TypeCode.TheVariants as types
 use Rattle.class_desc.specs.TypeCode.{is_primitive, letter}
 use Rattle.class_desc.specs.TypeText.{code_of}
+use Rattle.class_desc.proofs.TypeTexts.{letter_back}
 use Rattle.method_hash.specs.MethodText.{AreTypes, HasType, IsClassTail, IsMethod, IsTail, IsType, Returns, is_class_byte, is_name_byte}
 use Rattle.method_hash.specs.declared.method.Method.{Method}
 use Rattle.rmi_words.specs.CallWords.{IsMethodIn, IsMethodOf, is_printed, is_said}
@@ -33,20 +34,8 @@ until test m fails (x ∷ xs) (y ∷ ys) t u a b e =
 some_is : (a b : TypeCode) → Some a ≡ Some b → a ≡ b
 some_is a b e = cc
 
-letter_code : (code : TypeCode) → code_of (letter code) ≡ Some code
-letter_code types.Byte = refl
-letter_code types.Char = refl
-letter_code types.Double = refl
-letter_code types.Float = refl
-letter_code types.Int = refl
-letter_code types.Long = refl
-letter_code types.Short = refl
-letter_code types.Boolean = refl
-letter_code types.Array = refl
-letter_code types.Object = refl
-
 one_letter : (a b : TypeCode) → letter a ≡ letter b → a ≡ b
-one_letter a b e = some_is a b (sym (letter_code a) ∙ ap code_of e ∙ letter_code b)
+one_letter a b e = some_is a b (sym (letter_back a) ∙ ap code_of e ∙ letter_back b)
 
 primitive_tail : (code : TypeCode) (t : List ℕ) → is_primitive code ≡ true → t ≡ [] → IsTail code t
 primitive_tail types.Array t plain e = absurd (true≢false (sym plain))
@@ -89,7 +78,7 @@ one_type a b t u r s x y e =
     (same, tail_ends a x.0 y.0 r s (type_ends x.0 y.0 r s) x.2 (subst (λ code. IsTail code y.0) (sym same) y.2) (same_front spelled).1)
 
 no_letter : (n : ℕ) (code : TypeCode) → code_of n ≡ None → n ≡ letter code → ⊥
-no_letter n code none e = let both : None ≡ Some code = sym none ∙ ap code_of e ∙ letter_code code in cc
+no_letter n code none e = let both : None ≡ Some code = sym none ∙ ap code_of e ∙ letter_back code in cc
 
 -- ---- parameters and results
 

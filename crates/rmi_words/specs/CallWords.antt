@@ -9,7 +9,7 @@ use Rattle.ser_values.specs.declared.value.Value.TheVariants as values
 use Rattle.method_hash.specs.declared.method.Method.{Method}
 use Rattle.rmi_words.specs.Clients.{IsNamedIn, placed_words}
 use Rattle.rmi_words.specs.Program.{is_option}
-use Rattle.rmi_words.specs.Texts.{units_of}
+use Rattle.mod_utf.specs.Texts.{units_of}
 use Rattle.rmi_words.specs.declared.call_words.Argument.{Argument}
 use Rattle.rmi_words.specs.declared.call_words.Argument.TheVariants.{Prim, Text}
 use Rattle.rmi_words.specs.declared.call_words.CallWords.{CallWords}

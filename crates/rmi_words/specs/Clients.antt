@@ -4,7 +4,7 @@ use Rattle.std.specs.List.{list_any}
 use Rattle.history.specs.declared.limits.TheConstants.{MAX_NAME_UNITS}
 use Rattle.rmi_words.specs.Options.{IsSmallOf}
 use Rattle.rmi_words.specs.Program.{is_option}
-use Rattle.rmi_words.specs.Texts.{units_of}
+use Rattle.mod_utf.specs.Texts.{units_of}
 use Rattle.rmi_words.specs.declared.client.ClientCommand.{ClientCommand}
 use Rattle.rmi_words.specs.declared.client.ClientCommand.TheVariants.{List as ListNames, Lookup, Bind, Unbind}
 use Rattle.rmi_words.specs.declared.client.ServerAddress.{ServerAddress}

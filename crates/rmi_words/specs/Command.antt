@@ -46,6 +46,10 @@ pub record AreInRange (seed rounds : ℕ) : Type 0 where
   pub some : 1 ≤ rounds
   pub most : rounds ≤ MAX_ROUNDS
 
+-- Two words spell no numbers of a drill.
+abbrev pub SpellNoDrill : List ℕ → List ℕ → Type 0
+SpellNoDrill seed rounds = (a b : ℕ) → AreInRange a b → seed ≡ decimal a → rounds ≡ decimal b → ⊥
+
 -- These words are a word, and the numbers of a drill: its seed, then its rounds.
 pub record IsWordOfDrill (words : List (List ℕ)) (word : List ℕ) (seed rounds : ℕ) : Type 0 where
   pub in_range : AreInRange seed rounds
@@ -96,3 +100,7 @@ AskFor words (Drill text seed rounds) = IsWordOfDrill words (word_of_text text) 
 AskFor words World = IsWord words (codes "world")
 AskFor words (Class output) = IsWord words (word_of_output output)
 AskFor words (Help topic) = words ≡ codes "help" ∷ words_of_topic topic
+
+-- These words ask for no command.
+abbrev pub AskForNothing : List (List ℕ) → Type 0
+AskForNothing words = (command : Command) → AskFor words command → ⊥

@@ -1,9 +1,13 @@
 -- What `help` prints.
-use Rattle.std.specs.Prelude.{ℕ, Bool, true, false, List, [], ◌∷◌, ◌++◌, codes}
+use Rattle.std.specs.Prelude.{◌≡◌, ℕ, Bool, true, false, List, [], ◌∷◌, ◌++◌, codes, String, string_bytes}
 use Rattle.std.specs.List.{flat_map}
 use Rattle.rmi_words.specs.Entries.{Word, Entry, entries, answer_entry, serve_entry, host_entry, list_entry, lookup_entry, bind_entry, unbind_entry, call_entry, replay_entry, show_entry, drill_entry, journal_entry, world_entry, suid_entry, suidtext_entry, describe_entry, help_entry}
 use Rattle.rmi_words.specs.declared.command.HelpTopic.{HelpTopic}
 use Rattle.rmi_words.specs.declared.command.HelpTopic.TheVariants as topics
+
+-- The text is longer by these bytes.
+abbrev pub Appends : {Z : Type 0} → String Z → String Z → List ℕ → Type 0
+Appends old new bytes = string_bytes new ≡ string_bytes old ++ bytes
 
 -- The commands that are explained.
 abbrev pub entries_of : HelpTopic → List Entry

@@ -5,7 +5,7 @@ use Rattle.mod_utf.specs.Utf.{utf}
 use Rattle.wire_io.specs.declared.limits.TheConstants.{MAX_HOST_BYTES}
 use Rattle.rmi_words.specs.Options.{AreGivenBy, IsInRange, IsSmallOf}
 use Rattle.rmi_words.specs.Program.{is_option}
-use Rattle.rmi_words.specs.Texts.{units_of}
+use Rattle.mod_utf.specs.Texts.{units_of}
 use Rattle.rmi_words.specs.declared.host_words.HostWords.{HostWords}
 use Rattle.rmi_words.specs.declared.host_words.Record.{Record}
 use Rattle.rmi_words.specs.declared.host_words.Record.TheVariants.{Silent, Journal}

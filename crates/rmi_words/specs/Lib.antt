@@ -6,5 +6,4 @@ pub mod HelpText
 pub mod HostWords
 pub mod Options
 pub mod Program
-pub mod Texts
 pub mod Values

@@ -10,8 +10,8 @@ use crate::call_words::{Argument, ArgumentList};
 use crate::command::WordsFault;
 use crate::numbers::read_unit;
 use crate::signed::{read_byte, read_int, read_long, read_short};
-use crate::texts::units_of_text;
 use class_desc::TypeCode;
+use mod_utf::units_of_text;
 use ser_values::Value;
 use std::alloc::Global;
 

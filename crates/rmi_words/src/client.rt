@@ -6,10 +6,10 @@ ghost use Rattle.rmi_words.specs.Values.{IsCommandOf, given_of, values_of};
 
 use crate::command::{Command, WordsFault};
 use crate::options::read_small_of;
-use crate::texts::units_of_text;
 use clap::ArgMatches;
 use history::Name;
 use history::limits::MAX_NAME_UNITS;
+use mod_utf::units_of_text;
 use sequence::Units;
 use std::alloc::Global;
 

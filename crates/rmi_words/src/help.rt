@@ -1,8 +1,19 @@
 //! The text that `help` prints.
-ghost use Rattle.std.specs.Prelude.{◌≡◌, ◌++◌, map, string_bytes, IfOk, OnOk};
+ghost use Rattle.std.specs.Prelude.{◌≡◌, map, string_bytes, IfOk, OnOk};
 ghost use Rattle.std.specs.List.{flat_map};
 ghost use Rattle.rmi_words.specs.Entries.{entry_of, word_of};
-ghost use Rattle.rmi_words.specs.HelpText.{body_of, head_of, help_text, line_of, text_of_entry, text_of_example, text_of_line, usage_of, word_usage};
+ghost use Rattle.rmi_words.specs.HelpText.{
+  Appends,
+  body_of,
+  head_of,
+  help_text,
+  line_of,
+  text_of_entry,
+  text_of_example,
+  text_of_line,
+  usage_of,
+  word_usage,
+};
 
 use crate::command::HelpTopic;
 use crate::table::{CommandEntry, WordEntry, commands_of};
@@ -26,8 +37,7 @@ pub fn help_text(alloc: Global, topic: HelpTopic) -> Result<String, AllocError>
 
 /// Appends the text of a command.
 fn push_entry(text: &mut String, entry: &CommandEntry) -> Result<(), AllocError>
-    ensures { OnOk result (string_bytes text.new ≡ string_bytes text.old
-        ++ text_of_entry (entry_of entry.now)) }
+    ensures { OnOk result (Appends text.old text.new (text_of_entry (entry_of entry.now))) }
 {
     push_head(text, entry)?;
     push_body(text, entry)?;
@@ -36,8 +46,7 @@ fn push_entry(text: &mut String, entry: &CommandEntry) -> Result<(), AllocError>
 
 /// Appends a command's name and its words.
 fn push_head(text: &mut String, entry: &CommandEntry) -> Result<(), AllocError>
-    ensures { OnOk result (string_bytes text.new ≡ string_bytes text.old
-        ++ head_of (entry_of entry.now)) }
+    ensures { OnOk result (Appends text.old text.new (head_of (entry_of entry.now))) }
 {
     text.push_str("\n")?;
     text.push_str(entry.name)?;
@@ -47,8 +56,7 @@ fn push_head(text: &mut String, entry: &CommandEntry) -> Result<(), AllocError>
 
 /// Appends the words, each in brackets that may be left out, with dots where any number of words may stand.
 fn push_usage(text: &mut String, words: &[WordEntry]) -> Result<(), AllocError>
-    ensures { OnOk result (string_bytes text.new ≡ string_bytes text.old
-        ++ flat_map usage_of (map word_of words.now)) }
+    ensures { OnOk result (Appends text.old text.new (flat_map usage_of (map word_of words.now))) }
 {
     for word in words {
         push_word(text, word.required, word.several, word.name)?;
@@ -58,8 +66,7 @@ fn push_usage(text: &mut String, words: &[WordEntry]) -> Result<(), AllocError>
 
 /// Appends a word of the first line.
 fn push_word(text: &mut String, required: bool, several: bool, name: &str) -> Result<(), AllocError>
-    ensures { OnOk result
-        (string_bytes text.new ≡ string_bytes text.old ++ word_usage required several name.now) }
+    ensures { OnOk result (Appends text.old text.new (word_usage required several name.now)) }
 {
     if required {
         text.push_str(" ")?;
@@ -72,8 +79,7 @@ fn push_word(text: &mut String, required: bool, several: bool, name: &str) -> Re
 
 /// Appends what a command does, and a line for each of its words.
 fn push_body(text: &mut String, entry: &CommandEntry) -> Result<(), AllocError>
-    ensures { OnOk result (string_bytes text.new ≡ string_bytes text.old
-        ++ body_of (entry_of entry.now)) }
+    ensures { OnOk result (Appends text.old text.new (body_of (entry_of entry.now))) }
 {
     text.push_str("    ")?;
     text.push_str(entry.does)?;
@@ -83,8 +89,7 @@ fn push_body(text: &mut String, entry: &CommandEntry) -> Result<(), AllocError>
 
 /// Appends a line for each word.
 fn push_lines(text: &mut String, words: &[WordEntry]) -> Result<(), AllocError>
-    ensures { OnOk result (string_bytes text.new ≡ string_bytes text.old
-        ++ flat_map line_of (map word_of words.now)) }
+    ensures { OnOk result (Appends text.old text.new (flat_map line_of (map word_of words.now))) }
 {
     for word in words {
         push_line(text, word.name, word.says)?;
@@ -94,8 +99,7 @@ fn push_lines(text: &mut String, words: &[WordEntry]) -> Result<(), AllocError>
 
 /// Appends the line of a word.
 fn push_line(text: &mut String, name: &str, says: &str) -> Result<(), AllocError>
-    ensures { OnOk result (string_bytes text.new ≡ string_bytes text.old
-        ++ text_of_line name.now says.now) }
+    ensures { OnOk result (Appends text.old text.new (text_of_line name.now says.now)) }
 {
     text.push_str("    ")?;
     text.push_str(name)?;
@@ -106,8 +110,7 @@ fn push_line(text: &mut String, name: &str, says: &str) -> Result<(), AllocError
 
 /// Appends the line that calls a command.
 fn push_example(text: &mut String, example: &str) -> Result<(), AllocError>
-    ensures { OnOk result (string_bytes text.new ≡ string_bytes text.old
-        ++ text_of_example example.now) }
+    ensures { OnOk result (Appends text.old text.new (text_of_example example.now)) }
 {
     text.push_str("    example: ")?;
     text.push_str(example)?;

@@ -7,9 +7,8 @@ ghost use Rattle.rmi_words.specs.Values.{IsCommandOf, given_of};
 
 use crate::command::{Command, WordsFault};
 use crate::options::{LeaseOptions, read_lease_options, read_small_of};
-use crate::texts::units_of_text;
 use clap::ArgMatches;
-use mod_utf::encoded_len;
+use mod_utf::{encoded_len, units_of_text};
 use sequence::Units;
 use std::alloc::{AllocError, Global};
 use std::marker::Model;

@@ -32,7 +32,6 @@ mod numbers;
 mod options;
 mod signed;
 mod table;
-mod texts;
 mod words;
 
 pub use call_words::{Argument, ArgumentList, CallWords};
@@ -43,5 +42,4 @@ pub use host_words::{Address, HostWords, Record};
 pub use numbers::MAX_ROUNDS;
 pub use options::{LeaseOptions, ServeWords};
 pub use table::{CommandEntry, WordEntry, commands, commands_of};
-pub use texts::units_of_text;
 pub use words::Words;

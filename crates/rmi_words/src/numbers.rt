@@ -1,24 +1,17 @@
 //! Decimal numbers on the command line, without needless zeros or signs.
-ghost use Rattle.std.specs.Prelude.{◌≡◌, ◌↔◌, ◌^◌, ℕ, decimal, IsTrue, IfSome, IfNone};
+ghost use Rattle.std.specs.Prelude.{◌≡◌, ◌↔◌, ◌^◌, decimal, IsTrue, IfSome, IfNone};
 ghost use Rattle.history.specs.declared.limits.TheConstants.{MAX_DURATION_MS};
-ghost use Rattle.journal.specs.Numbers.{BeginsPlainly};
 ghost use Rattle.journal.specs.Reading.{Finds};
 ghost use Rattle.journal.specs.Grammar.{SpellsBelow};
 ghost use Rattle.rmi_words.specs.CallWords.{SpellsUnit};
-ghost use Rattle.rmi_words.specs.Command.{AreInRange};
+ghost use Rattle.rmi_words.specs.Command.{AreInRange, SpellNoDrill};
 ghost use Rattle.rmi_words.specs.Options.{SpellsUpTo};
 
 use history::limits::MAX_DURATION_MS;
+use journal::begins_plainly;
 
 /// The most rounds of a drill.
 pub const MAX_ROUNDS: u64 = 1_000_000;
-
-/// Returns whether there is a first byte that is no plus sign, and no zero before further bytes.
-fn begins_plainly(word: &[u8]) -> bool
-    ensures { IsTrue result ↔ BeginsPlainly word.now }
-{
-    !word.is_empty() && word[0] != b'+' && (word[0] != b'0' || word.len() == 1)
-}
 
 /// The number below 2^64 that a word spells.
 fn read_number(word: &str) -> Option<u64>
@@ -45,8 +38,7 @@ pub(crate) fn read_drill(seed: &str, rounds: &str) -> Option<(u64, u64)>
     ensures range { IfSome result (λ p. AreInRange p.0 p.1) }
     ensures seed { IfSome result (λ p. seed.now ≡ decimal p.0) }
     ensures rounds { IfSome result (λ p. rounds.now ≡ decimal p.1) }
-    ensures none { IfNone result ((a b : ℕ) → AreInRange a b → seed.now ≡ decimal a → rounds.now
-        ≡ decimal b → ⊥) }
+    ensures none { IfNone result (SpellNoDrill seed.now rounds.now) }
 {
     let first = read_number(seed)?;
     let second = read_number(rounds)?;

@@ -7,7 +7,6 @@ ghost use Rattle.rmi_words.specs.Clients.{Reads};
 ghost use Rattle.rmi_words.specs.Command.{word_of_text};
 ghost use Rattle.rmi_words.specs.Program.{AreTaken, faults_in, is_option};
 ghost use Rattle.rmi_words.specs.Values.{IsCommandIn, IsCommandOf, IsOwnOf, IsTopicOf, given_of};
-ghost use Rattle.rmi_words.specs.declared.command.Command.{Command as Commands};
 
 use crate::call_words::read_call;
 use crate::client::{read_bind, read_list, read_lookup, read_unbind};
@@ -36,7 +35,7 @@ impl Model for Words {
 }
 
 impl Words {
-    ghost use Rattle.rmi_words.specs.Command.{AskFor};
+    ghost use Rattle.rmi_words.specs.Command.{AskFor, AskForNothing};
 
     /// The words of a vector. It takes no memory.
     pub fn from_vec(items: Vec<String>) -> Words
@@ -49,8 +48,7 @@ impl Words {
     /// read them, it is OutOfMemory.
     pub fn command(&self, alloc: Global) -> Result<Command, WordsFault>
         ensures asked { IfOk result (AskFor self.now) }
-        ensures refused { result ≡ Err WordsFault.Usage → (command : Commands)
-            → AskFor self.now command → ⊥ }
+        ensures refused { result ≡ Err WordsFault.Usage → AskForNothing self.now }
     {
         let words = self.items.as_slice();
         if has_option(words) {
@@ -79,8 +77,8 @@ fn is_option(word: &str) -> bool
 /// Returns what `clap` makes of words none of which begins with `-`. The fault is Usage only where it finds them wrong.
 fn matches_of<'a>(alloc: Global, words: &'a [String]) -> Result<ArgMatches<'a>, WordsFault>
     ensures taken { IfOk result (AreTaken (map string_bytes words.entry.now)) }
-    ensures refused { result ≡ Err WordsFault.Usage → faults_in (map string_bytes words.entry.now)
-        ≡ [] → ⊥ }
+    ensures refused { result ≡ Err WordsFault.Usage
+        → faults_in (map string_bytes words.entry.now) ≢ [] }
 {
     let declared = match declared_program(alloc) {
         Ok(declared) => declared,

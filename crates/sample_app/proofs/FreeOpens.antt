@@ -17,8 +17,8 @@ use Rattle.history.specs.Places.{now, ever_exported, exported_count}
 use Rattle.history.specs.Running.{running_calls_by, running_calls, is_running}
 use Rattle.history.specs.Steps.{Step, answer_with, history_with}
 use Rattle.history.specs.Table.{is_kept_locally, is_kept, table, is_effective, exports, returned_objects, place_of, places_back, places, withdrawn_objects, withdrawals}
-use Rattle.space.specs.Built.{SpaceHistory, space_of}
-use Rattle.sample_app.specs.Opened.{open_event, bind_event}
+use Rattle.space.specs.Built.{open_event, SpaceHistory, space_of}
+use Rattle.sample_app.specs.Opened.{bind_event}
 
 -- No limit refuses the event.
 abbrev pub IsFree : Event → SpaceHistory → Type 0

@@ -1,13 +1,10 @@
 -- The history of the sample space.
-use Rattle.std.specs.Prelude.{ℕ, ℤ, pos, true, codes, List, [], ◌∷◌}
+use Rattle.std.specs.Prelude.{ℕ, ℤ, pos, codes, List, [], ◌∷◌}
 use Rattle.object_ids.specs.declared.ids.ObjId.{ObjId}
 use Rattle.history.specs.declared.asks.Event.{Event}
 use Rattle.history.specs.declared.asks.SpaceConfig.{SpaceConfig}
-use Rattle.history.specs.declared.asks.Ask.TheVariants.{Open, Bind}
-
--- an object of a kind that connection 0 opens at the moment 0 to be kept for good
-abbrev pub open_event : ℕ → Event
-open_event kind = record { by = 0; moment = 0; ask = Open kind true }
+use Rattle.history.specs.declared.asks.Ask.TheVariants.{Bind}
+use Rattle.space.specs.Built.{open_event}
 
 -- the object of the space with this number
 abbrev pub object_with : SpaceConfig → ℤ → ObjId

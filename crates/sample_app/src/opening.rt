@@ -4,8 +4,8 @@ ghost use Rattle.history.specs.declared.replies.Refused.TheVariants.{OutOfMemory
 ghost use Rattle.history.specs.Limits.{limits, refusal};
 ghost use Rattle.history.specs.Table.{places};
 ghost use Rattle.history.specs.declared.limits.TheConstants.{MAX_DURATION_MS, MAX_NAME_UNITS};
-ghost use Rattle.space.specs.Built.{space_of};
-ghost use Rattle.sample_app.specs.Opened.{open_event, bind_event, sample_events};
+ghost use Rattle.space.specs.Built.{open_event, space_of};
+ghost use Rattle.sample_app.specs.Opened.{bind_event, sample_events};
 
 use history::{Ask, Name, Refused, SpaceConfig};
 use mod_utf::utf::units_of_ascii;

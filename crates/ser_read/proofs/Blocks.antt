@@ -9,7 +9,8 @@ use Rattle.stream_grammar.specs.Spelled.{joined}
 use Rattle.std.proofs.lemmas.List.{append-nil}
 use Rattle.std.specs.Int.{w32}
 use Rattle.wire_io.proofs.Pulling.{takes_nothing, takes_more}
-use Rattle.ser_read.specs.Here.{AreBytes, NeedsAll, Reads}
+use Rattle.ser_read.specs.Here.{NeedsAll, Reads}
+use Rattle.stream_grammar.specs.Faults.{AreBytes}
 use Rattle.ser_read.proofs.Steps.{Goes, goes_two, Leads, leads_two, leads_read, no_next, least_two, bytes_more}
 use Rattle.ser_read.proofs.Bytes.{ok_is}
 use Rattle.ser_read.specs.Whole.{going_on}

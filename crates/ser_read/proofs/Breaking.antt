@@ -231,7 +231,7 @@ want_took h = record { is = record { taken = h.taken; takes = h.takes; least = h
 
 -- ---- where the bytes are told
 
-no_byte : (bs : List ℕ) → byte_at bs ≡ Err short → bs ≡ []
+pub no_byte : (bs : List ℕ) → byte_at bs ≡ Err short → bs ≡ []
 no_byte [] h = refl
 no_byte (b ∷ bs) h = absurd cc
 

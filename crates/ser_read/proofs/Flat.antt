@@ -5,6 +5,7 @@ use Rattle.class_desc.specs.declared.slot.Item.{Item}
 use Rattle.class_desc.specs.declared.slot.Item.TheVariants as items
 use Rattle.stream_grammar.specs.Spelled.{joined}
 use Rattle.ser_values.specs.Fronts.{put_block}
+use Rattle.ser_values.proofs.FrontLaws.{put_both}
 
 pub data Piece : Type 0 where
   a_byte : ℕ → Piece
@@ -28,15 +29,9 @@ bytes_append : (p q : List ℕ) → bytes_of (p ++ q) ≡ bytes_of p ++ bytes_of
 bytes_append [] q = refl
 bytes_append (b ∷ p) q = ap (λ (l : List Piece). a_byte b ∷ l) (bytes_append p q)
 
-put_two : (b : ℕ) (p : List ℕ) (is : List Item) → put_block (b ∷ []) (put_block p is) ≡ put_block (b ∷ p) is
-put_two b [] is = refl
-put_two b (c ∷ p) [] = refl
-put_two b (c ∷ p) (items.Bytes q ∷ is) = refl
-put_two b (c ∷ p) (items.Ref s ∷ is) = refl
-
 put_grouped : (p : List ℕ) (ps : List Piece) → grouped (bytes_of p ++ ps) ≡ put_block p (grouped ps)
 put_grouped [] ps = refl
-put_grouped (b ∷ p) ps = ap (put_block (b ∷ [])) (put_grouped p ps) ∙ put_two b p (grouped ps)
+put_grouped (b ∷ p) ps = ap (put_block (b ∷ [])) (put_grouped p ps) ∙ sym (put_both (b ∷ []) p (grouped ps))
 
 joined_grouped : (is : List Item) → joined is ≡ grouped (flat is)
 joined_grouped [] = refl

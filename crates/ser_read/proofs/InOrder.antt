@@ -109,7 +109,7 @@ takes_asked {p} {q} ws answers nodes is r =
     let all : s.front ≡ a.0 = sym (s.is ∙ append-nil s.front) in
     record { bytes = a.0; takes = subst (λ (l : List ℕ). Takes p q l) m r.takes; asked = subst (λ (l : List ℕ). SpellsWants ws answers nodes l) all s.asked; contents_are = s.contents }
 
-abbrev Whole : Type 0
+abbrev pub Whole : Type 0
 Whole = List Item × List Node × List Item × List ℕ
 
 -- what is asked is read, unless the outside fails

@@ -22,7 +22,8 @@ use Rattle.stream_grammar.proofs.Solid.{Solid, GotBy, got_none, got_map, got_sum
 use Rattle.stream_grammar.proofs.Sound.{slots_sound}
 use Rattle.ser_read.specs.declared.block.Head.{Head}
 use Rattle.ser_read.specs.declared.block.Head.TheVariants.{Block, Code}
-use Rattle.ser_read.specs.Here.{AreBytes, Reads}
+use Rattle.ser_read.specs.Here.{Reads}
+use Rattle.stream_grammar.specs.Faults.{AreBytes}
 use Rattle.ser_read.specs.Heads.{head_at}
 use Rattle.ser_read.specs.Named.{add_bytes}
 use Rattle.ser_read.specs.declared.serving.Want.{Want}

@@ -13,6 +13,7 @@ use Rattle.stream_grammar.specs.Reading.{Progress, byte_at}
 use Rattle.std.proofs.lemmas.List.Elements.{All-nil}
 use Rattle.ser_values.specs.Ranges.{InRange}
 use Rattle.ser_values.proofs.Ranged.{numbers_of, units_of}
+use Rattle.stream_grammar.specs.Faults as faults
 use Rattle.stream_grammar.proofs.PlainSound.{AreBytes, chosen, byte_sound}
 use Rattle.stream_grammar.proofs.Solid.{Solid, GotBy, got_none, got_map, got_sum}
 use Rattle.ser_read.specs.declared.block.Head.{Head}
@@ -23,7 +24,6 @@ use Rattle.ser_read.specs.declared.serving.Want.{Want}
 use Rattle.ser_read.specs.declared.serving.Want.TheVariants as wanted
 use Rattle.ser_read.specs.Wants.{WantFault, ◌▸◌, lift_fault, Stand, nothing_read, only_block, opened_at, run_at, reference_at, bytes_at, slot_next, close_at, want_at, serve, serve_to_close}
 use Rattle.ser_read.specs.SpelledWants.{Fits, IsSome, EndsFull, SpellsWants}
-use Rattle.ser_read.specs.Here as here
 use Rattle.ser_read.proofs.Behind.{blocks_front, spells_front}
 use Rattle.ser_read.proofs.Joins.{added_is}
 use Rattle.ser_read.proofs.Runs.{opened_here, opened_some}
@@ -317,7 +317,7 @@ AllOk = List Item × List Node × List Item × List ℕ
 abbrev start : Progress
 start = record { nodes = []; parts = 0 }
 
-pub bytes_front : (xs ys : List ℕ) → AreBytes (xs ++ ys) → here.AreBytes xs
+pub bytes_front : (xs ys : List ℕ) → AreBytes (xs ++ ys) → faults.AreBytes xs
 bytes_front [] ys h = tt
 bytes_front (b ∷ xs) ys h = (h.0, bytes_front xs ys h.1)
 

@@ -10,7 +10,8 @@ use Rattle.ser_read.specs.declared.fault.StreamKind.{StreamKind}
 use Rattle.ser_read.specs.declared.fault.StreamFault.{StreamFault}
 use Rattle.ser_read.specs.declared.fault.StreamFault.TheVariants as faults
 use Rattle.ser_read.specs.declared.fault.Large.TheVariants as larges
-use Rattle.ser_read.specs.Here.{FailsBy, IsOutside, AreBytes, NeedsAll, Reads, env_at, coming_at, env, coming, IsTold}
+use Rattle.ser_read.specs.Here.{FailsBy, IsOutside, NeedsAll, Reads, env_at, coming_at, env, coming, IsTold}
+use Rattle.stream_grammar.specs.Faults.{AreBytes}
 use Rattle.ser_read.proofs.Pulling.{takes_told}
 
 pub bytes_more : (xs ys : List ℕ) → AreBytes xs → AreBytes ys → AreBytes (xs ++ ys)

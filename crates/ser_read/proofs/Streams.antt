@@ -16,10 +16,10 @@ use Rattle.stream_grammar.proofs.PlainSound as plain_sound
 use Rattle.stream_grammar.proofs.PlainSound.{bind_ok, passed, ok_is}
 use Rattle.stream_grammar.proofs.StepSound.{byte_spells}
 use Rattle.stream_grammar.proofs.Solid.{Solid}
-use Rattle.stream_grammar.specs.Faults.{FaultStands}
+use Rattle.stream_grammar.specs.Faults.{AreBytes, FaultStands}
 use Rattle.stream_grammar.proofs.Standing.{stream_from, stands_from}
 use Rattle.stream_grammar.proofs.NoteSound.{items_sound}
-use Rattle.stream_grammar.proofs.Sound.{slots_sound}
+use Rattle.stream_grammar.proofs.Sound.{Answer, magic_sound, slots_sound}
 use Rattle.stream_grammar.proofs.Spelling.{stream_graph}
 use Rattle.stream_grammar.proofs.Shrinks.{spells_shrink, stream_few}
 use Rattle.stream_grammar.proofs.Mirror.{Ready}
@@ -27,7 +27,6 @@ use Rattle.stream_grammar.proofs.SameTokens.{spells_begin}
 use Rattle.stream_grammar.proofs.OneReading.{same_list}
 use Rattle.stream_grammar.proofs.Notes.{items_reads}
 use Rattle.stream_grammar.proofs.Complete.{Given, slots_complete, answer, magic_read}
-use Rattle.ser_read.specs.Here.{AreBytes}
 use Rattle.ser_read.specs.Whole.{nothing_read, stream_at}
 
 -- Reading from position 0 is reading of a whole stream.
@@ -45,23 +44,6 @@ faults_stand end bytes fault le e =
 same_bytes : (bs : List ℕ) → AreBytes bs → plain_sound.AreBytes bs
 same_bytes [] are = tt
 same_bytes (b ∷ bs) are = (are.0, same_bytes bs are.1)
-
-abbrev pub Answer : Type 0
-Answer = List Node × List Item
-
-record IsHeaded (ws bs rest : List ℕ) : Type 0 where
-  parts : bs ≡ ws ++ rest
-  left : plain_sound.AreBytes rest
-
-magic_sound : (end : ℕ) (ws bs rest : List ℕ) → magic_at end ws bs ≡ Ok rest → plain_sound.AreBytes bs → IsHeaded ws bs rest
-unfolding magic_at
-magic_sound end [] bs rest e bytes = let same : bs ≡ rest = ok_is bs rest e in record { parts = same; left = subst plain_sound.AreBytes same bytes }
-magic_sound end (w ∷ ws) bs rest e bytes =
-    let a = bind_ok (byte_at bs) (λ b. cond (eqb b.0 w) (magic_at end ws b.1) (Err (bad bad_magic (end - length bs)))) rest e in
-    let s = byte_spells bs bytes a.0 a.1 in
-    let p = passed (eqb a.0.0 w) (magic_at end ws a.0.1) (bad bad_magic (end - length bs)) rest a.2 in
-    let more = magic_sound end ws a.0.1 rest p.1 s.0 in
-    record { parts = s.1 ∙ (ap (λ z. z ∷ a.0.1) (eqb-true a.0.0 w p.0) ∙ ap (λ (l : List ℕ). w ∷ l) more.parts); left = more.left }
 
 -- Bytes that are read are a stream of the nodes and items that are answered, and the items' bytes are in range.
 stream_at_got : (end : ℕ) (bytes : List ℕ) (x : Answer) → AreBytes bytes → stream_at end bytes ≡ Ok x → IsStream x.0 x.1 bytes × ItemsFit x.1

@@ -24,7 +24,8 @@ use Rattle.ser_read.proofs.Bytes.{ok_is}
 use Rattle.ser_read.proofs.Steps.{bytes_more, leads_read, fails_outside}
 use Rattle.ser_read.proofs.Breaking.{breaks_as, breaks_two, first, all_told, breaks_told, breaks_caused}
 use Rattle.ser_read.proofs.Blocks.{Items, Slack, slack_leads, added_all}
-use Rattle.ser_read.proofs.Streams.{Answer, stream_at_sound, graph_at}
+use Rattle.stream_grammar.proofs.Sound.{Answer}
+use Rattle.ser_read.proofs.Streams.{stream_at_sound, graph_at}
 
 -- ---- up to the end
 

@@ -4,7 +4,7 @@ use Rattle.std.proofs.lemmas.List.{append_cancel_right}
 use Rattle.class_desc.specs.declared.slot.Item.{Item}
 use Rattle.ser_values.specs.declared.node.Node.{Node}
 use Rattle.stream_grammar.specs.Spelled.{joined}
-use Rattle.ser_read.specs.Here.{AreBytes}
+use Rattle.stream_grammar.specs.Faults.{AreBytes}
 use Rattle.ser_read.specs.declared.serving.Want.{Want}
 use Rattle.ser_read.specs.Wants.{WantFault, ◌▸◌, Stand, nothing_read, want_at, serve, serve_to_close}
 use Rattle.ser_read.specs.SpelledWants.{SpellsWants}

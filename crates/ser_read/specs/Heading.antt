@@ -4,7 +4,7 @@ use Rattle.std.specs.List.{concat}
 use Rattle.std.specs.Int.{w32, to_be_bytes}
 use Rattle.class_desc.specs.declared.slot.Item.TheVariants as items
 use Rattle.stream_grammar.specs.Spelled.{IsBlock}
-use Rattle.ser_read.specs.Here.{AreBytes}
+use Rattle.stream_grammar.specs.Faults.{AreBytes}
 use Rattle.ser_read.specs.Wants.{Stand}
 
 -- the header of a block of so many bytes, in either form

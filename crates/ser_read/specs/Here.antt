@@ -1,6 +1,5 @@
 -- What a call that reads from a Pull answers, beside reading as a function on lists.
 use Rattle.std.specs.Prelude.{◌≡◌, ℕ, ◌+◌, ◌-◌, ◌≤◌, ◌<◌, Bool, true, false, List, [], ◌∷◌, ◌++◌, length, take, drop, Option, None, Some, Result, Ok, Err, IfOk, IfErr}
-use Rattle.std.specs.List.{AllByRecursion}
 use Rattle.wire_io.specs.Wire.{ReadHalf, Rose, NothingLeft}
 use Rattle.wire_io.specs.Pulled.{PullState, pull_state, Takes, Passes}
 use Rattle.wire_io.specs.declared.pull.Pull.{Pull}
@@ -11,6 +10,7 @@ use Rattle.ser_read.specs.declared.fault.StreamKind.TheVariants as kinds
 use Rattle.ser_read.specs.declared.fault.StreamFault.{StreamFault}
 use Rattle.ser_read.specs.declared.fault.StreamFault.TheVariants.{Bad, TooLarge, Truncated, ReadFault, OutOfMemory}
 use Rattle.ser_read.specs.declared.fault.Large.TheVariants.{Bytes, Nodes, Depth}
+use Rattle.stream_grammar.specs.Faults.{AreBytes}
 use Rattle.stream_grammar.specs.Reading.{Fault, short, bad, too_many, too_deep, FaultKind, bad_magic, bad_code, bad_handle, wrong_handle_kind, bad_desc, bad_utf, negative_length, reset, inner_exception, old_external}
 
 -- ---- the bytes before a Pull, where they are told
@@ -80,6 +80,19 @@ kind_of kinds.Reset = reset
 kind_of kinds.InnerException = inner_exception
 kind_of kinds.OldExternal = old_external
 
+-- the kind of a fault of the grammar
+abbrev pub stream_kind : FaultKind → StreamKind
+stream_kind bad_magic = kinds.BadMagic
+stream_kind bad_code = kinds.BadCode
+stream_kind bad_handle = kinds.BadHandle
+stream_kind wrong_handle_kind = kinds.WrongHandleKind
+stream_kind bad_desc = kinds.BadDesc
+stream_kind bad_utf = kinds.BadUtf
+stream_kind negative_length = kinds.NegativeLength
+stream_kind reset = kinds.Reset
+stream_kind inner_exception = kinds.InnerException
+stream_kind old_external = kinds.OldExternal
+
 -- a kind that comes where a stream is read whole
 abbrev pub IsInBytes : StreamKind → Type 0
 IsInBytes kinds.BlockLeft = ⊥
@@ -119,10 +132,6 @@ GivesToldBy fails half old new result read out = IsTold half old → GivesBy (fa
 
 abbrev pub GivesTold : {S X Y : Type 0} → (S → ReadHalf) → Pull S → Pull S → Result X StreamFault → (ℕ → List ℕ → Result Y Fault) → (X → List ℕ → Y) → Type 0
 GivesTold half old new result read out = GivesToldBy Fails half old new result read out
-
--- Each is a number of 8 bits.
-abbrev pub AreBytes : List ℕ → Type 0
-AreBytes bs = AllByRecursion (λ b. b < 256) bs
 
 -- None of these bytes, which begin at this position, can be left out: reading any front that lacks one wants more. `more` says that.
 abbrev pub NeedsAll : {Y F : Type 0} → F → ℕ → List ℕ → (ℕ → List ℕ → Result Y F) → Type 0

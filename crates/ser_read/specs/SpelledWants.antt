@@ -10,7 +10,8 @@ use Rattle.ser_values.specs.Ranges.{NumbersFit, UnitsFit}
 use Rattle.ser_values.specs.Shape.{refs_in, parts_in}
 use Rattle.ser_read.specs.declared.fault.StreamFault.{StreamFault}
 use Rattle.stream_grammar.specs.Spelled.{joined, Spells, SpellsBlocks}
-use Rattle.ser_read.specs.Here.{AreBytes, IsOutside}
+use Rattle.ser_read.specs.Here.{IsOutside}
+use Rattle.stream_grammar.specs.Faults.{AreBytes}
 use Rattle.ser_read.specs.declared.serving.Want.{Want}
 use Rattle.ser_read.specs.declared.serving.Want.TheVariants as wanted
 

@@ -17,7 +17,8 @@ use Rattle.ser_read.specs.declared.block.Head.{Head}
 use Rattle.ser_read.specs.declared.block.Head.TheVariants.{Block, Code}
 use Rattle.ser_read.specs.declared.serving.Want.{Want}
 use Rattle.ser_read.specs.declared.serving.Want.TheVariants as wanted
-use Rattle.ser_read.specs.Here.{AreBytes, Reads, kind_of, FailsBy, GivesBy, GivesToldBy, BreaksBy}
+use Rattle.ser_read.specs.Here.{Reads, kind_of, FailsBy, GivesBy, GivesToldBy, BreaksBy}
+use Rattle.stream_grammar.specs.Faults.{AreBytes}
 use Rattle.ser_read.specs.Heads.{head_at}
 use Rattle.ser_read.specs.Named.{add_bytes}
 

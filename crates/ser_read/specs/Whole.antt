@@ -10,11 +10,11 @@ use Rattle.ser_values.specs.declared.limits.TheConstants.{LEVELS, PARTS}
 use Rattle.ser_values.specs.Shape.{refs_in, parts_in}
 use Rattle.stream_grammar.specs.Spelled.{IsStream}
 use Rattle.stream_grammar.specs.Reading.{◌>>=◌, Fault, short, Progress, magic_at, items_at, slot_at}
-use Rattle.stream_grammar.specs.Faults.{FaultStands}
+use Rattle.stream_grammar.specs.Faults.{AreBytes, FaultStands}
 use Rattle.ser_read.specs.declared.fault.StreamFault.{StreamFault}
 use Rattle.ser_read.specs.declared.fault.StreamFault.TheVariants.{Truncated, TooLarge, ReadFault}
 use Rattle.ser_read.specs.declared.fault.Large.TheVariants.{Bytes}
-use Rattle.ser_read.specs.Here.{AreBytes, IsOutside, Breaks}
+use Rattle.ser_read.specs.Here.{IsOutside, Breaks}
 
 -- nothing was read yet
 abbrev pub nothing_read : Progress

@@ -4,7 +4,8 @@ ghost use Rattle.std.specs.Int.{w16, w32, w64};
 ghost use Rattle.stream_grammar.specs.Reading.{byte_at, take_at, number_at, size_at, units_at, short_at, long_at};
 ghost use Rattle.ser_read.specs.declared.fault.StreamFault.TheVariants.{Bad};
 ghost use Rattle.ser_read.specs.declared.fault.StreamKind.TheVariants.{NegativeLength};
-ghost use Rattle.ser_read.specs.Here.{AreBytes, ReadsTaken, StopsTaken};
+ghost use Rattle.ser_read.specs.Here.{ReadsTaken, StopsTaken};
+ghost use Rattle.stream_grammar.specs.Faults.{AreBytes};
 ghost use Rattle.ser_read.specs.declared.pulled.TheConstants.{FEW};
 
 use crate::fault::{StreamFault, StreamKind};

@@ -5,7 +5,7 @@ ghost use Rattle.lane_kernels.specs.Kernels.{is_plain};
 ghost use Rattle.mod_utf.specs.Utf.{Utf};
 ghost use Rattle.mod_utf.specs.Decoding.{decoded_units, IsUnread, GivesUnits};
 
-use lane_kernels::plain_run;
+use lane_kernels::{is_plain, plain_run};
 use mod_utf::decode::{UtfFault, decode, decode_onto};
 use sequence::Units;
 use std::alloc::Global;
@@ -118,11 +118,4 @@ fn other_run(bytes: &[u8]) -> usize
         }
     }
     bytes.len()
-}
-
-/// Returns whether a byte is an ASCII character's other than zero.
-fn is_plain(byte: u8) -> bool
-    ensures { result ≡ is_plain byte }
-{
-    1 <= byte && byte <= 0x7F
 }

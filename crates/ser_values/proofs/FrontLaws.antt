@@ -1,8 +1,8 @@
 -- Bytes before items, taken away and put there.
-use Rattle.std.proofs.Common.{◌≡◌, ◌≢◌, ◌⊎◌, ◌||◌, not, ℕ, zero, suc, ◌+◌, ◌<◌, ◌≤◌, ◌^◌, Bool, true, false, cond, eqb, ltb, List, [], ◌∷◌, ◌++◌, length, take, drop, Some, None, refl, sym, ap, subst, ◌∙◌, arith, inl, inr}
+use Rattle.std.proofs.Common.{◌≡◌, ◌≢◌, ◌⊎◌, ◌||◌, not, ℕ, zero, suc, ◌+◌, ◌<◌, ◌≤◌, ◌^◌, Bool, true, false, cond, eqb, ltb, List, [], ◌∷◌, ◌++◌, length, take, drop, Some, None, refl, sym, ap, subst, ◌∙◌, append_assoc, append-nil, arith, inl, inr}
 use Rattle.std.specs.Prelude.{All}
 use Rattle.std.proofs.lemmas.List.Elements.{All-cons, All-head, All-tail, All-drop}
-use Rattle.std.proofs.lemmas.Bool.{eqb-true, eqb-false, ltb-false, lt-ltb, le-ltb, cases_eq, and_parts, ne_eqb}
+use Rattle.std.proofs.lemmas.Bool.{cases_Bool, eqb-true, eqb-false, ltb-false, lt-ltb, le-ltb, cases_eq, and_parts, ne_eqb}
 use Rattle.class_desc.specs.declared.slot.Item.{Item}
 use Rattle.class_desc.specs.declared.slot.Item.TheVariants as items
 use Rattle.class_desc.specs.TypeText.{is_nil}
@@ -16,6 +16,14 @@ use Rattle.ser_values.proofs.Lists.{some_same}
 use Rattle.ser_values.proofs.Ranged.{block_fits}
 
 -- ---- bytes before items
+
+-- Bytes before items join one another.
+pub put_both : (p q : List ℕ) (is : List Item) → put_block (p ++ q) is ≡ put_block p (put_block q is)
+put_both [] q is = refl
+put_both (x ∷ p) [] is = ap (λ (b : List ℕ). put_block b is) (append-nil (x ∷ p))
+put_both (x ∷ p) (y ∷ q) [] = refl
+put_both (x ∷ p) (y ∷ q) (items.Bytes r ∷ is) = ap (λ (b : List ℕ). items.Bytes b ∷ is) (append_assoc (x ∷ p) (y ∷ q) r)
+put_both (x ∷ p) (y ∷ q) (items.Ref s ∷ is) = refl
 
 pub put_wants : (b : List ℕ) (is : List Item) → item_wants (put_block b is) ≡ item_wants is
 unfolding item_wants
@@ -40,14 +48,10 @@ few_cut (suc n) (items.Ref s ∷ is) lt = refl
 few_cut (suc n) (items.Bytes b ∷ is) lt = let e : ltb (length b) (suc n) ≡ true = lt-ltb _ _ lt in rw e refl
 
 pub eqb_same : (n : ℕ) → eqb n n ≡ true
-eqb_same n = elim (cases_of (eqb n n)) [
+eqb_same n = elim (cases_Bool (eqb n n)) [
   | inl e ↦ e
   | inr e ↦ absurd (eqb-false n n e refl)
 ]
-  where
-    cases_of : (b : Bool) → (b ≡ true) ⊎ (b ≡ false)
-    cases_of true = inl refl
-    cases_of false = inr refl
 
 pub whole_cut : (n : ℕ) (is : List Item) → n ≢ 0 → n ≡ front_len is → without_front n is ≡ Some (drop 1 is)
 whole_cut zero is ne e = absurd (ne refl)

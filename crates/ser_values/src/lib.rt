@@ -51,5 +51,5 @@ pub use graph::{Graph, same_graph};
 pub use loose::elements_in;
 pub use node::{FIRST_HANDLE, Node, NodeList, NumberList, SlotPlace};
 pub use note_bytes::NotePlace;
-pub use shape::{fits_node, is_desc, is_text};
+pub use shape::{fits_node, fits_value, is_desc, is_text};
 pub use value::{Part, PartList, Value, ValueList, Values};

@@ -127,7 +127,7 @@ pub(crate) fn is_joined(items: &[Item]) -> bool
 }
 
 /// Returns whether a value has the type of a code.
-fn fits_value(code: TypeCode, value: Value) -> bool
+pub fn fits_value(code: TypeCode, value: Value) -> bool
     ensures { result ≡ fits_value code value }
 {
     match (code, value) {

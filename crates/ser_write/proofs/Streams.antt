@@ -31,7 +31,7 @@ use Rattle.ser_values.specs.Numbered.{Numbering, NumberAll, Numbers, no_numbers,
 use Rattle.ser_values.specs.Numbered as numbers
 use Rattle.stream_grammar.specs.Spelled.{Token, raw, truth, want, note, short_text, long_text, reference, field_tokens, value_token, element_tokens, writers, part_tokens, Form, a_text, a_long_text, a_desc, a_proxy, an_object, an_external, an_array, a_class, an_enum, IsBlock, joined, One, SpellsBlocks, SpellsItems, SpellsAll, Spelling, Spell, a_null, again, fresh, never, Spells, IsStream}
 use Rattle.ser_values.specs.Fronts.{put_block}
-use Rattle.ser_values.proofs.FrontLaws.{later_joined, put_apart}
+use Rattle.ser_values.proofs.FrontLaws.{later_joined, put_apart, put_both}
 use Rattle.stream_grammar.proofs.Spelling.{token_wants, form_wants, Silent, parts_silent, nil_is}
 use Rattle.stream_grammar.proofs.Shaped.{graph_shaped}
 use Rattle.stream_grammar.proofs.OneReading.{one_reading}
@@ -96,16 +96,9 @@ concat-pieces : (b : List ℕ) → concat (pieces b) ≡ b
 unfolding pieces
 concat-pieces b = in_concat (length b) b (omega arith)
 
-put_put : (a b : List ℕ) (is : List Item) → put_block a (put_block b is) ≡ put_block (a ++ b) is
-put_put [] b is = refl
-put_put (x ∷ a) [] is = ap (λ (l : List ℕ). put_block (x ∷ l) is) (sym (append-nil a))
-put_put (x ∷ a) (y ∷ b) [] = refl
-put_put (x ∷ a) (y ∷ b) (items.Bytes p ∷ is) = ap (λ (l : List ℕ). items.Bytes (x ∷ l) ∷ is) (sym (append_assoc a (y ∷ b) p))
-put_put (x ∷ a) (y ∷ b) (items.Ref s ∷ is) = refl
-
 joined_pieces : (cs : List (List ℕ)) (is : List Item) → joined (map items.Bytes cs ++ is) ≡ put_block (concat cs) (joined is)
 joined_pieces [] is = refl
-joined_pieces (c ∷ cs) is = ap (put_block c) (joined_pieces cs is) ∙ put_put c (concat cs) (joined is)
+joined_pieces (c ∷ cs) is = ap (put_block c) (joined_pieces cs is) ∙ sym (put_both c (concat cs) (joined is))
 
 not_nil : (b : List ℕ) → not (false || is_nil b) ≡ true → is_nil b ≡ false
 not_nil [] h = absurd cc

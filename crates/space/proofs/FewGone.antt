@@ -1,5 +1,5 @@
 -- What goes where a withdrawal looks at the objects in doubt alone: each that isn't kept is among these, and no more go than these are.
-use Rattle.std.proofs.Common.{◌≡◌, ℕ, ◌+◌, ◌≤◌, inl, inr, List, [], ◌∷◌, ◌++◌, length, refl, ap, sym, subst, cond, map, max, arith, length-append, ◌∙◌}
+use Rattle.std.proofs.Common.{◌≡◌, ℕ, ◌+◌, ◌≤◌, inl, inr, List, [], ◌∷◌, ◌++◌, length, refl, ap, sym, subst, cond, map, max, arith, append-nil, length-append, ◌∙◌}
 use Rattle.std.specs.Prelude.{Bool, true, false, ◌||◌, not, filter, if◌then◌else◌}
 use Rattle.std.specs.List.{list_any}
 use Rattle.std.proofs.lemmas.Bool.{and_parts}
@@ -10,11 +10,12 @@ use Rattle.history.proofs.ListLemmas.{length-fewer}
 use Rattle.history.proofs.Equalities.{object-equality}
 use Rattle.dgc_server.specs.Counts.{without_all}
 use Rattle.dgc_server.specs.StandsForCalls.{LeaseTable, StandsFor, ForEachLog}
+use Rattle.dgc_server.proofs.OneByOne.{dropped-none}
 use Rattle.export_table.specs.declared.rows.Export.{Export}
 use Rattle.export_table.specs.declared.waits.Wait.{Wait}
 use Rattle.export_table.specs.ExportRows.{ids, is_rising, is_among, is_row_kept, is_settled_but, held_by, stays_among, withdrawn_ids, IsPart}
 use Rattle.export_table.specs.Table.{ExportTable}
-use Rattle.export_table.specs.Waits.{still_waiting}
+use Rattle.export_table.specs.Waits.{goes_on, still_waiting}
 use Rattle.export_table.proofs.Among.{rows-among, gone-among}
 use Rattle.export_table.proofs.Parts.{part-map, part-rising}
 use Rattle.export_table.proofs.RowLaws.{rising-once}
@@ -115,3 +116,34 @@ withdrawn-among {leases1} {leases2} {x} {y} {t} {before} {after} os among kept g
       let P : List ObjId → Type 0 = λ l. StandsFor lease leases2 m (map (without_all l) calls) in
       subst P (gone-among os t (held_by lease (max t m) calls) x.waits x.rows (among lease m calls s)) (dropped lease m calls s));
 }
+
+-- ---- where there is nothing to do
+
+still-all : (t : ℕ) (ws : List Wait) → list_any (λ w. not (goes_on t w)) ws ≡ false → still_waiting t ws ≡ ws
+still-all t [] h = refl
+still-all t (w ∷ ws) h = go (goes_on t w) h (still-all t ws)
+  where
+    go : (b : Bool) → (not b || list_any (λ v. not (goes_on t v)) ws) ≡ false → (list_any (λ v. not (goes_on t v)) ws ≡ false → still_waiting t ws ≡ ws) → cond b (w ∷ still_waiting t ws) (still_waiting t ws) ≡ w ∷ ws
+    go true h f = ap (λ l. w ∷ l) (f h)
+    go false h f = absurd (cc)
+
+all-stay : (t : ℕ) (held : ObjId → Bool) (waits : List Wait) (rows : List Export) → filter (stays_among [] t held waits) rows ≡ rows
+all-stay t held waits [] = refl
+all-stay t held waits (x ∷ rows) = ap (λ l. x ∷ l) (all-stay t held waits rows)
+
+none-goes : (t : ℕ) (held : ObjId → Bool) (waits : List Wait) (rows : List Export) → ids (filter (λ x. not (stays_among [] t held waits x)) rows) ≡ []
+none-goes t held waits [] = refl
+none-goes t held waits (x ∷ rows) = none-goes t held waits rows
+
+-- A withdrawal that looks at no object, where no wait has ended.
+pub nothing-withdrawn : {leases : LeaseTable} {x : ExportTable} {t : ℕ} {gone : List ObjId} (os : List ObjId) → os ≡ [] → list_any (λ w. not (goes_on t w)) x.waits ≡ false → GoesAmong leases x t os →
+    HasWithdrawn leases leases x x t gone gone
+nothing-withdrawn {leases} {x} {t} {gone} os none over among =
+    let G : List ObjId → Type 0 = λ l. GoesAmong leases x t l in
+    withdrawn-among [] (subst G none among)
+    (λ lease m calls s. ap (λ (rows : List Export). record x { rows = rows }) (sym (all-stay t (held_by lease (max t m) calls) x.waits x.rows))
+    ∙ ap (λ (ws : List Wait). record x { rows = filter (stays_among [] t (held_by lease (max t m) calls) x.waits) x.rows; waits = ws }) (sym (still-all t x.waits over)))
+    (λ lease m calls s. sym (append-nil gone) ∙ ap (λ l. gone ++ l) (sym (none-goes t (held_by lease (max t m) calls) x.waits x.rows)))
+    (λ lease m calls s.
+    let P : List ObjId → Type 0 = λ l. StandsFor lease leases m (map (without_all l) calls) in
+    subst P (sym (none-goes t (held_by lease (max t m) calls) x.waits x.rows)) (dropped-none lease m leases calls s))

@@ -18,7 +18,7 @@ use Rattle.object_ids.proofs.Exact.{same_id-equal, same_id-self, same_key-same}
 use Rattle.indexmap.specs.IndexMap.{insert_entry, set_value_at}
 use Rattle.indexmap.proofs.MapLemmas.{Found-position}
 use Rattle.history.specs.Places.{History}
-use Rattle.history.proofs.ListLemmas.{list_any-length}
+use Rattle.history.proofs.ListLemmas.{list_any-length, same_test}
 use Rattle.history.proofs.Partitions.{one_if}
 use Rattle.space.specs.declared.runs.Run.{Run}
 use Rattle.space.specs.RunTable.{AreSame, calls_of, LacksOneOf}
@@ -70,13 +70,8 @@ same-run-equal a b h = is-run-equal b.by b.object a (sym (same-run-is a b) ∙ h
 
 -- The calls that one counts are those with its key.
 pub is-run-key : (run r : Run) → is_run run.by run.object r ≡ same_run run r
-is-run-key run r = alike (is_run run.by run.object r) (same_run run r) there back
+is-run-key run r = same_test (is_run run.by run.object r) (same_run run r) there back
   where
-    alike : (a b : Bool) → (a ≡ true → b ≡ true) → (b ≡ true → a ≡ true) → a ≡ b
-    alike true b f g = sym (f refl)
-    alike false true f g = g refl
-    alike false false f g = refl
-
     there : is_run run.by run.object r ≡ true → same_run run r ≡ true
     there h = same-run-is run r ∙ (let P : Run → Type 0 = λ x. is_run x.by x.object run ≡ true in subst P (sym (is-run-equal run.by run.object r h)) (is-run-self run))
 

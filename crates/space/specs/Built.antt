@@ -1,6 +1,7 @@
 -- How contracts see a space.
-use Rattle.std.specs.Prelude.{List, map}
+use Rattle.std.specs.Prelude.{ℕ, true, List, map}
 use Rattle.history.specs.declared.asks.SpaceConfig.{SpaceConfig}
+use Rattle.history.specs.declared.asks.Ask.TheVariants.{Open}
 use Rattle.history.specs.declared.asks.Event.{Event}
 use Rattle.history.specs.declared.places.Exported.{Exported}
 use Rattle.history.specs.Table.{places, table}
@@ -25,3 +26,7 @@ exported_row x = record { id = x.id; kind = x.kind; pinned = x.pinned }
 -- The rows of an export table.
 abbrev pub exported_rows : List Export → List Exported
 exported_rows rows = map exported_row rows
+
+-- The server itself, which is connection 0, exports an object of a kind for good, at the moment 0.
+abbrev pub open_event : ℕ → Event
+open_event kind = record { by = 0; moment = 0; ask = Open kind true }

@@ -71,7 +71,14 @@ pub(crate) fn act(
             made,
             listed: _,
             uid,
-        } if effective => end_with(exports, now, object, made.as_slice(), returned, uid),
+        } if effective => {
+            let end = Return {
+                made: made.as_slice(),
+                listed: returned,
+                uid: *uid,
+            };
+            end_with(exports, now, object, &end)
+        }
         Ask::Abandon { object } if effective => exports.end(*object),
         Ask::Ack { uid } => exports.ack(*uid),
         Ask::Bind { name: _, object } if effective => pin_for_name(exports, object, stood),
@@ -109,35 +116,40 @@ fn unpin(exports: &mut Exports, stood: Option<ObjId>)
     }
 }
 
-/// Ends a call of an object with its return at a moment: adds objects of the kinds `made`, and has references to the objects `returned`,
+/// A return of a call.
+#[derive(Clone, Copy)]
+struct Return<'a> {
+    /// The kinds of the objects that it exports.
+    made: &'a [u32],
+    /// The objects to which it has references.
+    listed: &'a [ObjId],
+    /// Its identifier.
+    uid: Uid,
+}
+
+/// Ends a call of an object with its return at a moment: adds the objects that it exports, and has references to those that it lists,
 /// each of which is then exported, await. There is room for them.
-fn end_with(
-    exports: &mut Exports,
-    now: u64,
-    object: &ObjId,
-    made: &[u32],
-    returned: &[ObjId],
-    uid: &Uid,
-)
+fn end_with(exports: &mut Exports, now: u64, object: &ObjId, returned: &Return<'_>)
     requires runs { 0 < running_of exports.old.rows object.now }
-    requires countable { exports.old.added + length made.now < END_OF_OBJECT_COUNT }
-    requires within { length exports.old.rows + length made.now ≤ MAX_EXPORTS }
+    requires countable { exports.old.added + length returned.now.made.now < END_OF_OBJECT_COUNT }
+    requires within { length exports.old.rows + length returned.now.made.now ≤ MAX_EXPORTS }
     requires early { now < END_OF_TIME }
     requires some { 1 ≤ exports.old.ack }
     requires once { waits_once reference_of exports.old.waits }
     requires exported { AllByRecursion (λ o. is_exported
-        (exports.old.rows ++ new_rows exports.old.space exports.old.added made.now) o ≡ true)
-        returned.now }
-    requires awaiting { awaiting_with now uid.now returned.now exports.old.waits ≤ MAX_AWAITING }
-    requires objects_room { length made.now ≤ exports.old.room.exports }
-    requires waits_room { length returned.now ≤ exports.old.room.waits }
+        (exports.old.rows ++ new_rows exports.old.space exports.old.added returned.now.made.now) o
+        ≡ true) returned.now.listed.now }
+    requires awaiting { awaiting_with now returned.now.uid returned.now.listed.now exports.old.waits
+        ≤ MAX_AWAITING }
+    requires objects_room { length returned.now.made.now ≤ exports.old.room.exports }
+    requires waits_room { length returned.now.listed.now ≤ exports.old.room.waits }
     ensures { exports.new
-        ≡ record (returned_from now object.now made.now returned.now uid.now exports.old)
-        { room = exports.new.room } }
+        ≡ record (returned_from now object.now returned.now.made.now returned.now.listed.now
+        returned.now.uid exports.old) { room = exports.new.room } }
 {
     exports.end(*object);
-    add_all(exports, made);
-    await_all(exports, now, returned, uid);
+    add_all(exports, returned.made);
+    await_all(exports, now, returned.listed, &returned.uid);
 }
 
 /// Adds an object, for which there is room.
@@ -215,6 +227,9 @@ pub(crate) fn fit_list(alloc: Global, room: Vec<ObjId>, objects: &ObjIds) -> Obj
     requires { length objects.now ≤ vec_capacity room }
     ensures { result ≡ objects.now }
 {
+    if objects.is_empty() {
+        return ObjIds::new(alloc);
+    }
     match objects.copy(alloc) {
         Ok(list) => list,
         Err(_refused) => fill_list(room, objects),
@@ -227,6 +242,9 @@ pub(crate) fn fill_list(mut room: Vec<ObjId>, objects: &ObjIds) -> ObjIds
     ensures { result ≡ objects.now }
 {
     room.clear();
+    if objects.is_empty() {
+        return ObjIds::from_vec(room);
+    }
     match room.extend_from_slice(objects.as_slice()) {
         Ok(()) => {}
         Err(_refused) => {}

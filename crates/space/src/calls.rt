@@ -16,6 +16,32 @@ use history::{Ask, Refused};
 use object_ids::{FullKind, ObjId, ObjIds, Vmid};
 use std::alloc::{AllocError, Global};
 
+/// A dirty call but for its objects.
+#[derive(Clone, Copy)]
+struct DirtyCall<'a> {
+    /// The client that makes it.
+    client: &'a Vmid,
+    /// Its number among those of the client.
+    number: i64,
+    /// The lease that it asks for, in milliseconds.
+    asked: i64,
+    /// The moment of the call, in milliseconds.
+    moment: u64,
+}
+
+/// A clean call but for its objects.
+#[derive(Clone, Copy)]
+struct CleanCall<'a> {
+    /// The client that makes it.
+    client: &'a Vmid,
+    /// Its number among those of the client.
+    number: i64,
+    /// True where its number is remembered for good.
+    strong: bool,
+    /// The moment of the call, in milliseconds.
+    moment: u64,
+}
+
 /// Tells the lease table of an ask at a moment. After a refusal it is as it was.
 pub(crate) fn tell(
     alloc: Global,
@@ -39,13 +65,29 @@ pub(crate) fn tell(
             number,
             asked,
             objects: named,
-        } => tell_dirty(alloc, leases, exports, now, client, number, asked, named),
+        } => {
+            let call = DirtyCall {
+                client,
+                number: *number,
+                asked: *asked,
+                moment: now,
+            };
+            tell_dirty(alloc, leases, exports, &call, named)
+        }
         Ask::Clean {
             client,
             number,
             objects: named,
             strong,
-        } => tell_clean(alloc, leases, exports, now, client, number, named, *strong),
+        } => {
+            let call = CleanCall {
+                client,
+                number: *number,
+                strong: *strong,
+                moment: now,
+            };
+            tell_clean(alloc, leases, exports, &call, named)
+        }
         _ => {
             leases.lapse(now);
             Ok(())
@@ -57,49 +99,43 @@ fn tell_dirty(
     alloc: Global,
     leases: &mut Leases,
     exports: &Exports,
-    now: u64,
-    client: &Vmid,
-    number: &i64,
-    asked: &i64,
+    call: &DirtyCall<'_>,
     named: &ObjIds,
 ) -> Result<(), Refused>
-    requires { now < END_OF_TIME }
+    requires { call.now.moment < END_OF_TIME }
     ensures ok { OnOk result
-        (ForEachLogBy now leases.old (λ lease calls. StandsFor lease leases.new now
-        (dirty_call now client.now number.now asked.now
+        (ForEachLogBy call.now.moment leases.old (λ lease calls. StandsFor lease leases.new
+        call.now.moment
+        (dirty_call call.now.moment call.now.client.now call.now.number call.now.asked
         (filter (is_exported exports.now.rows) named.now) ∷ calls))) }
-    ensures refusal { ForEachLogBy now leases.old (λ lease calls. Agrees
-        (call_refusal lease now calls
-        (dirty_call now client.now number.now asked.now
+    ensures refusal { ForEachLogBy call.now.moment leases.old (λ lease calls. Agrees
+        (call_refusal lease call.now.moment calls
+        (dirty_call call.now.moment call.now.client.now call.now.number call.now.asked
         (filter (is_exported exports.now.rows) named.now))) result) }
     ensures err { OnErr result (leases.new ≡ leases.old) }
 {
     if are_exported(exports, named) {
-        return take_dirty(leases, now, client, number, asked, named);
+        return take_dirty(leases, call, named);
     }
     let live = live_among(alloc, exports, named)?;
-    take_dirty(leases, now, client, number, asked, &live)
+    take_dirty(leases, call, &live)
 }
 
 /// Tells the lease table of a dirty of these objects.
-fn take_dirty(
-    leases: &mut Leases,
-    now: u64,
-    client: &Vmid,
-    number: &i64,
-    asked: &i64,
-    live: &ObjIds,
-) -> Result<(), Refused>
-    requires { now < END_OF_TIME }
+fn take_dirty(leases: &mut Leases, call: &DirtyCall<'_>, live: &ObjIds) -> Result<(), Refused>
+    requires { call.now.moment < END_OF_TIME }
     ensures ok { OnOk result
-        (ForEachLogBy now leases.old (λ lease calls. StandsFor lease leases.new now
-        (dirty_call now client.now number.now asked.now live.now ∷ calls))) }
-    ensures refusal { ForEachLogBy now leases.old (λ lease calls. Agrees
-        (call_refusal lease now calls (dirty_call now client.now number.now asked.now live.now))
+        (ForEachLogBy call.now.moment leases.old (λ lease calls. StandsFor lease leases.new
+        call.now.moment
+        (dirty_call call.now.moment call.now.client.now call.now.number call.now.asked
+        live.now ∷ calls))) }
+    ensures refusal { ForEachLogBy call.now.moment leases.old (λ lease calls. Agrees
+        (call_refusal lease call.now.moment calls
+        (dirty_call call.now.moment call.now.client.now call.now.number call.now.asked live.now))
         result) }
     ensures err { OnErr result (leases.new ≡ leases.old) }
 {
-    match leases.dirty(client, *number, *asked, live, now) {
+    match leases.dirty(call.client, call.number, call.asked, live, call.moment) {
         // The reply stands already: `reply_at` grants `grant` of the configured lease. By its clause `granted`, so does `dirty`.
         Ok(_granted) => Ok(()),
         Err(fault) => Err(refused_for(fault)),
@@ -110,49 +146,43 @@ fn tell_clean(
     alloc: Global,
     leases: &mut Leases,
     exports: &Exports,
-    now: u64,
-    client: &Vmid,
-    number: &i64,
+    call: &CleanCall<'_>,
     named: &ObjIds,
-    strong: bool,
 ) -> Result<(), Refused>
-    requires { now < END_OF_TIME }
+    requires { call.now.moment < END_OF_TIME }
     ensures ok { OnOk result
-        (ForEachLogBy now leases.old (λ lease calls. StandsFor lease leases.new now
-        (clean_call now client.now number.now (filter (is_exported exports.now.rows) named.now)
-        strong ∷ calls))) }
-    ensures refusal { ForEachLogBy now leases.old (λ lease calls. Agrees
-        (call_refusal lease now calls
-        (clean_call now client.now number.now (filter (is_exported exports.now.rows) named.now)
-        strong)) result) }
+        (ForEachLogBy call.now.moment leases.old (λ lease calls. StandsFor lease leases.new
+        call.now.moment
+        (clean_call call.now.moment call.now.client.now call.now.number
+        (filter (is_exported exports.now.rows) named.now) call.now.strong ∷ calls))) }
+    ensures refusal { ForEachLogBy call.now.moment leases.old (λ lease calls. Agrees
+        (call_refusal lease call.now.moment calls
+        (clean_call call.now.moment call.now.client.now call.now.number
+        (filter (is_exported exports.now.rows) named.now) call.now.strong)) result) }
     ensures err { OnErr result (leases.new ≡ leases.old) }
 {
     if are_exported(exports, named) {
-        return take_clean(leases, now, client, number, named, strong);
+        return take_clean(leases, call, named);
     }
     let live = live_among(alloc, exports, named)?;
-    take_clean(leases, now, client, number, &live, strong)
+    take_clean(leases, call, &live)
 }
 
 /// Tells the lease table of a clean of these objects.
-fn take_clean(
-    leases: &mut Leases,
-    now: u64,
-    client: &Vmid,
-    number: &i64,
-    live: &ObjIds,
-    strong: bool,
-) -> Result<(), Refused>
-    requires { now < END_OF_TIME }
+fn take_clean(leases: &mut Leases, call: &CleanCall<'_>, live: &ObjIds) -> Result<(), Refused>
+    requires { call.now.moment < END_OF_TIME }
     ensures ok { OnOk result
-        (ForEachLogBy now leases.old (λ lease calls. StandsFor lease leases.new now
-        (clean_call now client.now number.now live.now strong ∷ calls))) }
-    ensures refusal { ForEachLogBy now leases.old (λ lease calls. Agrees
-        (call_refusal lease now calls (clean_call now client.now number.now live.now strong))
-        result) }
+        (ForEachLogBy call.now.moment leases.old (λ lease calls. StandsFor lease leases.new
+        call.now.moment
+        (clean_call call.now.moment call.now.client.now call.now.number live.now
+        call.now.strong ∷ calls))) }
+    ensures refusal { ForEachLogBy call.now.moment leases.old (λ lease calls. Agrees
+        (call_refusal lease call.now.moment calls
+        (clean_call call.now.moment call.now.client.now call.now.number live.now
+        call.now.strong)) result) }
     ensures err { OnErr result (leases.new ≡ leases.old) }
 {
-    match leases.clean(client, *number, live, strong, now) {
+    match leases.clean(call.client, call.number, live, call.strong, call.moment) {
         Ok(()) => Ok(()),
         Err(fault) => Err(refused_for(fault)),
     }

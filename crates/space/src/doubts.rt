@@ -1,9 +1,11 @@
 //! The objects that may have to be withdrawn: those from which an event, or the time that passed, may have taken what kept them. After each turn
 //! every exported object is kept, so that no other object can go at the next one.
-ghost use Rattle.std.specs.Prelude.{◌≡◌, ◌<◌, ◌≤◌, ◌++◌, ◌∷◌, ◌+◌, List, false, length, IfOk, vec_len, vec_capacity};
+ghost use Rattle.std.specs.Prelude.{◌≡◌, ◌<◌, ◌≤◌, ◌++◌, ◌∷◌, ◌+◌, [], List, false, not, length, IfOk, OnOk, vec_len, vec_capacity};
+ghost use Rattle.std.specs.List.{list_any};
 ghost use Rattle.object_ids.specs.declared.ids.ObjId.{ObjId};
 ghost use Rattle.history.specs.Places.{id_at};
 ghost use Rattle.history.specs.declared.limits.TheConstants.{END_OF_OBJECT_COUNT};
+ghost use Rattle.export_table.specs.Waits.{goes_on};
 ghost use Rattle.space.specs.Doubts.{AreInDoubt, HasLog, taken_by};
 ghost use Rattle.space.specs.Withdrawing.{HasWithdrawn, IsEnough, most_gone};
 
@@ -30,9 +32,22 @@ pub(crate) fn in_doubt(
         (taken_by tables.now.exports.waits (id_at tables.now.config.uid tables.now.added) stood
         returned.now ask.now) os.items) }
 {
+    let taken = taken_by(tables, stood, returned, ask)?;
+    if takes_time(&tables.exports, &tables.leases, now) {
+        with_passed(tables, now, taken)
+    } else {
+        Ok(taken)
+    }
+}
+
+/// The objects from which the time that passes to a moment may take what keeps them, and others after them.
+#[inline(never)]
+fn with_passed(tables: &Tables, now: u64, taken: Vec<ObjId>) -> Result<Vec<ObjId>, AllocError>
+    ensures { IfOk result (λ os. AreInDoubt tables.now.leases now tables.now.exports.waits
+        taken.items os.items) }
+{
     let freed = tables.leases.freed_objects(tables.alloc, now)?;
     let ended = tables.exports.ended_objects(tables.alloc, now)?;
-    let taken = taken_by(tables, stood, returned, ask)?;
     let passed = join_lists(freed, ended)?;
     let objects = join_lists(passed, taken)?;
     Ok(objects)
@@ -92,7 +107,7 @@ fn one_and(alloc: Global, object: &ObjId, others: &[ObjId]) -> Result<Vec<ObjId>
     ensures { IfOk result (λ os. os.items ≡ object.now ∷ others.now) }
 {
     let mut objects = list_of(alloc, Some(*object))?;
-    objects.extend_from_slice(others)?;
+    extend(&mut objects, others)?;
     Ok(objects)
 }
 
@@ -101,8 +116,18 @@ pub(crate) fn copy_of_objects(alloc: Global, objects: &[ObjId]) -> Result<Vec<Ob
     ensures { IfOk result (λ os. os.items ≡ objects.now) }
 {
     let mut copy = Vec::new(alloc);
-    copy.extend_from_slice(objects)?;
+    extend(&mut copy, objects)?;
     Ok(copy)
+}
+
+/// Appends objects to a list. It takes no time where there are none.
+pub(crate) fn extend(objects: &mut Vec<ObjId>, more: &[ObjId]) -> Result<(), AllocError>
+    ensures { OnOk result (objects.new.items ≡ objects.old.items ++ more.now) }
+{
+    if more.is_empty() {
+        return Ok(());
+    }
+    objects.extend_from_slice(more)
 }
 
 /// Returns whether time that passes to a moment may take what keeps some object. It may where a lease may end, or
@@ -149,7 +174,21 @@ pub(crate) fn withdraw(
     let _count = exports.count();
     if doubt.all {
         exports.withdraw(now, leases, gone);
-    } else {
+    } else if may_change(exports, now, doubt.objects) {
         exports.withdraw_among(now, leases, doubt.objects, gone);
+    }
+}
+
+/// Returns whether a withdrawal that looks at these objects alone may change anything: there is one of them, or the wait of a reference has
+/// ended at a moment.
+fn may_change(exports: &Exports, now: u64, objects: &[ObjId]) -> bool
+    ensures none { result ≡ false → objects.now ≡ [] }
+    ensures waits { result ≡ false
+        → list_any (λ w. not (goes_on now w)) exports.now.waits ≡ false }
+{
+    if objects.is_empty() {
+        exports.has_ended(now)
+    } else {
+        true
     }
 }

@@ -10,41 +10,37 @@ ghost use Rattle.space.specs.Acts.{ForEachLogBy, acted_names, binding_refusal, n
 ghost use Rattle.space.specs.Faults.{unbound_for};
 
 use crate::calls::tell;
-use dgc_server::Leases;
-use export_table::Exports;
+use crate::tables::Tables;
 use history::{Ask, Name, Refused};
 use object_ids::ObjId;
 use rmi_registry::{NameFault, Names};
 use std::alloc::Global;
 
-/// Tells the lease table of an ask at a moment, and binds or unbinds its name. After a refusal all is as it was.
-pub(crate) fn settle(
-    alloc: Global,
-    leases: &mut Leases,
-    names: &mut Names,
-    exports: &Exports,
-    effective: bool,
-    now: u64,
-    ask: &Ask,
-) -> Result<(), Refused>
-    requires { now < END_OF_TIME }
-    ensures ok { OnOk result
-        (ForEachLogBy now leases.old (λ lease calls. StandsFor lease leases.new now
-        (call_with (is_exported exports.now.rows) now ask.now ++ calls))) }
-    ensures names { OnOk result (names.new ≡ acted_names effective ask.now names.old) }
-    ensures refusal { ForEachLogBy now leases.old (λ lease calls. Agrees
-        (told_refusal lease now calls (call_with (is_exported exports.now.rows) now ask.now)
-        (length names.old) (option_and_then (object_of names.old) (name_in ask.now)) effective
-        ask.now) result) }
-    ensures err { OnErr result (leases.new ≡ leases.old) }
-    ensures kept { OnErr result (names.new ≡ names.old) }
-{
-    if changes_name(ask) {
-        rename(alloc, names, effective, ask)?;
-        leases.lapse(now);
-        Ok(())
-    } else {
-        tell(alloc, leases, exports, now, ask)
+impl Tables {
+    /// Tells the lease table of an ask at a moment, and binds or unbinds its name. After a refusal all is as it was.
+    pub(crate) fn settle(&mut self, effective: bool, now: u64, ask: &Ask) -> Result<(), Refused>
+        requires { now < END_OF_TIME }
+        ensures ok { OnOk result
+            (ForEachLogBy now self.old.leases (λ lease calls. StandsFor lease self.new.leases now
+            (call_with (is_exported self.old.exports.rows) now ask.now ++ calls))) }
+        ensures names { OnOk result
+            (self.new.names ≡ acted_names effective ask.now self.old.names) }
+        ensures refusal { ForEachLogBy now self.old.leases (λ lease calls. Agrees
+            (told_refusal lease now calls
+            (call_with (is_exported self.old.exports.rows) now ask.now) (length self.old.names)
+            (option_and_then (object_of self.old.names) (name_in ask.now)) effective ask.now)
+            result) }
+        ensures rest { self.new
+            ≡ record self.old { leases = self.new.leases; names = self.new.names } }
+        ensures err { OnErr result (self.new ≡ self.old) }
+    {
+        if changes_name(ask) {
+            rename(self.alloc, &mut self.names, effective, ask)?;
+            self.leases.lapse(now);
+            Ok(())
+        } else {
+            tell(self.alloc, &mut self.leases, &self.exports, now, ask)
+        }
     }
 }
 

@@ -11,6 +11,7 @@ ghost use Rattle.export_table.specs.Waits.{is_waiting};
 ghost use Rattle.space.specs.Acts.{Agrees, await_refusal, awaiting_after, new_ids, opens, return_refusal, returned_by};
 
 use crate::calls::live_among;
+use crate::doubts::extend;
 use crate::prepared::Admitted;
 use crate::tables::Tables;
 use export_table::Exports;
@@ -125,7 +126,7 @@ fn new_and(
     ensures { IfOk result (λ objects. objects.items ≡ new_ids space k made.now ++ others.now) }
 {
     let mut objects = new_ids(alloc, space, k, made)?;
-    objects.extend_from_slice(others)?;
+    extend(&mut objects, others)?;
     Ok(objects)
 }
 

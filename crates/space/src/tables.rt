@@ -2,14 +2,12 @@
 ghost use Rattle.std.specs.Prelude.{◌≡◌, ◌<◌, ◌++◌, ◌∷◌, [], true, Ok, Err, IfOk, IfErr, OnOk, OnErr};
 ghost use Rattle.history.specs.Steps.{Step};
 ghost use Rattle.history.specs.declared.limits.TheConstants.{END_OF_TIME};
-ghost use Rattle.space.specs.Acts.{event_of};
 ghost use Rattle.space.specs.Ready.{IsReady};
 ghost use Rattle.space.specs.Whole.{IsWhole, IsWholeWith};
 
 use crate::acts::act;
 use crate::asks::reported_after;
 use crate::doubts::{Doubt, withdraw};
-use crate::names::settle;
 use crate::prepared::{Admitted, Prepared, admit, prepare};
 use crate::rooms::room_for_all;
 use crate::runs::{Runs, act_on_runs};
@@ -18,7 +16,7 @@ use dgc_server::Leases;
 use event_log::SpaceEvents;
 use export_table::Exports;
 use history::asks::units_of;
-use history::{Ask, Refused, SpaceConfig, Turn};
+use history::{Event, Refused, SpaceConfig, Turn};
 use object_ids::ObjIds;
 use rmi_registry::Names;
 use std::alloc::Global;
@@ -55,32 +53,24 @@ pub struct Tables {
 impl Tables {
     /// Does what a turn does but for the event itself, which the caller appends: there is room for it. Where the turn is `noted`, a copy of
     /// the objects that it tells as gone is beside it. A refused turn leaves more room at most.
-    pub(crate) fn turn(
-        &mut self,
-        by: u32,
-        moment: u64,
-        ask: &Ask,
-        noted: bool,
-    ) -> Result<(Turn, ObjIds), Refused>
-        requires moment { moment < END_OF_TIME }
+    pub(crate) fn turn(&mut self, event: &Event, noted: bool) -> Result<(Turn, ObjIds), Refused>
+        requires moment { event.now.moment < END_OF_TIME }
         requires whole { IsWhole self.old }
-        ensures taken { IfOk result (λ x.
-            let e = event_of by moment ask.now in
-            Step self.old.config self.old.events.items e (Ok x.0)
-            (self.old.events.items ++ e ∷ [])) }
+        ensures taken { IfOk result (λ x. Step self.old.config self.old.events.items event.now
+            (Ok x.0) (self.old.events.items ++ event.now ∷ [])) }
         ensures copy { IfOk result (λ x. noted ≡ true → x.1 ≡ x.0.gone) }
-        ensures refused { IfErr result (λ refused. let e = event_of by moment ask.now in
-            Step self.old.config self.old.events.items e (Err refused) self.old.events.items) }
+        ensures refused { IfErr result (λ refused. Step self.old.config self.old.events.items
+            event.now (Err refused) self.old.events.items) }
         ensures with_event { OnOk result
-            (IsWholeWith self.new (self.new.events.items ++ event_of by moment ask.now ∷ [])) }
+            (IsWholeWith self.new (self.new.events.items ++ event.now ∷ [])) }
         ensures whole { OnErr result (IsWhole self.new) }
         ensures events { self.new.events.items ≡ self.old.events.items }
         ensures spare { OnOk result (self.new.events.spare ≡ true) }
         ensures config { self.new.config ≡ self.old.config }
     {
-        let admitted = admit(self, by, ask)?;
-        let now = moment.max(self.moment);
-        let ready = prepare(self, admitted, now, noted, ask)?;
+        let admitted = admit(self, event.by, &event.ask)?;
+        let now = event.moment.max(self.moment);
+        let ready = prepare(self, admitted, now, noted, &event.ask)?;
         room_for_all(
             &mut self.events,
             &mut self.runs,
@@ -88,40 +78,29 @@ impl Tables {
             &mut self.exports,
             &ready,
         )?;
-        settle(
-            self.alloc,
-            &mut self.leases,
-            &mut self.names,
-            &self.exports,
-            admitted.effective,
-            now,
-            ask,
-        )?;
-        Ok(self.take(by, moment, ask, admitted, ready, noted))
+        self.settle(admitted.effective, now, &event.ask)?;
+        Ok(self.take(event, admitted, ready, noted))
     }
 
     /// Takes a turn that nothing can refuse any more: the leases and the names know of it already, and there is room for all that it adds. What it
     /// answers, and the copy, are as `turn` says.
     fn take(
         &mut self,
-        by: u32,
-        moment: u64,
-        ask: &Ask,
+        event: &Event,
         admitted: Admitted,
         mut ready: Prepared,
         noted: bool,
     ) -> (Turn, ObjIds)
-        requires ready { IsReady self.old (event_of by moment ask.now) admitted ready noted }
-        ensures taken { let e = event_of by moment ask.now in
-            Step self.old.config self.old.events.items e (Ok result.0)
-            (self.old.events.items ++ e ∷ []) }
+        requires ready { IsReady self.old event.now admitted ready noted }
+        ensures taken { Step self.old.config self.old.events.items event.now (Ok result.0)
+            (self.old.events.items ++ event.now ∷ []) }
         ensures copy { noted ≡ true → result.1 ≡ result.0.gone }
-        ensures with_event { IsWholeWith self.new
-            (self.new.events.items ++ event_of by moment ask.now ∷ []) }
+        ensures with_event { IsWholeWith self.new (self.new.events.items ++ event.now ∷ []) }
         ensures events { self.new.events ≡ self.old.events }
         ensures config { self.new.config ≡ self.old.config }
     {
-        let now = moment.max(self.moment);
+        let ask = &event.ask;
+        let now = event.moment.max(self.moment);
         let place = self.events.len() as u64;
         act(
             &mut self.exports,
@@ -130,7 +109,7 @@ impl Tables {
             &ready.listed.references,
             ask,
         );
-        act_on_runs(&mut self.runs, admitted.effective, by, ask);
+        act_on_runs(&mut self.runs, admitted.effective, event.by, ask);
         let untold = ready.untold.gone.len();
         withdraw(
             &mut self.exports,

@@ -7,10 +7,11 @@ ghost use Rattle.export_table.specs.ExportRows.{row_at};
 ghost use Rattle.space.specs.OutlineRows.{held_row, binding_text};
 ghost use Rattle.space.specs.Standing.{standing};
 
+use crate::tables::Tables;
 use crate::turns::Space;
 use crate::withdrawals::Withdrawals;
 use dgc_server::{LeaseRow, Leases};
-use export_table::{ExportRow, Exports};
+use export_table::ExportRow;
 use history::SpaceConfig;
 use journal::ObjectRow;
 use journal::outline::{
@@ -62,36 +63,30 @@ fn put_standing(alloc: Global, text: &mut ByteList, space: &Space) -> Result<(),
         space.tables.units,
         space.tables.moment,
     )?;
-    put_exports(
-        alloc,
-        text,
-        &space.tables.config,
-        &space.tables.leases,
-        &space.tables.exports,
-        space.tables.moment,
-    )?;
+    put_exports(alloc, text, &space.tables)?;
     put_leases(alloc, text, &space.tables.leases, space.tables.moment)?;
     put_bindings(alloc, text, &space.tables.config, &space.tables.names)
 }
 
 /// Takes the rows of all exported objects, and appends a line of each.
-fn put_exports(
-    alloc: Global,
-    text: &mut ByteList,
-    config: &SpaceConfig,
-    leases: &Leases,
-    exports: &Exports,
-    now: u64,
-) -> Result<(), AllocError>
+fn put_exports(alloc: Global, text: &mut ByteList, tables: &Tables) -> Result<(), AllocError>
     ensures { OnOk result
-        (ForEachLog leases.now (λ lease moment calls.
-        let rows = map (row_at now exports.now.waits) exports.now.rows in
+        (ForEachLog tables.now.leases (λ lease moment calls.
+        let now = tables.now.moment in
+        let rows = map (row_at now tables.now.exports.waits) tables.now.exports.rows in
         text.new
         ≡ text.old ++ flat_map
-        (λ x. lines.object_line config.now (held_row lease (max now moment) calls x)) rows)) }
+        (λ x. lines.object_line tables.now.config (held_row lease (max now moment) calls x))
+        rows)) }
 {
-    let rows = exports.rows(alloc, now)?;
-    put_objects(text, config, leases, now, rows.as_slice())
+    let rows = tables.exports.rows(alloc, tables.moment)?;
+    put_objects(
+        text,
+        &tables.config,
+        &tables.leases,
+        tables.moment,
+        rows.as_slice(),
+    )
 }
 
 /// Appends the lines of exported objects.

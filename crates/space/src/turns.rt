@@ -139,14 +139,15 @@ impl Space {
         ensures config { self.new.configuration ≡ self.old.configuration }
         ensures err { OnErr result (self.new ≡ self.old) }
     {
-        match self.tables.turn(by, moment, &ask, noted) {
+        let event = Event { by, moment, ask };
+        match self.tables.turn(&event, noted) {
             Ok(turn) => {
-                put_event(&mut self.tables.events, Event { by, moment, ask });
+                put_event(&mut self.tables.events, event);
                 Ok(turn)
             }
             Err(refused) => {
                 // By hand, so that it is dropped in one call and not field by field.
-                drop(ask);
+                drop(event);
                 Err(refused)
             }
         }

@@ -2,6 +2,7 @@
 use Rattle.std.proofs.Common.{◌≡◌, ◌&&◌, ◌||◌, not, ℕ, zero, suc, ◌≤◌, Bool, true, false, List, [], ◌∷◌, ◌++◌, length, Some, None, Option, slice_get, refl, sym, ap, subst, arith, inl, inr}
 use Rattle.std.specs.Prelude.{is_some}
 use Rattle.std.proofs.lemmas.Bool.{and_parts}
+use Rattle.std.proofs.Math.Bool.{or-true}
 use Rattle.class_desc.specs.declared.slot.Slot.{Slot}
 use Rattle.class_desc.specs.declared.slot.Slot.TheVariants as slots
 use Rattle.class_desc.specs.declared.desc.ClassDesc.{ClassDesc}
@@ -114,15 +115,11 @@ pub data ClassFine (i : Option Node) (serial : Bool) : Type 0 where
   external : (d : ClassDesc) → i ≡ Some (Desc d) → has_flag d.flags 4 ≡ true → ((p : Part) (chained : Bool) → p.values ≡ [] → is_joined p.note ≡ true → fits_object i (p ∷ []) chained ≡ true) → ClassFine i serial
   chained : serial ≡ true → ((ps : List Part) → fits_object i ps true ≡ true) → ((rows : List Row) → rows_of i rows ≡ rows) → ClassFine i serial
 
-or_true : (b : Bool) → (b || true) ≡ true
-or_true true = refl
-or_true false = refl
-
 desc_fine : (d : ClassDesc) (serial four eight : Bool) → has_flag d.flags 4 ≡ four → has_flag d.flags 8 ≡ eight → (four && not eight) ≡ false → (lacks_flag d.flags 16 && (not (is_some (element_of d.name)) && (four || serial))) ≡ true → ClassFine (Some (Desc d)) serial
 desc_fine d serial true true f e a h =
     let b = and_parts (lacks_flag d.flags 16) (not (is_some (element_of d.name)) && true) h in
     let c = and_parts (not (is_some (element_of d.name))) true b.1 in
-    external d refl f (λ p chained none fine. rw b.0 (rw c.0 (rw f (rw e (rw none (rw fine (or_true chained)))))))
+    external d refl f (λ p chained none fine. rw b.0 (rw c.0 (rw f (rw e (rw none (rw fine (or-true chained)))))))
 desc_fine d serial true false f e a h = absurd cc
 desc_fine d serial false eight f e a h =
     let b = and_parts (lacks_flag d.flags 16) (not (is_some (element_of d.name)) && serial) h in

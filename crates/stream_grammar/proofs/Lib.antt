@@ -33,5 +33,6 @@ pub mod Sound
 pub mod WorkedStreams
 pub mod Exact
 pub mod Settling
+pub mod Codes
 pub mod Standing
 pub mod ChainParts

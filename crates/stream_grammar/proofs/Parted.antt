@@ -10,6 +10,7 @@ use Rattle.class_desc.specs.declared.field.TypeCode.TheVariants as codes
 use Rattle.class_desc.specs.declared.field.FieldDesc.{FieldDesc}
 use Rattle.class_desc.specs.TypeCode.{is_primitive, letter}
 use Rattle.class_desc.specs.TypeText.{code_of}
+use Rattle.class_desc.proofs.TypeTexts.{letter_back}
 use Rattle.ser_values.specs.declared.value.Value.{Value}
 use Rattle.ser_values.specs.declared.value.Value.TheVariants as values
 use Rattle.ser_values.specs.declared.value.Values.{Values}
@@ -24,18 +25,6 @@ use Rattle.stream_grammar.proofs.Varieties.{ValueOf, value_of, ElementsOf}
 use Rattle.stream_grammar.proofs.Leading.{Leads, byte_lead, lead_16, lead_32, lead_64, lead_i16, lead_i32, lead_i64, text_lead, whole_lead, all_rest}
 
 -- ---- fields
-
-pub letter_back : (c : TypeCode) → code_of (letter c) ≡ Some c
-letter_back codes.Byte = refl
-letter_back codes.Char = refl
-letter_back codes.Double = refl
-letter_back codes.Float = refl
-letter_back codes.Int = refl
-letter_back codes.Long = refl
-letter_back codes.Short = refl
-letter_back codes.Boolean = refl
-letter_back codes.Array = refl
-letter_back codes.Object = refl
 
 letter_same : (c d : TypeCode) → letter c ≡ letter d → c ≡ d
 letter_same c d e = let s : Some c ≡ Some d = sym (letter_back c) ∙ (ap code_of e ∙ letter_back d) in cc

@@ -67,7 +67,7 @@ pub unless_ok : {A : Type 0} (o : Option FaultKind) (at : ℕ) (r : Result A Fau
 unless_ok None at r y e = (refl, e)
 unless_ok (Some kind) at r y e = absurd cc
 
-abbrev done : {A : Type 0} → A → Result A Fault
+abbrev pub done : {A : Type 0} → A → Result A Fault
 done x = Ok x
 
 pub ok_is : {A : Type 0} (x y : A) → done x ≡ done y → x ≡ y
@@ -153,7 +153,7 @@ size_sound end w bound most sound bs y e bytes =
 
 -- ---- texts
 
-units_ok : (start : ℕ) (r : Result (List ℕ) ℕ) (us : List ℕ) → units_of start r ≡ Ok us → r ≡ Ok us
+pub units_ok : (start : ℕ) (r : Result (List ℕ) ℕ) (us : List ℕ) → units_of start r ≡ Ok us → r ≡ Ok us
 units_ok start (Ok vs) us e = let same : vs ≡ us = ok_is vs us e in ap (λ (l : List ℕ). Ok l) same
 units_ok start (Err at) us e = absurd cc
 

@@ -27,11 +27,8 @@ use Rattle.ser_values.specs.Node.{has}
 use Rattle.ser_values.specs.Shape.{fits_type, is_enum}
 use Rattle.stream_grammar.specs.Spelled.{joined}
 use Rattle.stream_grammar.specs.Reading.{FaultKind, negative_length, Fault, short, bad, too_many, too_deep, ◌>>=◌, byte_at, take_at, number_at, size_at, units_of, units_at, short_at, long_at, Progress, Step, Slots, plain, map_step, many_at, push, fill, add_parts, counting, sizes_of, refs_among, blocks_at, items_at, field, field_of, field_at, is_true, value_at, values_at, elements_at, Row, chain_of, rows_of, class_fault, note_at, part, parts_at, unless, blank, text_at, desc_after, desc_at, proxy_at, on_class, with_class, object_after, object_at, type_in, array_of, array_at, class_at, named, enum_at, admits_code, fresh_at, null_at, handle_fault, handle_at, deep, coded, no_slots, slot_at, magic_at, stream_of}
-use Rattle.stream_grammar.specs.Faults.{EndsEarly}
+use Rattle.stream_grammar.specs.Faults.{AreBytes, EndsEarly}
 use Rattle.ser_values.proofs.FrontLaws.{eqb_same}
-
-abbrev AreBytes : List ℕ → Type 0
-AreBytes bs = AllByRecursion (λ b. b < 256) bs
 
 -- ---- what is answered, but for positions
 

@@ -192,11 +192,11 @@ slots_sound end (suc d) unread p now bs y e solid bytes = slot_by (λ F. Spells 
 
 -- ---- a whole stream
 
-record IsHeaded (ws bs rest : List ℕ) : Type 0 where
-  parts : bs ≡ ws ++ rest
-  left : AreBytes rest
+pub record IsHeaded (ws bs rest : List ℕ) : Type 0 where
+  pub parts : bs ≡ ws ++ rest
+  pub left : AreBytes rest
 
-magic_sound : (end : ℕ) (ws bs rest : List ℕ) → magic_at end ws bs ≡ Ok rest → AreBytes bs → IsHeaded ws bs rest
+pub magic_sound : (end : ℕ) (ws bs rest : List ℕ) → magic_at end ws bs ≡ Ok rest → AreBytes bs → IsHeaded ws bs rest
 unfolding magic_at
 magic_sound end [] bs rest e bytes = let same : bs ≡ rest = ok_is bs rest e in record { parts = same; left = subst AreBytes same bytes }
 magic_sound end (w ∷ ws) bs rest e bytes =

@@ -20,6 +20,7 @@ use Rattle.class_desc.specs.declared.check.DescFault.TheVariants.{BadFlags, Fiel
 use Rattle.class_desc.specs.TypeCode.{is_primitive, letter}
 use Rattle.class_desc.specs.TypeText.{code_of, element_of, fits_text}
 use Rattle.class_desc.specs.ClassDesc.{has_flag, lacks_flag, is_good_desc, fit_flags, are_ordered, IsFirstFault}
+use Rattle.class_desc.proofs.TypeTexts.{letter_back}
 use Rattle.class_desc.proofs.TypeTexts.{fits_of}
 use Rattle.class_desc.proofs.Fields.{flags_are, flags_of}
 use Rattle.ser_values.specs.declared.value.Value.TheVariants as values
@@ -32,6 +33,7 @@ use Rattle.ser_values.specs.Node.{has, is_desc, is_text, admits, admits_null}
 use Rattle.ser_values.specs.Shape.{fits_node, fits_type, is_enum}
 use Rattle.stream_grammar.specs.Spelled.{joined}
 use Rattle.stream_grammar.specs.Reading.{FaultKind, bad_code, bad_handle, wrong_handle_kind, bad_desc, bad_utf, negative_length, reset, inner_exception, old_external, Fault, short, bad, too_many, too_deep, ◌>>=◌, Plain, byte_at, take_at, number_at, size_at, units_of, units_at, short_at, long_at, Progress, Step, Slots, plain, map_step, many_at, push, fill, add_parts, counting, sizes_of, refs_among, blocks_at, items_at, field_of, field_at, is_true, value_at, values_at, elements_at, Row, chain_of, rows_of, class_fault, note_at, parts_at, unless, roomy, blank, text_at, desc_after, desc_at, proxy_at, on_class, with_class, object_after, object_at, type_in, array_of, array_at, class_at, named, enum_at, gives_handle, admits_code, code_fault, fresh_at, null_at, handle_fault, handle_at, deep, coded, no_slots, slot_at, magic_at, stream_of}
+use Rattle.stream_grammar.proofs.Codes.{admitted_gives, code_known}
 use Rattle.stream_grammar.specs.Faults.{Asking, slot_but, stream_but, ComesTo, HasNumber, HasByte, IsNoCode, NamesHandle, IsNegative, ReadsClass, LacksObjects, LacksArrays, LacksConstants, HasTooMany, DescHead, desc_head_at, IsNoLetter, NamesType, HasNoType, IsBroken, BreaksDesc, IsBadDesc, IsPastNodes, IsPastParts, IsNotGiven, IsOfWrongKind, IsUnread, IsRefused, Shows, StandsAt, IsGiven, IsConstruct, IsOneTooMany, IsTooDeep, FaultStands}
 use Rattle.ser_values.proofs.Lists.{length_push, some_same}
 use Rattle.stream_grammar.proofs.PlainSound.{bind_ok, passed, chosen}
@@ -112,18 +114,6 @@ record Opened (whole : List ℕ) (left : ℕ) (now : Progress) (bs : List ℕ) :
   here : Here whole left now bs
   room : length now.nodes < 65536
   space : length now.nodes + suc (length bs) ≤ length whole
-
-letter_known : (code : TypeCode) → code_of (letter code) ≡ Some code
-letter_known codes.Byte = refl
-letter_known codes.Char = refl
-letter_known codes.Double = refl
-letter_known codes.Float = refl
-letter_known codes.Int = refl
-letter_known codes.Long = refl
-letter_known codes.Short = refl
-letter_known codes.Boolean = refl
-letter_known codes.Array = refl
-letter_known codes.Object = refl
 
 abbrev triple : {A : Type 0} → A → Progress → List ℕ → A × Progress × List ℕ
 triple a now bs = (a, now, bs)
@@ -485,7 +475,7 @@ module _ (start : ℕ) (whole : List ℕ) where
 
   -- the letter of a field's type is one of ten
   no_letter : (c : ℕ) → code_of c ≡ None → IsNoLetter c
-  no_letter c e code is = absurd (let known : None ≡ Some code = sym e ∙ (ap code_of is ∙ letter_known code) in cc)
+  no_letter c e code is = absurd (let known : None ≡ Some code = sym e ∙ (ap code_of is ∙ letter_back code) in cc)
 
   no_type : (nodes : List Node) (code : TypeCode) (s : Slot) → is_primitive code ≡ false → fits_type nodes code s ≡ false → NamesType nodes code s → ⊥
   no_type nodes code s prim e h =
@@ -807,22 +797,6 @@ module _ (start : ℕ) (whole : List ℕ) where
   desc_as : (asking : Asking) (code : ℕ) (bs : List ℕ) → Rest whole (code ∷ bs) → Known ((start + length whole) - length (code ∷ bs)) asking → IsBadDesc (start + length whole) asking (code ∷ bs) → Stood start whole (bad bad_desc ((start + length whole) - length (code ∷ bs)))
   desc_as asking code bs r known h = stands (Shows (start + length whole) (λ a. Known ((start + length whole) - length (code ∷ bs)) a) bad_desc) (code ∷ bs) r (λ front l. record { asking = asking; known = known; refused = h })
 
-  -- a code that gives a handle is one of eight
-  code_known : (code : ℕ) → gives_handle code ≡ true → eqb code 0x72 ≡ false → eqb code 0x73 ≡ false → eqb code 0x74 ≡ false → eqb code 0x75 ≡ false → eqb code 0x76 ≡ false → eqb code 0x7C ≡ false → eqb code 0x7D ≡ false → eqb code 0x7E ≡ false → ⊥
-  code_known code h e1 e2 e3 e4 e5 e6 e7 e8 = elim (or_cases (leb 0x72 code && leb code 0x76) (eqb code 0x7C || (eqb code 0x7D || eqb code 0x7E)) h) [
-    | inl p ↦
-        let b = and_parts (leb 0x72 code) (leb code 0x76) p in
-        let low : 0x72 ≤ code = leb-true 0x72 code b.0 in
-        let high : code ≤ 0x76 = leb-true code 0x76 b.1 in
-        let n1 = eqb-false code 0x72 e1 in
-        let n2 = eqb-false code 0x73 e2 in
-        let n3 = eqb-false code 0x74 e3 in
-        let n4 = eqb-false code 0x75 e4 in
-        let n5 = eqb-false code 0x76 e5 in
-        omega (arith, n1, n2, n3, n4, n5, low, high)
-    | inr p ↦ absurd (let q : false ≡ true = rw (e6, e7, e8) at p in cc)
-  ]
-
   -- a node too many, or a part
   many_as : (asking : Asking) (code : ℕ) (bs : List ℕ) → Rest whole (code ∷ bs) → Known ((start + length whole) - length (code ∷ bs)) asking → IsConstruct asking.place code → ((front : List ℕ) → length whole ≡ length front + suc (length bs) → IsPastNodes (start + length whole) asking front (code ∷ bs) ⊎ IsPastParts (start + length whole) asking (code ∷ bs))
       → Stood start whole (too_many ((start + length whole) - length (code ∷ bs)))
@@ -961,21 +935,6 @@ module _ (start : ℕ) (whole : List ℕ) where
       named {x} q = read_then now (code ∷ bs) bs now x.1 (code ∷ [], refl) (read_then now bs x.1 now x.1 (q.0, q.1) (none_grown left now x.1 (on left now bs x.1 (on left now (code ∷ bs) bs w (code ∷ [], refl)) (q.0, q.1))))
 
   -- ---- any reference
-
-  admitted_gives : (p : SlotPlace) (c : ℕ) → admits_code p c ≡ true → gives_handle c ≡ true
-  admitted_gives places.Reference c h = h
-  admitted_gives places.Class c h = elim (or_cases (eqb c 0x72) (eqb c 0x7D) h) [
-    | inl e ↦ subst (λ k. gives_handle k ≡ true) (sym (eqb-true c 0x72 e)) refl
-    | inr e ↦ subst (λ k. gives_handle k ≡ true) (sym (eqb-true c 0x7D e)) refl
-  ]
-  admitted_gives places.Parent c h = elim (or_cases (eqb c 0x72) (eqb c 0x7D) h) [
-    | inl e ↦ subst (λ k. gives_handle k ≡ true) (sym (eqb-true c 0x72 e)) refl
-    | inr e ↦ subst (λ k. gives_handle k ≡ true) (sym (eqb-true c 0x7D e)) refl
-  ]
-  admitted_gives places.Text c h = elim (or_cases (eqb c 0x74) (eqb c 0x7C) h) [
-    | inl e ↦ subst (λ k. gives_handle k ≡ true) (sym (eqb-true c 0x74 e)) refl
-    | inr e ↦ subst (λ k. gives_handle k ≡ true) (sym (eqb-true c 0x7C e)) refl
-  ]
 
   refused : (asking : Asking) (code : ℕ) (bs : List ℕ) → Rest whole (code ∷ bs) → Known ((start + length whole) - length (code ∷ bs)) asking → eqb code 0x70 ≡ false → eqb code 0x71 ≡ false → admits_code asking.place code ≡ false → Stood start whole (bad (code_fault code) ((start + length whole) - length (code ∷ bs)))
   refused asking code bs r known e0 e1 other = go (eqb code 0x79) (eqb code 0x7B) refl refl

@@ -12,6 +12,7 @@ use Rattle.class_desc.specs.declared.field.TypeCode.{TypeCode}
 use Rattle.class_desc.specs.declared.field.TypeCode.TheVariants as codes
 use Rattle.class_desc.specs.declared.field.FieldDesc.{FieldDesc}
 use Rattle.class_desc.specs.TypeCode.{is_primitive, letter}
+use Rattle.class_desc.proofs.TypeTexts.{letter_back}
 use Rattle.ser_values.specs.declared.value.Value.{Value}
 use Rattle.ser_values.specs.declared.value.Value.TheVariants as values
 use Rattle.ser_values.specs.declared.node.Node.{Node}
@@ -24,7 +25,7 @@ use Rattle.stream_grammar.specs.Reading.{Fault, bad, bad_desc, ◌>>=◌, Plain,
 use Rattle.stream_grammar.proofs.Apart.{below_16, below_32, below_64}
 use Rattle.stream_grammar.proofs.Varieties.{ValueOf, value_of}
 use Rattle.stream_grammar.proofs.Leading.{all_rest}
-use Rattle.stream_grammar.proofs.Parted.{letter_back, null_type}
+use Rattle.stream_grammar.proofs.Parted.{null_type}
 use Rattle.stream_grammar.proofs.Mirror.{Ready, ReadsBy, Reads, Settled, reads_done, reads_then}
 use Rattle.stream_grammar.proofs.Plains.{number_back_16, number_back_32, number_back_64, short_back}
 

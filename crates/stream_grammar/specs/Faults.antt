@@ -21,6 +21,10 @@ use Rattle.ser_values.specs.Node.{has, admits, admits_null}
 use Rattle.ser_values.specs.Shape.{is_enum}
 use Rattle.stream_grammar.specs.Reading.{FaultKind, bad_magic, bad_code, bad_handle, wrong_handle_kind, bad_desc, bad_utf, negative_length, reset, inner_exception, old_external, Fault, short, bad, too_many, too_deep, ◌>>=◌, byte_at, number_at, size_at, short_at, Progress, Step, Slots, many_at, push, add_parts, field_at, blank, items_at, chain_of, rows_of, sizes_of, refs_among, class_fault, type_in, gives_handle, admits_code, coded, slot_at, no_slots, magic_at, stream_of}
 
+-- Each is a number of 8 bits.
+abbrev pub AreBytes : List ℕ → Type 0
+AreBytes bs = AllByRecursion (λ b. b < 256) bs
+
 -- ---- where reading comes to a reference
 
 -- What reading knows where a reference begins: how many levels may still begin, the reference's place, the descriptions that are unread, and
@@ -314,7 +318,8 @@ IsPastNodes end asking front here = (NODES ≤ length front + length here) × ((
 abbrev pub IsPastParts : ℕ → Asking → List ℕ → Type 0
 IsPastParts end asking here = OfClass end asking here (λ class later. HasByte (λ code. code ≡ 0x73) here × HasTooMany class later) ⊎ (HasTooManyElements end asking here ⊎ (HasTooManyNames asking here ⊎ HasTooManyFields end asking here))
 
--- The reference stands where items do. Once it was read, there are as many parts as there may be, and as an item it would be one more.
+-- The reference's place takes any, as that of an item does. Once it was read, there are as many parts as there may be, and as an item it would be
+-- one more.
 pub record IsPastItems (end : ℕ) (asking : Asking) (here : List ℕ) : Type 0 where
   pub place : asking.place ≡ places.Reference
   pub found : Slot
@@ -336,7 +341,7 @@ IsTooDeep comes front here = IsRefused comes (λ asking. HasByte (λ code. IsCon
 pub record EndsEarly (bytes : List ℕ) : Type 0 where
   pub unrefused : (front rest : List ℕ) (fault : Fault) → bytes ≡ front ++ rest → stream_of front ≡ Err fault → fault ≡ short
   pub more : List ℕ
-  pub are_bytes : AllByRecursion (λ b. b < 256) more
+  pub are_bytes : AreBytes more
   pub enough : stream_of (bytes ++ more) ≢ Err short
 
 -- What the bytes show of a fault.

@@ -3,10 +3,8 @@ use Rattle.std.proofs.Common.{◌≡◌, ◌≢◌, ◌⊎◌, ◌<◌, ◌≤�
 use Rattle.std.proofs.lemmas.Bool.{cases_Bool, eqb-true, eqb-false, ne_eqb}
 use Rattle.std.proofs.lemmas.List.{length-append}
 use Rattle.std.specs.Int.{w32, to_be_bytes}
-use Rattle.ser_values.specs.declared.node.SlotPlace.TheVariants as places
-use Rattle.ser_values.specs.declared.limits.TheConstants.{LEVELS}
 use Rattle.class_desc.specs.declared.slot.Slot.{Slot}
-use Rattle.stream_grammar.specs.Reading.{Fault, short, ◌>>=◌, Plain, Progress, byte_at, size_at, coded, slot_at}
+use Rattle.stream_grammar.specs.Reading.{Fault, short, ◌>>=◌, Plain, Progress, byte_at, size_at}
 use Rattle.stream_grammar.proofs.PlainSound as plain
 use Rattle.stream_grammar.proofs.PlainSound.{bind_ok, chosen, ok_is, byte_sound, size_sound, number_sound_32}
 use Rattle.stream_grammar.proofs.Plains.{size_back, number_back_32}

@@ -1,6 +1,6 @@
 -- Reading a reference answers a fault exactly where the bytes show it.
-use Rattle.std.proofs.Common.{◌≡◌, ◌≢◌, ◌⊎◌, ◌<◌, ◌≤◌, ◌+◌, ◌-◌, ◌^◌, ◌&&◌, ◌||◌, ℕ, zero, suc, Bool, true, false, cond, eqb, ltb, leb, List, [], ◌∷◌, ◌++◌, length, Option, Some, None, Result, Ok, Err, slice_get, refl, sym, ap, subst, ◌∙◌, arith, inl, inr}
-use Rattle.std.proofs.lemmas.Bool.{eqb-true, eqb-false, ne_eqb, ltb-true, ltb-false, lt-ltb, le-ltb, leb-true, and_parts, or_cases}
+use Rattle.std.proofs.Common.{◌≡◌, ◌≢◌, ◌⊎◌, ◌<◌, ◌≤◌, ◌+◌, ◌-◌, ◌^◌, ◌&&◌, ℕ, zero, suc, Bool, true, false, cond, eqb, ltb, List, [], ◌∷◌, ◌++◌, length, Option, Some, None, Result, Ok, Err, slice_get, refl, sym, ap, subst, ◌∙◌, arith, inl, inr}
+use Rattle.std.proofs.lemmas.Bool.{eqb-true, eqb-false, ne_eqb, ltb-true, ltb-false, lt-ltb, le-ltb, or_cases}
 use Rattle.std.specs.Prelude.{ℤ}
 use Rattle.std.specs.Int.{Width, w16, w32, w64, byte_len, from_be_bytes, cast_signed}
 use Rattle.mod_utf.specs.Decoding.{decoded_units}
@@ -29,6 +29,7 @@ use Rattle.ser_values.specs.Node.{has, admits, admits_null, is_desc, is_text}
 use Rattle.ser_values.specs.Shape.{fits_type, is_enum}
 use Rattle.stream_grammar.specs.Reading.{FaultKind, bad_code, bad_handle, wrong_handle_kind, bad_desc, negative_length, reset, inner_exception, Fault, short, bad, too_many, ◌>>=◌, Plain, byte_at, take_at, number_at, size_at, units_of, units_at, short_at, long_at, Progress, Step, Slots, plain, map_step, many_at, push, refs_among, sizes_of, counting, add_parts, fill, blocks_at, items_at, field_of, field_at, is_true, value_at, values_at, elements_at, Row, chain_of, class_fault, note_at, part, parts_at, unless, roomy, blank, text_at, desc_after, desc_at, proxy_at, on_class, with_class, object_after, object_at, type_in, array_of, array_at, class_at, named, enum_at, gives_handle, admits_code, code_fault, fresh_at, null_at, handle_fault, handle_at, deep, coded, no_slots, slot_at}
 use Rattle.stream_grammar.specs.Faults.{DescHead, desc_head_at}
+use Rattle.stream_grammar.proofs.Codes.{admitted_gives, code_known}
 use Rattle.stream_grammar.proofs.PlainSound.{bind_ok, chosen, passed, guarded, unless_ok, ok_is, take_sound}
 use Rattle.stream_grammar.proofs.Plains.{take_back}
 use Rattle.stream_laws.specs.Reads.{HasNumber, HasSize, HasText, References, Plainly, Many, HasBlock, BeginsReference, Follow, HasValues, HasNote, HasField, desc_of, HasFields, HasInterfaces, HasParts, rows_in, with_object, GivesHere, gives_none, Reads}
@@ -950,21 +951,6 @@ module _ (end : ℕ) (f : Fault) (firm : f ≢ short) (Inner : SlotPlace → Lis
   recoded : (at : ℕ) (unread : List ℕ) (c code : ℕ) (now : Progress) (bs : List ℕ) → eqb code c ≡ true → InConstruct at R unread P c now bs → InConstruct at R unread P code now bs
   recoded at unread c code now bs e h = subst (λ k. InConstruct at R unread P k now bs) (sym (eqb-true code c e)) h
 
-  code_known : (code : ℕ) → gives_handle code ≡ true → eqb code 0x72 ≡ false → eqb code 0x73 ≡ false → eqb code 0x74 ≡ false → eqb code 0x75 ≡ false → eqb code 0x76 ≡ false → eqb code 0x7C ≡ false → eqb code 0x7D ≡ false → eqb code 0x7E ≡ false → ⊥
-  code_known code h e1 e2 e3 e4 e5 e6 e7 e8 = elim (or_cases (leb 0x72 code && leb code 0x76) (eqb code 0x7C || (eqb code 0x7D || eqb code 0x7E)) h) [
-    | inl p ↦
-        let b = and_parts (leb 0x72 code) (leb code 0x76) p in
-        let low : 0x72 ≤ code = leb-true 0x72 code b.0 in
-        let high : code ≤ 0x76 = leb-true code 0x76 b.1 in
-        let n1 = eqb-false code 0x72 e1 in
-        let n2 = eqb-false code 0x73 e2 in
-        let n3 = eqb-false code 0x74 e3 in
-        let n4 = eqb-false code 0x75 e4 in
-        let n5 = eqb-false code 0x76 e5 in
-        omega (arith, n1, n2, n3, n4, n5, low, high)
-    | inr p ↦ absurd (let q : false ≡ true = rw (e6, e7, e8) at p in cc)
-  ]
-
   fresh_stops : (at : ℕ) (unread : List ℕ) (code : ℕ) (now : Progress) (bs : List ℕ) → gives_handle code ≡ true → fresh_at end at inner unread code now bs ≡ Err f → InConstruct at R unread P code now bs
   unfolding fresh_at text_at
   fresh_stops at unread code now bs gives e =
@@ -1023,21 +1009,6 @@ module _ (end : ℕ) (f : Fault) (firm : f ≢ short) (Inner : SlotPlace → Lis
   fresh_fails at unread code now bs (behind_class class later rest begins read h) = fresh_behind at unread code class now later bs rest begins ((level.reads.at places.Class unread).from now bs (slots.Node class, later, rest) read) h
 
   -- ---- any reference
-
-  admitted_gives : (p : SlotPlace) (c : ℕ) → admits_code p c ≡ true → gives_handle c ≡ true
-  admitted_gives places.Reference c h = h
-  admitted_gives places.Class c h = elim (or_cases (eqb c 0x72) (eqb c 0x7D) h) [
-    | inl e ↦ subst (λ k. gives_handle k ≡ true) (sym (eqb-true c 0x72 e)) refl
-    | inr e ↦ subst (λ k. gives_handle k ≡ true) (sym (eqb-true c 0x7D e)) refl
-  ]
-  admitted_gives places.Parent c h = elim (or_cases (eqb c 0x72) (eqb c 0x7D) h) [
-    | inl e ↦ subst (λ k. gives_handle k ≡ true) (sym (eqb-true c 0x72 e)) refl
-    | inr e ↦ subst (λ k. gives_handle k ≡ true) (sym (eqb-true c 0x7D e)) refl
-  ]
-  admitted_gives places.Text c h = elim (or_cases (eqb c 0x74) (eqb c 0x7C) h) [
-    | inl e ↦ subst (λ k. gives_handle k ≡ true) (sym (eqb-true c 0x74 e)) refl
-    | inr e ↦ subst (λ k. gives_handle k ≡ true) (sym (eqb-true c 0x7C e)) refl
-  ]
 
   null_stops : (left at : ℕ) (p : SlotPlace) (unread : List ℕ) (now : Progress) (code : ℕ) (bs : List ℕ) → code ≡ 0x70 → null_at p at now bs ≡ Err f → RefusesCode left at p unread now code bs f
   unfolding admits_null

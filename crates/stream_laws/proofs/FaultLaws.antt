@@ -26,7 +26,7 @@ use Rattle.stream_grammar.specs.Spelled.{joined, Spells, IsStream}
 use Rattle.stream_grammar.specs.Reading.{Progress, bad_magic, Fault, short, bad, too_many, too_deep, magic_at, items_at, slot_at}
 use Rattle.stream_grammar.proofs.PlainSound as plain
 use Rattle.stream_grammar.proofs.Complete.{magic_read}
-use Rattle.ser_read.specs.Here.{AreBytes}
+use Rattle.stream_grammar.specs.Faults.{AreBytes}
 use Rattle.ser_read.specs.declared.serving.Want.{Want}
 use Rattle.ser_read.specs.declared.serving.Want.TheVariants as wanted
 use Rattle.ser_read.specs.Heading.{EndsInBlock, inside_block}

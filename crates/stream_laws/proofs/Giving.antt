@@ -19,9 +19,9 @@ use Rattle.ser_values.specs.Node.{has, admits_null, takes, is_desc, is_text}
 use Rattle.ser_values.specs.Shape.{is_enum}
 use Rattle.stream_grammar.specs.Reading.{bad_handle, bad_desc, wrong_handle_kind, Fault, bad, too_many, ◌>>=◌, byte_at, number_at, size_at, short_at, long_at, Progress, Step, Slots, plain, many_at, push, fill, add_parts, sizes_of, refs_among, items_at, field_at, elements_at, class_fault, chain_of, parts_at, roomy, blank, text_at, desc_after, desc_at, proxy_at, on_class, with_class, object_after, object_at, type_in, array_of, array_at, class_at, named, enum_at, admits_code, code_fault, fresh_at, null_at, handle_fault, handle_at, deep, coded, no_slots, slot_at}
 use Rattle.stream_grammar.specs.Faults.{DescHead}
-use Rattle.stream_grammar.proofs.PlainSound.{bind_ok, chosen, passed, guarded, unless_ok, ok_is}
+use Rattle.stream_grammar.proofs.PlainSound.{done, bind_ok, chosen, passed, guarded, unless_ok, ok_is}
 use Rattle.stream_laws.specs.Reads.{HasNumber, HasText, References, Plainly, HasField, desc_of, whole_desc, GivesDesc, GivesProxy, rows_in, with_object, GivesObject, GivesArray, GivesEnum, GivesClassed, an_object, an_array, a_class, an_enum, GivesConstruct, a_short_text, a_long_text, a_desc, a_proxy, of_class, GivesCode, a_null, a_handle, a_construct, GivesHere, gives_none, Reads}
-use Rattle.stream_laws.proofs.Reading.{ok_first, room_of, with_room, done, byte_has, has_byte, number_has, has_number, size_has, has_size, text_has, has_text, long_has, has_long, same_many, same_text, same_elements, same_note, same_parts, SameReferences, same_field}
+use Rattle.stream_laws.proofs.Reading.{ok_first, room_of, with_room, byte_has, has_byte, number_has, has_number, size_has, has_size, text_has, has_text, long_has, has_long, same_many, same_text, same_elements, same_note, same_parts, SameReferences, same_field}
 
 abbrev SlotOk : Type 0
 SlotOk = Slot × Progress × List ℕ

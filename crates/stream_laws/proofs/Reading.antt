@@ -26,15 +26,12 @@ use Rattle.ser_values.specs.declared.limits.TheConstants.{PARTS}
 use Rattle.stream_grammar.specs.Spelled.{joined}
 use Rattle.stream_grammar.specs.Reading.{Fault, bad, bad_desc, too_many, add_parts, counting, ◌>>=◌, Plain, byte_at, take_at, number_at, size_at, units_of, units_at, short_at, long_at, Progress, Step, Slots, plain, map_step, many_at, blocks_at, items_at, field, field_of, field_at, is_true, value_at, values_at, elements_at, Row, note_at, parts_at}
 use Rattle.stream_grammar.specs.Faults.{DescHead, desc_head_at}
-use Rattle.stream_grammar.proofs.PlainSound.{bind_ok, chosen, passed, guarded, ok_is, byte_sound, take_sound}
+use Rattle.stream_grammar.proofs.PlainSound.{bind_ok, chosen, done, passed, guarded, ok_is, byte_sound, take_sound, units_ok}
 use Rattle.stream_grammar.proofs.Plains.{take_back}
 use Rattle.stream_laws.specs.Reads.{HasByte, HasNumber, HasSize, HasUnits, HasText, HasLongText, Gives, References, Plainly, As, Many, HasValue, HasValues, HasElements, HasBlock, BeginsReference, Follow, HasNote, HasField, HasDescHead, HasNoteIf, HasParts}
 
 pub ok_first : {A B : Type 0} (r : Result A Fault) (k : A → Result B Fault) (x : A) (y : Result B Fault) → r ≡ Ok x → k x ≡ y → (r >>= k) ≡ y
 ok_first r k x y e h = ap (λ z. z >>= k) e ∙ h
-
-abbrev pub done : {A : Type 0} → A → Result A Fault
-done x = Ok x
 
 -- ---- parts that are counted
 
@@ -75,10 +72,6 @@ size_has end w bound bs n e =
 pub has_size : (end : ℕ) (w : Width) (bound : ℕ) (bs : List ℕ) (n : ℕ × List ℕ) → HasSize w bound bs n → size_at end w bound bs ≡ Ok n
 unfolding size_at
 has_size end w bound bs n (h, lt) = ok_first (number_at w bs) _ n _ (has_number w bs n h) (rw (lt-ltb n.0 bound lt) refl)
-
-units_ok : (start : ℕ) (r : Result (List ℕ) ℕ) (us : List ℕ) → units_of start r ≡ Ok us → r ≡ Ok us
-units_ok start (Ok vs) us e = let same : vs ≡ us = ok_is vs us e in ap (λ (l : List ℕ). Ok l) same
-units_ok start (Err at) us e = absurd cc
 
 units_has : (end n : ℕ) (bs : List ℕ) (y : List ℕ × List ℕ) → units_at end n bs ≡ Ok y → HasUnits n bs y
 unfolding units_at

@@ -11,8 +11,7 @@ use Rattle.ser_values.specs.declared.limits.TheConstants.{LEVELS, NODES, PARTS}
 use Rattle.ser_values.specs.Shape.{refs_in, parts_in}
 use Rattle.stream_grammar.specs.Spelled.{Spells, IsStream}
 use Rattle.stream_grammar.specs.Reading.{bad_magic, bad_code, negative_length, reset, inner_exception, Fault, short, bad, too_many, Progress, add_parts, slot_at}
-use Rattle.stream_grammar.specs.Faults.{DiffersHere}
-use Rattle.ser_read.specs.Here.{AreBytes}
+use Rattle.stream_grammar.specs.Faults.{AreBytes, DiffersHere}
 use Rattle.ser_read.specs.declared.serving.Want.{Want}
 use Rattle.ser_read.specs.declared.serving.Want.TheVariants as wanted
 use Rattle.ser_read.specs.Wants.{WantFault, inside, missing_block, block_left, serve_to_close, wants_at}

@@ -12,6 +12,7 @@ use wire_io::{Link, Listener, Waited};
 struct Deaf {
     faults: u64,
     quiets: u64,
+    closed: bool,
 }
 
 impl Listener for Deaf {
@@ -24,7 +25,7 @@ impl Listener for Deaf {
 
     type Ticks = MemClock;
 
-    ghost listening = { λ d. untold_listener d.faults false d.quiets };
+    ghost listening = { λ d. untold_listener d.faults false d.quiets d.closed };
 
     fn listen(&mut self, _address: &str, _port: u16) -> Result<(), Failed> {
         self.faults = self.faults.saturating_add(1);
@@ -45,6 +46,10 @@ impl Listener for Deaf {
         self.quiets = self.quiets.saturating_add(1);
         false
     }
+
+    fn close(&mut self) {
+        self.closed = true;
+    }
 }
 
 /// Runs a server where the program can't listen: nothing is served or printed, and no connection is waited for.
@@ -58,6 +63,7 @@ fn check_deaf(rt: &impl Runs, alloc: Global, line: &str) {
         listener: Deaf {
             faults: 0,
             quiets: 0,
+            closed: false,
         },
         dialer: unlinked(alloc),
         seed: SEED,

@@ -160,6 +160,7 @@ impl Gated {
         ensures faults { self.new.faults ≡ self.old.faults }
         ensures told { self.new.links.told ≡ self.old.links.told }
         ensures quiets { self.new.links.quiets ≡ self.old.links.quiets }
+        ensures closed { self.new.links.closed ≡ self.old.links.closed }
         ensures untold { IfSome result (λ link. self.old.links.told ≡ false) }
     {
         if self.fails() {
@@ -213,7 +214,7 @@ impl Listener for Gated {
 
     type Ticks = MemClock;
 
-    ghost listening = { λ g. untold_listener g.faults g.links.told g.links.quiets };
+    ghost listening = { λ g. untold_listener g.faults g.links.told g.links.quiets g.links.closed };
 
     fn listen(&mut self, _address: &str, _port: u16) -> Result<(), Failed> {
         Ok(())
@@ -262,5 +263,6 @@ impl Listener for Gated {
     /// All links go on from then.
     fn close(&mut self) {
         let _before = self.ended.fetch_add(TOLD, Ordering::SeqCst);
+        self.links.close();
     }
 }

@@ -134,6 +134,7 @@ impl Noting {
         ensures halves { IfSome result (λ link. AreNewHalves (untold_read 0 link.source.is_shut) (sink_half link.sink.sink)) }
         ensures faults { self.new.faults ≡ self.old.faults }
         ensures quiets { self.new.quiets ≡ self.old.quiets }
+        ensures closed { self.new.links.links.closed ≡ self.old.links.links.closed }
     {
         let gone = Arc::try_clone(&self.gone).ok()?;
         let Link {
@@ -169,7 +170,7 @@ impl Listener for Noting {
 
     type Ticks = MemClock;
 
-    ghost listening = { λ g. untold_listener g.faults false g.quiets };
+    ghost listening = { λ g. untold_listener g.faults false g.quiets g.links.links.closed };
 
     fn listen(&mut self, _address: &str, _port: u16) -> Result<(), Failed> {
         Ok(())
@@ -195,6 +196,10 @@ impl Listener for Noting {
     fn is_told(&mut self) -> bool {
         self.quiets = self.quiets.saturating_add(1);
         false
+    }
+
+    fn close(&mut self) {
+        self.links.close();
     }
 }
 

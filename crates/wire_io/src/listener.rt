@@ -1,7 +1,7 @@
 //! Where connections come from.
-ghost use Rattle.std.specs.Prelude.{◌≡◌, ◌≤◌, ℕ, List, [], ◌∷◌, ◌++◌, length, None, Option, Some, false, IfOk, IsSomeAnd, IfSome, IsTrue, OnOk, OnErr, Ok, Contains, ◌↔◌, ◌<◌};
+ghost use Rattle.std.specs.Prelude.{◌≡◌, ◌≤◌, ℕ, List, [], ◌∷◌, ◌++◌, length, None, Option, Some, false, true, IfOk, IsSomeAnd, IfSome, IsTrue, OnOk, OnErr, Ok, Contains, ◌↔◌, ◌<◌};
 ghost use Rattle.std.specs.List.{AllByRecursion};
-ghost use Rattle.wire_io.specs.Links.{Listening, accepted_as, Listens, Accepts, Waits, Looks, IfCame, IfNoneCame, IsNew, accepted_in_memory, listening_in_memory, quiets_after};
+ghost use Rattle.wire_io.specs.Links.{Listening, IsClosedLike, accepted_as, Listens, Accepts, Waits, Looks, IfCame, IfNoneCame, IsNew, accepted_in_memory, listening_in_memory, quiets_after};
 ghost use Rattle.wire_io.specs.Mem.{source_half, sink_half};
 ghost use Rattle.wire_io.specs.declared.listener.Waited.{Waited};
 ghost use Rattle.wire_io.specs.Wire.{AreNewHalves, next_count};
@@ -40,8 +40,8 @@ pub trait Listener {
     type Ticks: Clock + Send + Drop;
 
     // The addresses and ports that it was told to listen on and the links that it gave, each as it was then, in their order, where the
-    // listener tells them, how often it failed, whether it was told to stop, and how often it answered that no link came or that it was
-    // not told to stop. The counts never fall, and stand still at the greatest u64.
+    // listener tells them, how often it failed, whether it was told to stop, how often it answered that no link came or that it was
+    // not told to stop, and whether it was closed. The counts never fall, and stand still at the greatest u64.
     ghost listening: { Self → Listening };
 
     /// Listens on a port of an address from now on. The address is a name or the numbers of one, as `127.0.0.1`.
@@ -84,11 +84,10 @@ pub trait Listener {
     /// Gives the port that is listened on back to the system, if the listener holds one. The system then refuses the clients that wait there. A
     /// listener whose links can be told to end tells them.
     ///
-    /// A listener over another one calls it when it is told to stop and the one inside is not, and a server where it accepts no more links. Contracts
-    /// see no change.
+    /// A listener over another one calls it when it is told to stop and the one inside is not, and a server where it accepts no more links. What it
+    /// does with the system no contract sees, only that it was called.
     fn close(&mut self)
-        ensures { self.new ≡ self.old }
-    {}
+        ensures closed { IsClosedLike (listening self.old) (listening self.new) };
 }
 
 /// A link in memory.
@@ -114,6 +113,7 @@ pub struct MemListener {
     waits: u64,
     told: bool,
     quiets: u64,
+    closed: bool,
 }
 
 // Written out, so that whoever owns one has one call at each exit, and not the drop of each field.
@@ -130,6 +130,7 @@ impl Drop for MemListener {
             waits: _,
             told: _,
             quiets: _,
+            closed: _,
         } = self;
         drop(links);
         drop(accepted);
@@ -156,6 +157,7 @@ impl Model for MemListener {
       waits = l.waits;
       told = l.told;
       quiets = l.quiets;
+      closed = l.closed;
     } };
 
     ghost invariant = { λ l. AllByRecursion IsNew (into_iter_items l.links)
@@ -176,6 +178,7 @@ impl MemListener {
         ensures waits { result.waits ≡ 0 }
         ensures told { result.told ≡ false }
         ensures quiets { result.quiets ≡ 0 }
+        ensures closed { result.closed ≡ false }
     {
         MemListener::with_script(alloc, links, Kinds::new(alloc), None)
     }
@@ -198,6 +201,7 @@ impl MemListener {
         ensures waits { result.waits ≡ 0 }
         ensures told { result.told ≡ false }
         ensures quiets { result.quiets ≡ 0 }
+        ensures closed { result.closed ≡ false }
     {
         MemListener {
             alloc,
@@ -210,6 +214,7 @@ impl MemListener {
             waits: 0,
             told: false,
             quiets: 0,
+            closed: false,
         }
     }
 
@@ -232,6 +237,13 @@ impl MemListener {
         ensures { result ≡ self.now.faults }
     {
         self.faults
+    }
+
+    /// Returns whether the listener was closed.
+    pub fn is_closed(&self) -> bool
+        ensures { result ≡ self.now.closed }
+    {
+        self.closed
     }
 }
 
@@ -382,5 +394,12 @@ impl Listener for MemListener {
         self.told = is_stopped(self.stop, index);
         self.quiets = quiets_after(self.quiets, self.told);
         self.told
+    }
+
+    /// Notes that it was closed. It gives its links as before.
+    fn close(&mut self)
+        ensures closed { self.new ≡ record self.old { closed = true } }
+    {
+        self.closed = true;
     }
 }

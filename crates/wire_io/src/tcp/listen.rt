@@ -37,6 +37,7 @@ pub struct TcpListen<R> {
     told: bool,
     faults: u64,
     quiets: u64,
+    closed: bool,
 }
 
 impl<R> Model for TcpListen<R> {
@@ -44,13 +45,13 @@ impl<R> Model for TcpListen<R> {
 
     ghost Value = { Listening };
 
-    ghost view = { λ l. untold_listener l.faults l.told l.quiets };
+    ghost view = { λ l. untold_listener l.faults l.told l.quiets l.closed };
 }
 
 impl<R> TcpListen<R> {
     /// The listener over this runtime's sockets, which does not listen yet. It is never told to stop. It takes no memory.
     pub fn new(alloc: Global, rt: R) -> TcpListen<R>
-        ensures { result ≡ untold_listener 0 false 0 }
+        ensures { result ≡ untold_listener 0 false 0 false }
     {
         TcpListen {
             rt,
@@ -60,12 +61,13 @@ impl<R> TcpListen<R> {
             told: false,
             faults: 0,
             quiets: 0,
+            closed: false,
         }
     }
 
     /// The listener over this runtime's sockets, which does not listen yet. It is told to stop where this flag is set. It takes no memory.
     pub fn with_flag(alloc: Global, rt: R, flag: Arc<AtomicBool>) -> TcpListen<R>
-        ensures { result ≡ untold_listener 0 false 0 }
+        ensures { result ≡ untold_listener 0 false 0 false }
     {
         TcpListen {
             rt,
@@ -75,6 +77,7 @@ impl<R> TcpListen<R> {
             told: false,
             faults: 0,
             quiets: 0,
+            closed: false,
         }
     }
 
@@ -309,8 +312,9 @@ where
     /// Drops the socket, and sets the flag, if there is one: so nothing more is read of the links that it gave. Without a flag an `accept` or a `wait`
     /// from then on is a fault, unless the listener listens anew.
     fn close(&mut self)
-        ensures { self.new ≡ self.old }
+        ensures closed { self.new ≡ record self.old { closed = true } }
     {
         self.give_back();
+        self.closed = true;
     }
 }

@@ -1,4 +1,4 @@
-use Rattle.std.proofs.Common.{ap, inr}
+use Rattle.std.proofs.Common.{ap, inr, rules}
 use Rattle.wire_io.specs.Pulled.{pull_state}
 use Rattle.system_objects.specs.Terms.{terms_of}
 use Rattle.call_dispatch.proofs.Leading.{led_invoked}
@@ -12,10 +12,16 @@ returns-in_default-clause-runs_on g c first reads =
     let prepared = rw c.no_such_method.ensures at (rw c.give_up.ensures.frame.setup at c.refuse.ensures.prepared) in
     rw c.give_up.ensures.frame.pull (unknown_runs _ _ (terms_of c.args.connection.now.book.now c.args.connection.now.setup.now) _ c.args.head c.args.kind first (pull_state g.S.Source.half c.args.connection.now.pull) c.args.reader.stand _ _ _ _ moment at c.refuse.result c.in_default.ensures.none reads led prepared)
 
-pub returns-in_default-clause-balanced : goal.returns-in_default-clause-balanced
-returns-in_default-clause-balanced g c =
+pub returns-in_default-clause-frame : goal.returns-in_default-clause-frame
+returns-in_default-clause-frame g c =
     let (moment, at, led) = c.give_up.ensures.led in
-    rw led.asked (give_up_balances c.args.head.id moment at (g.P.Port.shown c.args.connection.now.port.now).asked c.requires.runs)
+    record {
+      keeps = search rules;
+      balanced = rw led.asked (give_up_balances c.args.head.id moment at (g.P.Port.shown c.args.connection.now.port.now).asked c.requires.can.running);
+      sink = search rules;
+      drawn = search rules;
+      calls = search rules;
+    }
 
 pub returns-in-Ok-clause-runs_on : goal.returns-in-Ok-clause-runs_on
 returns-in-Ok-clause-runs_on g c first reads =
@@ -44,7 +50,13 @@ returns-in-Err-clause-runs_on g c first reads =
       c.give_up-in-Err.ensures.led,
     )
 
-pub returns-in-Err-clause-balanced : goal.returns-in-Err-clause-balanced
-returns-in-Err-clause-balanced g c =
+pub returns-in-Err-clause-frame : goal.returns-in-Err-clause-frame
+returns-in-Err-clause-frame g c =
     let (moment, at, led) = c.give_up-in-Err.ensures.led in
-    rw led.asked (give_up_balances c.args.head.id moment at (g.P.Port.shown c.args.connection.now.port.now).asked c.requires.runs)
+    record {
+      keeps = search rules;
+      balanced = rw led.asked (give_up_balances c.args.head.id moment at (g.P.Port.shown c.args.connection.now.port.now).asked c.requires.can.running);
+      sink = search rules;
+      drawn = search rules;
+      calls = search rules;
+    }

@@ -33,7 +33,7 @@ returns-in-Ok-Asks-clause-answers g c head bytes known call =
     let uid_is = c.next_uid-first.ensures.uid ∙ ap (drawn_at (terms_of c.args.connection.now.book.now old)) here in
     let same = ap (λ s. terms_of c.args.connection.now.book.now s) c.next_uid-first.ensures.drawn in
     let demands = request_is c.args.connection.now.book.now old c.next_uid-first.new.setup c.args.method c.args.arguments _ _ _ _ same c.next_uid-first.ensures.uid is.0 in
-    read_asked g.W.Worker.may g.W.Worker.moves (terms_of c.args.connection.now.book.now old) head bytes c.args.method c.args.arguments c.in-Ok-Asks.ask _ (observed_of g.C.Clock.given g.P.Port.shown g.W.Worker.shown c.args.connection.now) _ old.draw.drawn _ c.turn_and_return.result known call uid_is demands (ap (λ s. s.now.draw.drawn) c.turn_and_return.ensures.frame.setup ∙ drew) (rw c.next_uid-first.ensures.drawn at c.turn_and_return.ensures.asks)
+    read_asked g.W.Worker.may g.W.Worker.moves (terms_of c.args.connection.now.book.now old) head bytes c.args.method c.args.arguments c.in-Ok-Asks.ask _ (observed_of g.C.Clock.given g.P.Port.shown g.W.Worker.shown c.args.connection.now) _ old.draw.drawn _ c.turn_and_return.result known call uid_is demands (ap (λ s. s.now.draw.drawn) c.turn_and_return.ensures.frame.only.setup ∙ drew) (rw c.next_uid-first.ensures.drawn at c.turn_and_return.ensures.asks)
 
 pub turn_and_return-requires-in-Ok-AsksForNew-clause-quiet : goal.turn_and_return-requires-in-Ok-AsksForNew-clause-quiet
 turn_and_return-requires-in-Ok-AsksForNew-clause-quiet g c =
@@ -51,7 +51,7 @@ returns-in-Ok-AsksForNew-clause-answers g c head bytes known call =
     let same = ap (λ s. terms_of c.args.connection.now.book.now s) c.next_uid-first.ensures.drawn in
     let demands = without_return (terms_of c.args.connection.now.book.now old) c.args.method c.args.arguments _ c.next_uid-uid.result c.next_uid-first.result is.2
     ∙ request_is c.args.connection.now.book.now old c.next_uid-first.new.setup c.args.method c.args.arguments _ _ _ _ same c.next_uid-first.ensures.uid is.0 in
-    read_asked g.W.Worker.may g.W.Worker.moves (terms_of c.args.connection.now.book.now old) head bytes c.args.method c.args.arguments c.in-Ok-AsksForNew.ask _ (observed_of g.C.Clock.given g.P.Port.shown g.W.Worker.shown c.args.connection.now) _ old.draw.drawn _ c.turn_and_return-in-Ok-AsksForNew.result known call uid_is demands (ap (λ s. s.now.draw.drawn) c.turn_and_return-in-Ok-AsksForNew.ensures.frame.setup ∙ drew) (rw (c.next_uid-uid.ensures.drawn, c.next_uid-first.ensures.drawn) at c.turn_and_return-in-Ok-AsksForNew.ensures.asks)
+    read_asked g.W.Worker.may g.W.Worker.moves (terms_of c.args.connection.now.book.now old) head bytes c.args.method c.args.arguments c.in-Ok-AsksForNew.ask _ (observed_of g.C.Clock.given g.P.Port.shown g.W.Worker.shown c.args.connection.now) _ old.draw.drawn _ c.turn_and_return-in-Ok-AsksForNew.result known call uid_is demands (ap (λ s. s.now.draw.drawn) c.turn_and_return-in-Ok-AsksForNew.ensures.frame.only.setup ∙ drew) (rw (c.next_uid-uid.ensures.drawn, c.next_uid-first.ensures.drawn) at c.turn_and_return-in-Ok-AsksForNew.ensures.asks)
 
 pub returns-clause-answers : goal.returns-clause-answers
 returns-clause-answers g c head bytes known call =

@@ -6,4 +6,4 @@ returns-then-is_system-clause-answers g c first reads = inl (sym c.is_system.ens
 
 pub returns-else-is_system-clause-answers : goal.returns-else-is_system-clause-answers
 returns-else-is_system-clause-answers g c first reads =
-    inr (sym c.is_system.ensures ∙ c.if-is_system.false, c.call_object.ensures.answers first reads, c.call_object.ensures.drew, c.call_object.ensures.drawn.0, c.call_object.ensures.drawn.1)
+    inr (sym c.is_system.ensures ∙ c.if-is_system.false, c.call_object.ensures.answers first reads, c.call_object.ensures.drew, c.call_object.ensures.frame.drawn.0, c.call_object.ensures.frame.drawn.1)

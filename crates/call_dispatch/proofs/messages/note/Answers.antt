@@ -8,17 +8,17 @@ returns-in-Ok-clause-notes g c =
     let (moment, led) = c.in-Ok.ensures.led in
     (refl, (moment, Ok c.in-Ok._turn, ack_answered c.args.uid (g.P.Port.shown c.args.connection.now.port.now).asked c.in-Ok._turn.reply c.in-Ok.ensures.answers, led))
 
-pub returns-in-Ok-clause-balanced : goal.returns-in-Ok-clause-balanced
-returns-in-Ok-clause-balanced g c =
+pub returns-in-Ok-clause-frame : goal.returns-in-Ok-clause-frame
+returns-in-Ok-clause-frame g c =
     let (moment, led) = c.in-Ok.ensures.led in
-    rw led.asked (ack_even c.args.uid moment (Ok c.in-Ok._turn) (g.P.Port.shown c.args.connection.now.port.now).asked c.requires.balanced)
+    record { only = c.take_turn.ensures.frame; balanced = rw led.asked (ack_even c.args.uid moment (Ok c.in-Ok._turn) (g.P.Port.shown c.args.connection.now.port.now).asked c.requires.can.running) }
 
 pub returns-in-Err-HistoryFull-clause-notes : goal.returns-in-Err-HistoryFull-clause-notes
 returns-in-Err-HistoryFull-clause-notes g c =
     let (moment, led) = rw c.in-Err-HistoryFull.field-0-is at c.in-Err-HistoryFull.ensures.led in
     (refl, (moment, Err HistoryFull, tt, led))
 
-pub returns-in-Err-HistoryFull-clause-balanced : goal.returns-in-Err-HistoryFull-clause-balanced
-returns-in-Err-HistoryFull-clause-balanced g c =
+pub returns-in-Err-HistoryFull-clause-frame : goal.returns-in-Err-HistoryFull-clause-frame
+returns-in-Err-HistoryFull-clause-frame g c =
     let (moment, led) = rw c.in-Err-HistoryFull.field-0-is at c.in-Err-HistoryFull.ensures.led in
-    rw led.asked (ack_even c.args.uid moment (Err HistoryFull) (g.P.Port.shown c.args.connection.now.port.now).asked c.requires.balanced)
+    record { only = c.take_turn.ensures.frame; balanced = rw led.asked (ack_even c.args.uid moment (Err HistoryFull) (g.P.Port.shown c.args.connection.now.port.now).asked c.requires.can.running) }

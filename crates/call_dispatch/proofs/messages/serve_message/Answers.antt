@@ -38,7 +38,7 @@ pub returns-in-DgcAck-clause-steps : goal.returns-in-DgcAck-clause-steps
 returns-in-DgcAck-clause-steps g c start opening exchanges count code stands =
     let gives = rw c.in-DgcAck.is at (rw c.in-Ok-Some.field-0-is at c.in-Ok-Some.ensures.gives) in
     let moved = rw (← c.mark.ensures.source, ← c.mark.ensures.at) at stands in
-    rw (c.acknowledge.ensures.sink, c.acknowledge.ensures.setup) (ack_steps _ _ _ start _ _ _ _ _ _ _ _ opening exchanges c.acknowledge.result moved code
+    rw (c.acknowledge.ensures.frame.sink, c.acknowledge.ensures.setup) (ack_steps _ _ _ start _ _ _ _ _ _ _ _ opening exchanges c.acknowledge.result moved code
     (omega (arith, count, c.requires.served, c.if-served-eq-MAX_MESSAGES.false)) (omega (arith, c.mark.ensures.at, c.mark.ensures.stop, c.requires.at)) gives c.acknowledge.ensures.acknowledges)
 
 pub returns-in-DgcAck-clause-most : goal.returns-in-DgcAck-clause-most
@@ -50,7 +50,7 @@ pub returns-in-DgcAck-clause-blames : goal.returns-in-DgcAck-clause-blames
 returns-in-DgcAck-clause-blames g c =
     let gives = rw c.in-DgcAck.is at (rw c.in-Ok-Some.field-0-is at c.in-Ok-Some.ensures.gives) in
     let faults = rw c.mark.ensures.source at gives.faults in
-    rw c.acknowledge.ensures.sink (blames_from _ _ _ _ c.acknowledge.result faults (ack_blames _ _ _ _ _ _ _ _ c.acknowledge.result c.acknowledge.ensures.acknowledges))
+    rw c.acknowledge.ensures.frame.sink (blames_from _ _ _ _ c.acknowledge.result faults (ack_blames _ _ _ _ _ _ _ _ c.acknowledge.result c.acknowledge.ensures.acknowledges))
 
 pub returns-in-Call-clause-steps : goal.returns-in-Call-clause-steps
 returns-in-Call-clause-steps g c start opening exchanges count code stands =
@@ -83,7 +83,7 @@ pub returns-in-DgcAck-clause-shut : goal.returns-in-DgcAck-clause-shut
 returns-in-DgcAck-clause-shut g c =
     let gives = rw c.in-DgcAck.is at (rw c.in-Ok-Some.field-0-is at c.in-Ok-Some.ensures.gives) in (
       ack_shut _ _ _ _ _ _ _ c.acknowledge.result c.acknowledge.ensures.acknowledges ∙ gives.shut ∙ ap (λ s. (g.S.Source.half s).shut) c.mark.ensures.source,
-      ap (λ s. (g.K.Sink.half s.now).shut) c.acknowledge.ensures.sink,
+      ap (λ s. (g.K.Sink.half s.now).shut) c.acknowledge.ensures.frame.sink,
     )
 
 pub returns-in-Call-clause-shut : goal.returns-in-Call-clause-shut

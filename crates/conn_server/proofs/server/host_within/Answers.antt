@@ -14,7 +14,7 @@ use Rattle.conn_server.proofs.server.host_within.Goals as goal
 
 pub run-stop-requires-clause-accepting : goal.run-stop-requires-clause-accepting
 run-stop-requires-clause-accepting g c κs within =
-    let made = c.new-first.ensures in
+    let made = c.new-host.ensures in
     let shared = c.args.shared.now in
     let read_half = g.L.In.Source.half in let write_half = g.L.Out.Sink.half in let given = g.L.Ticks.Clock.given in
     let shown = g.G.Hand.Worker.shown in
@@ -59,10 +59,11 @@ returns-clause-hosted g c =
       stopped = subst (λ (n : ℕ). HostStopped a.result.stop (g.L.Listener.listening a.new.listener).told shared.plan.now.count n e.missed) number e.stopped;
       back = e.back;
       untold = e.untold;
+      closed = a.ensures.closed;
     }
 
 pub returns-clause-fault : goal.returns-clause-fault
-returns-clause-fault g c = c.run-stop.ensures.halted.fault
+returns-clause-fault g c = c.run-stop.ensures.fault
 
 pub returns-clause-faults : goal.returns-clause-faults
 returns-clause-faults g c = c.run-stop.ensures.halted.faults
@@ -72,7 +73,7 @@ returns-clause-ports g c = c.run-stop.ensures.halted.same_ports
 
 pub returns-clause-keeps : goal.returns-clause-keeps
 returns-clause-keeps g c =
-    let made = c.new-first.ensures in
+    let made = c.new-host.ensures in
     let first = rw made.taker at c.run-stop.ensures.keeps in
     let then = c.end_all.ensures.keeps in
     (λ held. then.0 (first.0 held), then.1 ∙ first.1)

@@ -12,7 +12,7 @@ returns-clause-links g c seed asked are =
     (hosts_given _ _ _ _ seed (λ d. taken_of d.given) _ _ _ _ _ _ _ c.host-served.result _ (ap taken_of (sym c.take_apart.ensures.given)) c.take_apart.ensures.rest c.host-served.ensures.hosts)
 
 pub returns-clause-fault : goal.returns-clause-fault
-returns-clause-fault g c is = failed_rose _ _ (c.host-served.ensures.fault (sym c.take_apart.ensures.rest.0 ∙ is))
+returns-clause-fault g c is = failed_rose _ _ (c.host-served.ensures.hosts.fault (sym c.take_apart.ensures.rest.0 ∙ is))
 
 pub returns-clause-printed : goal.returns-clause-printed
 returns-clause-printed g c =

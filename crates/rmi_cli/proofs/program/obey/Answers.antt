@@ -1,10 +1,9 @@
-use Rattle.std.proofs.Common.{None, refl}
-use Rattle.rmi_cli.proofs.Answering.{answered, answers_asked}
-use Rattle.rmi_cli.proofs.Asking.{asks_causes, asks_named, known_told, link_told, sink_told}
-use Rattle.rmi_cli.proofs.Calling.{calls_causes, calls_named}
+use Rattle.std.proofs.Common.{refl}
+use Rattle.rmi_cli.proofs.Answering.{answers_asked}
+use Rattle.rmi_cli.proofs.Asking.{asks_named}
+use Rattle.rmi_cli.proofs.Calling.{calls_named}
 use Rattle.rmi_cli.proofs.Named.{drills_named, exactly_asked, prints_named, serving_asked}
 use Rattle.rmi_cli.proofs.Drilling.{drills_exactly}
-use Rattle.rmi_cli.proofs.Exactly.{told_settles}
 use Rattle.rmi_cli.proofs.Hosting.{hosts_named}
 use Rattle.rmi_cli.proofs.Once.{replays_exactly}
 use Rattle.rmi_cli.proofs.PrintedOnce.{prints_exactly}
@@ -13,47 +12,20 @@ use Rattle.rmi_cli.proofs.WorldOnce.{makes_exactly}
 use Rattle.rmi_cli.proofs.program.obey.Goals as goal
 
 pub returns-in-Answer-clause-answer : goal.returns-in-Answer-clause-answer
-returns-in-Answer-clause-answer g c options is =
-    answers_asked _ _ _ _ _ _ _ _ _ _ _ c.in-Answer.is is
-    (answered _ _ _ _ _ _ _ _ _ _ c.answer_input-end.ensures.serves c.answer_input-end.ensures.read_fault c.answer_input-end.ensures.write_fault c.report_end.ensures.told)
+returns-in-Answer-clause-answer g c options is = answers_asked _ _ _ _ _ _ _ _ _ _ _ c.in-Answer.is is c.obey_answer.ensures.answers
 
 pub returns-in-Answer-clause-exact : goal.returns-in-Answer-clause-exact
-returns-in-Answer-clause-exact g c options is =
-    exactly_asked _ _ _ _ _ _ _ c.in-Answer.is is (told_settles _ _ _ _ _ _ c.answer_input-end.ensures.exact c.report_end.ensures.told)
+returns-in-Answer-clause-exact g c options is = exactly_asked _ _ _ _ _ _ _ c.in-Answer.is is c.obey_answer.ensures.exact
 
 pub returns-in-Serve-clause-serves : goal.returns-in-Serve-clause-serves
 returns-in-Serve-clause-serves g c serve is =
-    serving_asked g.L.In.Source.half g.L.Out.Sink.half g.L.Ticks.Clock.given _ _ _ _ _ _ _ _ _ _ _ c.serve_input-served.result.report c.serve_input-served.result.end c.in-Serve.is is
-    c.serve_input-served.ensures.served c.serve_input-served.ensures.alone c.serve_input-served.ensures.ends c.report_end-in-Serve.ensures.told refl
+    serving_asked g.L.In.Source.half g.L.Out.Sink.half g.L.Ticks.Clock.given _ _ _ _ _ _ _ _ _ _ _ _ c.in-Serve.is is c.obey_serve.ensures.serves
 
 pub returns-in-Client-clause-asks : goal.returns-in-Client-clause-asks
-returns-in-Client-clause-asks g c asked given is =
-    asks_named _ c.in-Client.asked asked _ _ _ _ _ _ c.in-Client.is is (c.ask_server-end.ensures.asks given) c.report_end-in-Client.ensures.told
-
-pub returns-in-Client-clause-known : goal.returns-in-Client-clause-known
-returns-in-Client-clause-known g c = known_told _ _ _ _ (asks_causes _ _ _ _ _ _ (c.ask_server-end.ensures.asks None)) c.report_end-in-Client.ensures.status
-
-pub returns-in-Client-clause-link_fault : goal.returns-in-Client-clause-link_fault
-returns-in-Client-clause-link_fault g c asked is = link_told _ _ _ _ (asks_causes _ _ _ _ _ _ (c.ask_server-end.ensures.asks None)) c.report_end-in-Client.ensures.status
-
-pub returns-in-Client-clause-sink_fault : goal.returns-in-Client-clause-sink_fault
-returns-in-Client-clause-sink_fault g c asked is = sink_told _ _ _ _ (asks_causes _ _ _ _ _ _ (c.ask_server-end.ensures.asks None)) c.report_end-in-Client.ensures.status
+returns-in-Client-clause-asks g c asked given is = asks_named _ c.in-Client.asked asked _ _ _ _ _ c.in-Client.is is (c.obey_client.ensures.asks given)
 
 pub returns-in-Call-clause-calls : goal.returns-in-Call-clause-calls
-returns-in-Call-clause-calls g c call is =
-    calls_named _ c.in-Call.call call _ _ _ _ _ _ _ c.in-Call.is is (c.call_object-end.ensures.calls _ c.in-Call.call c.request_of-request.ensures) c.report_end-in-Call.ensures.told
-
-pub returns-in-Call-clause-known : goal.returns-in-Call-clause-known
-returns-in-Call-clause-known g c =
-    known_told _ _ _ _ (calls_causes _ _ _ _ _ _ _ (c.call_object-end.ensures.calls _ c.in-Call.call c.request_of-request.ensures)) c.report_end-in-Call.ensures.status
-
-pub returns-in-Call-clause-call_link_fault : goal.returns-in-Call-clause-call_link_fault
-returns-in-Call-clause-call_link_fault g c call is =
-    link_told _ _ _ _ (calls_causes _ _ _ _ _ _ _ (c.call_object-end.ensures.calls _ c.in-Call.call c.request_of-request.ensures)) c.report_end-in-Call.ensures.status
-
-pub returns-in-Call-clause-call_sink_fault : goal.returns-in-Call-clause-call_sink_fault
-returns-in-Call-clause-call_sink_fault g c call is =
-    sink_told _ _ _ _ (calls_causes _ _ _ _ _ _ _ (c.call_object-end.ensures.calls _ c.in-Call.call c.request_of-request.ensures)) c.report_end-in-Call.ensures.status
+returns-in-Call-clause-calls g c call is = calls_named _ c.in-Call.call call _ _ _ _ _ _ c.in-Call.is is c.obey_call.ensures.calls
 
 pub returns-in-Replay-clause-replay : goal.returns-in-Replay-clause-replay
 returns-in-Replay-clause-replay g c is = record {
@@ -61,11 +33,11 @@ returns-in-Replay-clause-replay g c is = record {
   holds = c.replay_input-end.ensures.ends;
   read_fault = c.replay_input-end.ensures.read_fault;
   write_fault = c.replay_input-end.ensures.write_fault;
-  tells = c.report_end-in-Replay.ensures.told;
+  tells = c.report_end.ensures.told;
 }
 
 pub returns-in-Replay-clause-replay_exact : goal.returns-in-Replay-clause-replay_exact
-returns-in-Replay-clause-replay_exact g c is = replays_exactly _ _ _ _ c.replay_input-end.ensures.ends c.report_end-in-Replay.ensures.told
+returns-in-Replay-clause-replay_exact g c is = replays_exactly _ _ _ _ c.replay_input-end.ensures.ends c.report_end.ensures.told
 
 pub returns-in-Show-clause-show : goal.returns-in-Show-clause-show
 returns-in-Show-clause-show g c is = record {
@@ -112,5 +84,4 @@ returns-in-Class-clause-class_exact g c output is =
     prints_exactly output _ _ _ _ _ c.print_class-end.result (prints_named _ _ _ _ _ _ _ _ c.in-Class.is is c.print_class-end.ensures.ends) c.report_end-in-Class.ensures.told
 
 pub returns-in-Host-clause-hosts : goal.returns-in-Host-clause-hosts
-returns-in-Host-clause-hosts g c asked is =
-    hosts_named _ _ _ _ _ _ c.in-Host.asked asked _ _ (g.E.Sink.half c.args.host.now.errors) (g.E.Sink.half c.host_input-ended.new.host.errors) (g.E.Sink.half c.report_host.new.errors) _ _ _ c.in-Host.is is (c.host_input-ended.ensures.hosts _ c.in-Host.asked c.host_parts-parts.ensures.are) (c.report_host.ensures.told _)
+returns-in-Host-clause-hosts g c asked is = hosts_named _ _ _ _ _ _ c.in-Host.asked asked _ _ _ c.in-Host.is is c.obey_host.ensures.hosts

@@ -2,7 +2,7 @@ use Rattle.std.proofs.Common.{◌≡◌, subst, sym, ◌∙◌, inr, arith}
 use Rattle.rmi_cli.proofs.Asking.{asks_none}
 use Rattle.rmi_cli.proofs.Calling.{by_server, calls_none}
 use Rattle.rmi_cli.proofs.Named.{asked_fits}
-use Rattle.rmi_words.proofs.Asked.{asked_once}
+use Rattle.rmi_words.proofs.Asked.{asked_once, host_in_range}
 use Rattle.rmi_words.specs.Command.{AskFor}
 use Rattle.rmi_words.specs.declared.call_words.CallWords.{CallWords}
 use Rattle.rmi_words.specs.declared.client.ClientCommand.{ClientCommand}
@@ -12,6 +12,7 @@ use Rattle.rmi_words.specs.declared.options.ServeWords.{ServeWords}
 use Rattle.rmi_words.specs.declared.command.Command.TheVariants.{Answer, Serve, Host, Client, Call, Replay, Show, Drill, World, Class, Help}
 use Rattle.rmi_cli.proofs.Wanting.{answers_none, answers_none_exactly, drills_none, drills_none_exactly, helps_none, none_told, prints_none, prints_none_exactly, replays_none, replays_none_exactly, serves_none, shows_none, shows_none_exactly, wanted, worlds_none, worlds_none_exactly}
 use Rattle.rmi_cli.proofs.Hosting.{hosting_none, hosting_settles}
+use Rattle.rmi_cli.proofs.Journals.{hosting_prints}
 use Rattle.rmi_cli.proofs.Settled.{serving_settles}
 use Rattle.rmi_cli.proofs.WorldOnce.{keeps_promise}
 use Rattle.rmi_cli.proofs.program.run.Goals as goal
@@ -217,3 +218,12 @@ returns-in-Ok-clause-host_settled g c host is heard written =
 
 pub returns-in-Err-clause-host_settled : goal.returns-in-Err-clause-host_settled
 returns-in-Err-clause-host_settled g c host is heard written = inr (wanted _ _ _ c.in-Err.ensures.refused (Host host) is c.report_words.ensures.told).0
+
+pub returns-in-Ok-clause-host_journal : goal.returns-in-Ok-clause-host_journal
+returns-in-Ok-clause-host_journal g c asked is recorded ended =
+    hosting_prints _ _ _ _ _ asked _ _ _ (c.obey.ensures.hosts asked (asked_once _ _ (Host asked) c.in-Ok.ensures.asked is)) ended recorded (host_in_range _ asked is).options
+
+pub returns-in-Err-clause-host_journal : goal.returns-in-Err-clause-host_journal
+returns-in-Err-clause-host_journal g c asked is recorded ended =
+    let lacks = wanted _ _ _ c.in-Err.ensures.refused (Host asked) is c.report_words.ensures.told in
+    absurd (omega (arith, lacks.0, ended))

@@ -1,7 +1,8 @@
 use Rattle.std.proofs.Common.{sym, subst, ◌∙◌, ap}
 use Rattle.std.proofs.Math.Dec.{lit≤}
 use Rattle.std.specs.Prelude.{codes, pos}
-use Rattle.sample_app.specs.Opened.{open_event, bind_event}
+use Rattle.space.specs.Built.{open_event}
+use Rattle.sample_app.specs.Opened.{bind_event}
 use Rattle.sample_app.proofs.FreeOpens.{IsFree, one_more, first_is_free, second_is_free, third_is_free, first_name_is_free, second_name_is_free, third_name_is_free}
 use Rattle.sample_app.proofs.opening.furnish.Goals as goal
 

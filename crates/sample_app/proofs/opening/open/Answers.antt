@@ -1,7 +1,6 @@
 use Rattle.std.proofs.Common.{Ok, ◌∙◌, ap₂}
-use Rattle.space.specs.Built.{space_of}
+use Rattle.space.specs.Built.{open_event, space_of}
 use Rattle.space.proofs.CollectLaws.{space-shown}
-use Rattle.sample_app.specs.Opened.{open_event}
 use Rattle.sample_app.proofs.FreeOpens.{steps_on}
 use Rattle.sample_app.proofs.opening.open.Goals as goal
 

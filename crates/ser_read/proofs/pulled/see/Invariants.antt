@@ -1,5 +1,5 @@
 use Rattle.std.proofs.Common.{take}
-use Rattle.ser_read.specs.Here.{AreBytes}
+use Rattle.stream_grammar.specs.Faults.{AreBytes}
 use Rattle.ser_read.proofs.pulled.see.Given as goal
 
 abbrev pub invariant-loop-byte : goal.invariant-loop-byte

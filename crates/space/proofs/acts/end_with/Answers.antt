@@ -6,5 +6,5 @@ use Rattle.space.proofs.acts.end_with.Goals as goal
 
 pub await_all-requires-clause-exported : goal.await_all-requires-clause-exported
 await_all-requires-clause-exported c =
-    there-after c.args.object.now c.args.exports.now.rows (new_rows c.args.exports.now.space c.args.exports.now.added c.args.made.now) c.add_all.new.exports.rows c.args.returned.now
-    (ap (λ (t : ExportTable). t.rows) c.add_all.ensures.value ∙ ap (λ (t : ExportTable). t.rows ++ new_rows t.space t.added c.args.made.now) c.end.ensures) c.requires.exported
+    there-after c.args.object.now c.args.exports.now.rows (new_rows c.args.exports.now.space c.args.exports.now.added c.args.returned.now.made.now) c.add_all.new.exports.rows c.args.returned.now.listed.now
+    (ap (λ (t : ExportTable). t.rows) c.add_all.ensures.value ∙ ap (λ (t : ExportTable). t.rows ++ new_rows t.space t.added c.args.returned.now.made.now) c.end.ensures) c.requires.exported

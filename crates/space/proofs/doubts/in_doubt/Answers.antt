@@ -1,12 +1,15 @@
-use Rattle.std.proofs.Common.{ap, ◌++◌, ◌∙◌}
-use Rattle.history.specs.Places.{id_at}
-use Rattle.space.specs.Doubts.{taken_by}
-use Rattle.space.proofs.Doubting.{in-doubt}
+use Rattle.std.proofs.Common.{List, subst}
+use Rattle.std.specs.Prelude.{IfOk}
+use Rattle.object_ids.specs.declared.ids.ObjId.{ObjId}
+use Rattle.space.specs.Doubts.{AreInDoubt}
 use Rattle.space.proofs.doubts.in_doubt.Goals as goal
 
-pub returns : goal.returns
-returns c =
-    in-doubt c.args.tables.now.leases c.args.now c.args.tables.now.exports.waits (taken_by c.args.tables.now.exports.waits (id_at c.args.tables.now.config.uid c.args.tables.now.added) c.args.stood c.args.returned.now c.args.ask.now)
-    c.in_ok-freed.freed.items c.in_ok-ended.ended.items c.in_ok-objects.objects.items c.in_ok-freed.ensures.whole c.in_ok-ended.ensures
-    (c.in_ok-objects.ensures ∙ ap (λ l. l ++ c.in_ok-taken.taken.items) c.in_ok-passed.ensures
-    ∙ ap (λ l. (c.in_ok-freed.freed.items ++ c.in_ok-ended.ended.items) ++ l) c.in_ok-taken.ensures)
+pub returns-then-takes_time : goal.returns-then-takes_time
+returns-then-takes_time c =
+    let P : List ObjId → Type 0 = λ l. IfOk c.with_passed.result (λ os. AreInDoubt c.args.tables.now.leases c.args.now c.args.tables.now.exports.waits l os.items) in
+    subst P c.in_ok-taken.ensures c.with_passed.ensures
+
+pub returns-else-takes_time : goal.returns-else-takes_time
+returns-else-takes_time c =
+    let P : List ObjId → Type 0 = λ l. AreInDoubt c.args.tables.now.leases c.args.now c.args.tables.now.exports.waits l c.in_ok-taken.taken.items in
+    subst P c.in_ok-taken.ensures (c.takes_time.ensures c.if-takes_time.false c.in_ok-taken.taken.items)

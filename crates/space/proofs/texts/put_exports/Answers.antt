@@ -8,6 +8,6 @@ use Rattle.space.proofs.texts.put_exports.Goals as goal
 
 pub returns : goal.returns
 returns c =
-    let P : List ExportRow → Type 0 = λ rows. OnOk c.put_objects.result (ForEachLog c.args.leases.now (λ lease moment calls.
-    c.put_objects.new.text ≡ c.args.text.now ++ flat_map (λ x. object_line c.args.config.now (held_row lease (max c.args.now moment) calls x)) rows)) in
+    let P : List ExportRow → Type 0 = λ rows. OnOk c.put_objects.result (ForEachLog c.args.tables.now.leases (λ lease moment calls.
+    c.put_objects.new.text ≡ c.args.text.now ++ flat_map (λ x. object_line c.args.tables.now.config (held_row lease (max c.args.tables.now.moment moment) calls x)) rows)) in
     subst P (c.as_slice.ensures ∙ c.in_ok-rows.ensures) c.put_objects.ensures

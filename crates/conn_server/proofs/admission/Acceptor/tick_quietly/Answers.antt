@@ -39,7 +39,7 @@ returns-clause-quiet g c gave_first quiets_first quiets_last before_links t =
     let begins = (follows_on c.args.self.now c.with_tick_room.new.self c.tick_once-missed.new.self (follows_same _ _ _ _ c.with_tick_room.ensures.same) c.tick_once-missed.ensures.follows).0 in
     let opening = opening_of c.args.shared.now.lock.now in
     let seen = (view_of c.args.self.now.root.pass).seen in
-    quiet_on g.H.Worker.shown g.H.Worker.moves opening seen _ c.args.own.now.missed c.tick_once-missed.result c.is_either-own.result gave_first _ _ quiets_first quiets_last before_links _ _ c.args.own.now.hand c.in-Some.hand c.tick_once-missed.new.hand begins
-    c.is_either-own.ensures.first c.is_either-own.ensures.second c.is_either-own.ensures.either
+    quiet_on g.H.Worker.shown g.H.Worker.moves opening seen _ c.args.own.now.missed c.missed_with-own.result c.tick_once-missed.result gave_first _ _ quiets_first quiets_last before_links _ _ c.args.own.now.hand c.in-Some.hand c.tick_once-missed.new.hand begins
+    c.missed_with-own.ensures
     (quiet_same g.H.Worker.shown g.H.Worker.moves opening seen c.args.own.now.missed gave_first _ quiets_first quiets_last before_links before_links _ _ c.args.own.now.hand t c.with_tick_room.ensures.same.ticks refl)
     c.in-Some.ensures.has c.tick_once-missed.ensures.once

@@ -1,4 +1,3 @@
-use Rattle.std.proofs.Common.{arith}
 use Rattle.conn_server.proofs.Hosting.{hosting_joined, hosting_quiet}
 use Rattle.conn_server.proofs.Keeping.{keeps_on}
 use Rattle.conn_server.proofs.host_loop.HostLoop.pass_time.Goals as goal
@@ -10,7 +9,6 @@ pub returns-clause-goes_on : goal.returns-clause-goes_on
 returns-clause-goes_on g c l0 l1 l2 gave_first h like =
     let joined = c.catch_up.ensures in
     let quiet = c.tick_quietly.ensures in
-    let tries = c.args.self.now.idle_tries in
-    hosting_quiet _ _ _ _ _ _ _ _ _ _ _ l0 gave_first l1 l2 _ _ c.catch_up.new.self _ _ _ tries
-    (hosting_joined _ _ _ _ _ _ _ _ _ _ _ l0 gave_first l1 _ _ _ _ tries tries h (omega arith) joined.accepting joined.follows joined.ticks joined.links joined.begun)
+    hosting_quiet _ _ _ _ _ _ _ _ _ _ _ l0 gave_first l1 l2 _ _ c.catch_up.new.self _ _ _
+    (hosting_joined _ _ _ _ _ _ _ _ _ _ _ l0 gave_first l1 _ _ _ _ h joined.accepting joined.follows joined.ticks joined.links joined.begun)
     like quiet.accepting quiet.follows quiet.all quiet.begun (λ t. quiet.quiet gave_first l0.quiets l1.quiets _ t)

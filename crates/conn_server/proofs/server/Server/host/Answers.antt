@@ -7,6 +7,7 @@ use Rattle.space.specs.declared.asked.Asked.{Asked}
 use Rattle.turn_lock.specs.Handles.{opening_of, view_of}
 use Rattle.conn_server.specs.Reports.{AreTurnsOf}
 use Rattle.conn_server.proofs.Closing.{links_reported, no_others, ticks_reported}
+use Rattle.conn_server.proofs.Failing.{since_first}
 use Rattle.conn_server.proofs.Quiet.{quiet_closed}
 use Rattle.conn_server.proofs.Stopping.{failed_rose, host_without_fault}
 use Rattle.conn_server.proofs.server.Server.host.Goals as goal
@@ -31,13 +32,15 @@ returns-clause-hosts g c =
       reported = links_reported _ c.args.lock s.served o.root s.links ticks s.joined h settled;
       reports = subst (λ l. IsPermutation s.links l) (sym closed.ensures.reports.reports) s.reports;
       ticks = subst (λ (l : List Asked). AreTurnsOf (opening_of c.args.lock) 0 l h) (sym closed.ensures.ticks) (ticks_reported _ c.args.lock s.served o.root s.links ticks s.joined h settled);
-      quiet = quiet_closed g.G.Hand.Worker.shown g.G.Hand.Worker.moves (opening_of c.args.lock) (view_of o.root.pass).seen h.events o.own.missed closed.result.tick_missed _ _ _ _ _ ticks _ o.own.hand _
+      quiet = quiet_closed g.G.Hand.Worker.shown g.G.Hand.Worker.moves (opening_of c.args.lock) (view_of o.root.pass).seen h.events o.own.missed closed.result.ticks_missed _ _ _ _ _ ticks _ o.own.hand _
           settled.seen closed.ensures.missed closed.ensures.ticks closed.ensures.hand s.quiet;
+      any_missed = closed.ensures.any_missed;
       others = no_others _ c.args.lock s.served o.root s.links ticks s.joined h settled;
       stopped = rw closed.ensures.stop s.stopped;
-      fault = rw closed.ensures.stop c.host_links-joined.ensures.fault;
+      fault = rw closed.ensures.stop (λ is. since_first _ _ _ _ (c.host_links-joined.ensures.fault is));
       back = rw closed.ensures.lost s.back;
       untold = rw closed.ensures.stop s.untold;
+      closed = s.closed;
       handed = closed.ensures.handed;
       all_handed = closed.ensures.whole;
     }
@@ -46,7 +49,7 @@ pub returns-clause-fault : goal.returns-clause-fault
 returns-clause-fault g c = rw c.close_host.ensures.stop c.host_links-joined.ensures.fault
 
 pub returns-clause-all : goal.returns-clause-all
-returns-clause-all g c none = host_without_fault _ (λ is. none (failed_rose _ _ (returns-clause-fault g c is)))
+returns-clause-all g c none = host_without_fault _ (λ is. none (failed_rose _ _ (since_first _ _ _ _ (returns-clause-fault g c is))))
 
 pub returns-clause-keeps : goal.returns-clause-keeps
 returns-clause-keeps g c =

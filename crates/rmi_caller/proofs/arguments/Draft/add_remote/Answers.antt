@@ -2,7 +2,7 @@ use Rattle.std.proofs.Common.{refl}
 use Rattle.java_shapes.specs.RefNotes.{ref_note}
 use Rattle.rmi_client.specs.Requests.{sent_ref}
 use Rattle.rmi_caller.specs.Arguments.{IsProxyItem}
-use Rattle.rmi_caller.specs.Texts.{units_of}
+use Rattle.mod_utf.specs.Texts.{units_of}
 use Rattle.rmi_caller.proofs.Putting.{add_ref}
 use Rattle.rmi_caller.proofs.arguments.Draft.add_remote.Goals as goal
 

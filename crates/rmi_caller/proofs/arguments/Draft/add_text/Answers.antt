@@ -1,6 +1,6 @@
 use Rattle.std.proofs.Common.{refl}
 use Rattle.rmi_caller.specs.Arguments.{IsTextItem}
-use Rattle.rmi_caller.specs.Texts.{units_of}
+use Rattle.mod_utf.specs.Texts.{units_of}
 use Rattle.rmi_caller.proofs.Putting.{add_ref}
 use Rattle.rmi_caller.proofs.arguments.Draft.add_text.Goals as goal
 

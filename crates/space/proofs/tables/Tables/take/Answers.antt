@@ -1,7 +1,7 @@
 use Rattle.std.proofs.Common.{◌≡◌, ◌++◌, ◌+◌, length, ◌∷◌, [], Ok, refl, subst, sym, ap, ◌∙◌, rules, arith}
 use Rattle.history.specs.declared.replies.Turn.{Turn}
 use Rattle.history.specs.Steps.{Step}
-use Rattle.space.specs.Acts.{event_of, reported_after}
+use Rattle.space.specs.Acts.{reported_after}
 use Rattle.space.proofs.EndLaws.{has-withdrawn}
 use Rattle.space.proofs.GoneCount.{few-withdrawn}
 use Rattle.space.proofs.ReadyLaws.{step-when-ready, whole-when-ready, few-when-ready, abandoned-when-ready, finished-when-ready, countable-when-ready, within-when-ready, early-when-ready, some-when-ready, references-when-ready, stands-when-ready, few-pins-when-ready, bound-when-ready, looks-when-ready, awaiting-when-ready, wait-room-when-ready, few-calls-when-ready, stored-when-ready, log-when-ready, gone-room-when-ready, among-when-ready, copy-room-when-ready, note-within, note-room, noted-when-ready}
@@ -85,7 +85,7 @@ into_turn-requires c = copy-room-when-ready c.withdraw.new.gone.items c.requires
 
 pub returns-clause-taken : goal.returns-clause-taken
 returns-clause-taken c =
-    let S : Turn → Type 0 = λ t. Step c.args.self.now.config c.args.self.now.events.items (event_of c.args.by c.args.moment c.args.ask.now) (Ok t) (c.args.self.now.events.items ++ event_of c.args.by c.args.moment c.args.ask.now ∷ []) in
+    let S : Turn → Type 0 = λ t. Step c.args.self.now.config c.args.self.now.events.items c.args.event.now (Ok t) (c.args.self.now.events.items ++ c.args.event.now ∷ []) in
     subst S (sym c.into_turn.ensures.turn) (step-when-ready c.requires.ready c.max-now.ensures c.len-place.ensures
     (has-withdrawn c.act.ensures c.withdraw.ensures.withdrawn))
 
@@ -93,7 +93,7 @@ pub returns-clause-with_event : goal.returns-clause-with_event
 returns-clause-with_event c =
     let untold : c.len-untold.result ≡ length c.args.ready.untold.gone.items = search rules in
     let noted = noted-when-ready c.len-place.result c.withdraw.new.gone.items c.requires.ready untold c.deref-3.ensures.value c.note.ensures.items in
-    let reported = c.reported_after-self.ensures ∙ ap (λ n. reported_after c.args.self.now.reported n c.args.ask.now) c.len.ensures in
+    let reported = c.reported_after-self.ensures ∙ ap (λ n. reported_after c.args.self.now.reported n c.args.event.now.ask) c.len.ensures in
     let whole = whole-when-ready c.requires.ready c.max-now.ensures c.len-place.ensures
     (has-withdrawn c.act.ensures c.withdraw.ensures.withdrawn)
     c.act_on_runs.ensures (c.forget_told.ensures.items ∙ noted) (let first = c.note.ensures.room in let later = c.forget_told.ensures.room in omega (arith, first, later))

@@ -1,5 +1,5 @@
 use Rattle.std.proofs.Common.{rules}
-use Rattle.conn_server.proofs.server.Server.serve_links.Goals as goal
+use Rattle.conn_server.proofs.server.serve_scoped.Goals as goal
 
 pub returns-clause-served : goal.returns-clause-served
 returns-clause-served g c =
@@ -16,5 +16,5 @@ returns-clause-served g c =
       back = s.back;
     }
 
-pub returns-clause-fault : goal.returns-clause-fault
-returns-clause-fault g c = search rules
+pub returns-clause-heard : goal.returns-clause-heard
+returns-clause-heard g c = search rules

@@ -1,5 +1,5 @@
 use Rattle.std.proofs.Common.{rules}
-use Rattle.conn_server.proofs.server.Server.host_links.Goals as goal
+use Rattle.conn_server.proofs.server.host_scoped.Goals as goal
 
 pub returns-clause-hosted : goal.returns-clause-hosted
 returns-clause-hosted g c =
@@ -16,10 +16,11 @@ returns-clause-hosted g c =
       stopped = search rules;
       back = s.back;
       untold = search rules;
+      closed = search rules;
     }
 
-pub returns-clause-fault : goal.returns-clause-fault
-returns-clause-fault g c = search rules
+pub returns-clause-heard : goal.returns-clause-heard
+returns-clause-heard g c = search rules
 
 pub returns-clause-keeps : goal.returns-clause-keeps
 returns-clause-keeps g c = c.scoped-left.ensures.1.1.0

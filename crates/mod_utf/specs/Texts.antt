@@ -1,4 +1,4 @@
--- Texts of words, in 16-bit units.
+-- Texts of a program, in 16-bit units.
 use Rattle.std.specs.Prelude.{ℕ, List}
 use Rattle.std.specs.List.{flat_map}
 use Rattle.std.specs.Char.Escape.{encode_utf16}

@@ -1,8 +1,8 @@
 use Rattle.std.proofs.Common.{rules}
 use Rattle.std.proofs.lemmas.Str.{IsUtf8-past_char}
-use Rattle.rmi_words.specs.Texts.{units_of}
-use Rattle.rmi_words.proofs.Spelling.{no_more, one_more}
-use Rattle.rmi_words.proofs.texts.units_of_text.Goals as goal
+use Rattle.mod_utf.specs.Texts.{units_of}
+use Rattle.mod_utf.proofs.Characters.{no_more, one_more}
+use Rattle.mod_utf.proofs.text.units_of_text.Goals as goal
 
 pub loop-c-preserved : goal.loop-c-preserved
 loop-c-preserved c =

@@ -1,7 +1,7 @@
-//! Texts of words, in 16-bit units.
+//! Texts of a program, in 16-bit units.
 ghost use Rattle.std.specs.Prelude.{◌≡◌, ◌++◌, IfOk, OnOk};
 ghost use Rattle.std.specs.Char.Escape.{encode_utf16};
-ghost use Rattle.rmi_words.specs.Texts.{units_of};
+ghost use Rattle.mod_utf.specs.Texts.{units_of};
 
 use sequence::Units;
 use std::alloc::{AllocError, Global};
