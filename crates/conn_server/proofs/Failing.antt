@@ -82,6 +82,12 @@ waited_faults shown l l2 (Came link) w = let same = w.1 in omega (arith, same)
 waited_faults shown l l2 Quiet w = let same = w.1 in omega (arith, same)
 waited_faults shown l l2 Told w = let same = w.1 in omega (arith, same)
 
+-- A wait that was answered closes nothing.
+pub waited_open : {K : Type 0} (shown : K → Accepted) (l l2 : Listening) (waited : Waited K) → Waits {E = Failed} shown l l2 (Ok waited) → l2.closed ≡ l.closed
+waited_open shown l l2 (Came link) w = w.5
+waited_open shown l l2 Quiet w = w.5
+waited_open shown l l2 Told w = w.4
+
 -- Another cause is not that the listener is given up.
 pub none_given_up : {I O T : Type 0} (result : Option (Halt I O T)) (P : Type 0) → IfSome result (λ halt. halt.stop ≢ AcceptFault) → IfSome result (λ halt. halt.stop ≡ AcceptFault → P)
 none_given_up None P other = tt

@@ -30,13 +30,14 @@ use Rattle.conn_server.specs.declared.quiet_second.OwnHand.{OwnHand}
 use Rattle.conn_server.proofs.Listening.{one_more, with_none}
 use Rattle.conn_server.proofs.Quiet.{quiet_fewer, quiet_first, quiet_later, quiet_link, quiet_same}
 
--- A listener gave this link between two moments, and wasn't told to stop.
+-- A listener gave this link between two moments, wasn't told to stop, and wasn't asked to accept.
 pub record HasGiven (l1 l2 : Listening) (link : Accepted) : Type 0 where
   pub accepted : l2.accepted ≡ with_next l1.accepted link
   pub faults : l1.faults ≤ l2.faults
   pub quiets : l2.quiets ≡ l1.quiets
   pub same_told : l2.told ≡ l1.told
   pub same_ports : l2.ports ≡ l1.ports
+  pub waited : l2.accepts ≡ l1.accepts
 
 module _ {I O T H C : Type 0} (read_half : I → ReadHalf) (write_half : O → WriteHalf) (given : T → Option (List ℕ)) (shown : H → WorkerState) (may : Invocation → Outcome → Type 0) (moves : States → Call → States → Type 0)
     (taken : C → Taken (LinkReport I O T H)) (expects : C → LinkReport I O T H → Type 0) (lock : TurnLock) (kinds : List Kind) (plan : ServePlan) (l0 : Listening) (gave_first : Option (List ℕ)) where
@@ -79,6 +80,7 @@ module _ {I O T H C : Type 0} (read_half : I → ReadHalf) (write_half : O → W
         faults = is.faults;
         same_told = is.same_told;
         same_ports = is.same_ports;
+        waited = is.waited;
       }
 
   -- The clock was looked at once, and the listener gave no link since.
@@ -99,6 +101,7 @@ module _ {I O T H C : Type 0} (read_half : I → ReadHalf) (write_half : O → W
         faults = omega (arith, faults, more);
         same_told = like.same_told ∙ is.same_told;
         same_ports = like.same_ports ∙ is.same_ports;
+        waited = like.waited ∙ is.waited;
       }
 
   -- A link was begun.
@@ -118,6 +121,7 @@ module _ {I O T H C : Type 0} (read_half : I → ReadHalf) (write_half : O → W
         faults = omega (arith, faults, more);
         same_told = gives.same_told ∙ is.same_told;
         same_ports = gives.same_ports ∙ is.same_ports;
+        waited = gives.waited ∙ is.waited;
       }
 
   -- There was no memory for a link.
@@ -139,6 +143,7 @@ module _ {I O T H C : Type 0} (read_half : I → ReadHalf) (write_half : O → W
         faults = omega (arith, faults, more);
         untold = λ other. gives.same_told ∙ is.same_told;
         same_ports = gives.same_ports ∙ is.same_ports;
+        waited = gives.waited ∙ is.waited;
       }
 
   -- No more links are accepted, for another cause.
@@ -156,14 +161,14 @@ module _ {I O T H C : Type 0} (read_half : I → ReadHalf) (write_half : O → W
         faults = is.faults;
         untold = λ other. is.same_told;
         same_ports = is.same_ports;
+        waited = is.waited;
       }
 
   -- The listener was told to stop.
-  pub halted_told : (l l2 : Listening) (gave : Option (List ℕ)) (a b : Acceptor I O T H C) (own : OwnHand H) → Going l gave a own → Taking b → Follows a b → (taken b.taker).ticks ≡ (taken a.taker).ticks
-      → shown_all read_half write_half given b.all ≡ shown_all read_half write_half given a.all → b.begun ≡ a.begun → l2.accepted ≡ l.accepted → l.faults ≤ l2.faults → l2.told ≡ true → l2.ports ≡ l.ports → l2.quiets ≡ l.quiets
+  pub halted_told : (l l2 : Listening) (gave : Option (List ℕ)) (a b : Acceptor I O T H C) (own : OwnHand H) → Going l gave a own → a.begun < plan.count → Taking b → Follows a b → (taken b.taker).ticks ≡ (taken a.taker).ticks
+      → shown_all read_half write_half given b.all ≡ shown_all read_half write_half given a.all → b.begun ≡ a.begun → l2.accepted ≡ l.accepted → l.faults ≤ l2.faults → l2.told ≡ true → l2.ports ≡ l.ports → l2.quiets ≡ l.quiets → l2.accepts ≡ l.accepts
       → IsHalted read_half write_half given shown may moves taken expects lock kinds plan l0 l2 gave_first gave b own (record { stop = Told; lost = None })
-  halted_told l l2 gave a b own is then follows same_ticks same begun same_links more told same_ports same_quiets =
-      let few = is.few in
+  halted_told l l2 gave a b own is few then follows same_ticks same begun same_links more told same_ports same_quiets waited =
       let faults = is.faults in
       record {
         is = then;
@@ -177,6 +182,7 @@ module _ {I O T H C : Type 0} (read_half : I → ReadHalf) (write_half : O → W
         faults = omega (arith, faults, more);
         untold = λ other. absurd (other refl);
         same_ports = same_ports ∙ is.same_ports;
+        waited = waited ∙ is.waited;
       }
 
   -- The listener was closed.
@@ -189,6 +195,7 @@ module _ {I O T H C : Type 0} (read_half : I → ReadHalf) (write_half : O → W
       let faults : l2.faults ≡ l.faults = ap (λ (x : Listening). x.faults) shut in
       let links : l2.accepted ≡ l.accepted = ap (λ (x : Listening). x.accepted) shut in
       let ports : l2.ports ≡ l.ports = ap (λ (x : Listening). x.ports) shut in
+      let accepts : l2.accepts ≡ l.accepts = ap (λ (x : Listening). x.accepts) shut in
       record {
         is = h.is;
         hosts = h.hosts;
@@ -200,6 +207,7 @@ module _ {I O T H C : Type 0} (read_half : I → ReadHalf) (write_half : O → W
         faults = subst (λ (n : ℕ). l0.faults ≤ n) (sym faults) h.faults;
         untold = λ other. told ∙ h.untold other;
         same_ports = ports ∙ h.same_ports;
+        waited = accepts ∙ h.waited;
       }
 
 -- At first no link is accepted.
@@ -219,4 +227,5 @@ hosting_first {I = I} {O = O} {T = T} {H = H} read_half write_half given shown m
       faults = omega arith;
       same_told = refl;
       same_ports = refl;
+      waited = refl;
     }

@@ -58,4 +58,5 @@ like_looked l l2 answer looks untold =
       quiets = counted_once l.quiets l2.quiets answer looks.4;
       same_told = still_untold l.told l2.told answer looks.3 untold looks.5;
       same_ports = looks.0;
+      waited = looks.7;
     }

@@ -143,6 +143,13 @@ module _ {I O T H C : Type 0} (Talked : AdmittedLink I O T H → LinkReport I O 
   handed_at_turn a w more events next is went same_events same host =
       handed_later lock (view_of a.root.pass) w (taken a.taker).events events a.handed next (is.handed_on host) (learns_gained (view_of a.root.pass) w more went).seen same_events same
 
+  -- The root saw more of the history, and made no turn.
+  pub looked_accepting : (a : Acceptor I O T H C) (r : Root) → IsAccepting Talked Made shown taken expects lock kinds a → IsRootOf lock r → r.made ≡ a.root.made → r.out ≡ a.root.out → Gained (view_of a.root.pass) (view_of r.pass) []
+      → IsAccepting Talked Made shown taken expects lock kinds (record a { root = r })
+  looked_accepting a r is own made out went =
+      tick_accepting a (record a { root = r }) [] is own made out went (sym (append-nil (taken a.taker).ticks)) (record { reports = refl; room = omega arith; still = λ report e. e }) refl refl refl
+      (handed_at_turn a (view_of r.pass) [] (taken a.taker).events a.handed is went refl refl)
+
   pub link_accepting : (a b : Acceptor I O T H C) (task : LinkTask I O T H) (x : StartedLink I O T H) → IsAccepting Talked Made shown taken expects lock kinds a → IsRootOf lock b.root
       → view_of task.pass ≡ right_of (view_of a.root.pass) → view_of b.root.pass ≡ left_of (view_of a.root.pass) → b.root.out ≡ a.root.out + 1 → b.root.made ≡ a.root.made + 1
       → task.by ≡ a.begun + 1 → IsLinkTask shown lock task → Made (a.begun + 1) task.admitted

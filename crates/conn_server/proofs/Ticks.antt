@@ -16,7 +16,7 @@ use Rattle.turn_lock.specs.declared.view.View.{View}
 use Rattle.ports.specs.Ports.{entries_of}
 use Rattle.space.specs.declared.asked.Asked.{Asked}
 use Rattle.conn_server.specs.Made.{IsTakenBelow, IsTickEnd, gone_with, told_of}
-use Rattle.call_dispatch.specs.Acts.{calls, unreferenced, tells_of}
+use Rattle.call_dispatch.specs.Acts.{Call, calls, unreferenced, tells_of}
 
 pub calls_told : (gone : List ObjId) → flat_map calls (tells_of gone) ≡ map unreferenced gone
 calls_told [] = refl
@@ -70,6 +70,10 @@ pub known_there : {K : Type 0} (value : K → Asked) (P : Asked → Type 0) (ent
 known_there value P entry None is p = tt
 known_there value P entry (Some k) is p = let Q : Option Asked → Type 0 = λ e. IfSome e P in subst Q is p
 
+pub known_as : {K : Type 0} (value : K → Asked) (A : Type 0) (P : Asked → Type 0) (entry : Option Asked) (r : Option K) → MatchOption r (entry ≡ None) (λ k. entry ≡ Some (value k)) → MatchOption entry A P → MatchOption r A (λ k. P (value k))
+known_as value A P entry None is p = let Q : Option Asked → Type 0 = λ e. MatchOption e A P in subst Q is p
+known_as value A P entry (Some k) is p = let Q : Option Asked → Type 0 = λ e. MatchOption e A P in subst Q is p
+
 pub kept_there : {K : Type 0} (value : K → Asked) (before after : List Asked) (entry : Option Asked) (r : Option K) → MatchOption r (entry ≡ None) (λ k. entry ≡ Some (value k)) → after ≡ before ++ option_to_list entry
     → MatchOption r (after ≡ before) (λ k. after ≡ before ++ value k ∷ [])
 kept_there value before after entry None is items = items ∙ (ap (λ e. before ++ option_to_list e) is ∙ append-nil before)
@@ -84,3 +88,8 @@ told_there m answer r is = ap (flat_map told_of) is ∙ of_answer answer
     of_answer (Err HistoryFull) = refl
     of_answer (Err (Full kind)) = refl
     of_answer (Err OutOfMemory) = refl
+
+-- What holds of all that a Tick's answer tells holds of what its entry tells, or of nothing where there is no entry.
+pub told_as : (P : List Call → Type 0) (m : ℕ) (answer : Result Turn Refused) (r : Option Asked) → option_to_list r ≡ entries_of m Tick answer → P (map unreferenced (gone_with (end_of answer))) → MatchOption r (P []) (λ e. P (told_of e))
+told_as P m answer None is p = subst P (sym (told_there m answer None is)) p
+told_as P m answer (Some e) is p = subst P (append-nil (told_of e)) (subst P (sym (told_there m answer (Some e) is)) p)

@@ -9,6 +9,7 @@ use Rattle.turn_lock.specs.Handles.{IsFresh, opening_of}
 use Rattle.turn_lock.specs.declared.handles.Root.{Root}
 use Rattle.turn_lock.specs.declared.handles.TurnLock.{TurnLock}
 use Rattle.conn_server.specs.Taken.{ExpectsLinks, IsEmpty, Taken}
+use Rattle.conn_server.specs.Hosts.{ClosedLast, FailedSince}
 use Rattle.conn_server.specs.declared.accept_loop.Stop.{Stop}
 use Rattle.conn_server.specs.declared.accept_loop.Stop.TheVariants.{AcceptFault}
 use Rattle.conn_server.specs.declared.plan.ServePlan.{ServePlan}
@@ -33,3 +34,7 @@ RoseBetween before after = Rose before.faults after.faults
 -- What a listener shows at the end: it failed so where it was given up, its faults are no fewer, and it listens on the same ports.
 abbrev pub LeavesListener : (Listening → Listening → Type 0) → Stop → Listening → Listening → Type 0
 LeavesListener Failed stop before after = (stop ≡ AcceptFault → Failed before after) × (before.faults ≤ after.faults) × (after.ports ≡ before.ports)
+
+-- What a host's listener shows at the end, which was given up only after so many failures: the same, and it was closed last.
+abbrev pub LeavesHost : {L : Type 0} → (L → Listening) → ℕ → Stop → Listening → Listening → Type 0
+LeavesHost listening tries stop before after = LeavesListener (FailedSince listening tries) stop before after × ClosedLast listening before after

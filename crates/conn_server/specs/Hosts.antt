@@ -1,7 +1,7 @@
 -- What holds of a server that runs until its listener is told to stop.
 use Rattle.std.specs.Prelude.{◌≡◌, ◌≢◌, ◌<◌, ◌≤◌, ◌+◌, ◌-◌, ◌^◌, ◌↔◌, min, ℕ, IsTrue, true, false, List, [], ◌++◌, length, Option, Some, None}
 use Rattle.std.specs.List.Sorted.{IsPermutation}
-use Rattle.wire_io.specs.Links.{Accepted, Listening}
+use Rattle.wire_io.specs.Links.{Accepted, IsClosedLike, Listening}
 use Rattle.wire_io.specs.Wire.{ReadHalf, WriteHalf}
 use Rattle.history.specs.Steps.{IsLegal}
 use Rattle.space.specs.Built.{SpaceHistory}
@@ -49,6 +49,13 @@ pub record FailedSince {L : Type 0} (listening : L → Listening) (tries : ℕ) 
   pub same_told : last.told ≡ (listening answered).told
   pub failed : FailedTimes tries (listening answered).faults last.faults
 
+-- A listener told `first` once and tells `last` now. It was closed last: `before` is a state of it just before that, in which it was as open as at first and
+-- told all else that it tells now. Of the witness holds what is said of that of `FailedSince`.
+pub record ClosedLast {L : Type 0} (listening : L → Listening) (first last : Listening) : Type 0 where
+  pub before : L
+  pub still_open : (listening before).closed ≡ first.closed
+  pub closes : IsClosedLike (listening before) last
+
 -- Links are accepted: since the listener told l0 and the clock of quiet seconds had given the first moments, these links were begun, and the root
 -- made these turns of its own. The listener tells l1 now.
 pub record IsHosting {I O T H C : Type 0} (read_half : I → ReadHalf) (write_half : O → WriteHalf) (given : T → Option (List ℕ)) (shown : H → WorkerState) (may : Invocation → Outcome → Type 0) (moves : States → Call → States → Type 0)
@@ -62,14 +69,17 @@ pub record IsHosting {I O T H C : Type 0} (read_half : I → ReadHalf) (write_ha
   pub faults : l0.faults ≤ l1.faults
   pub same_told : l1.told ≡ l0.told
   pub same_ports : l1.ports ≡ l0.ports
+  pub waited : l1.accepts ≡ l0.accepts
 
--- A listener gave no link between two moments, and wasn't told to stop. It may have failed. Once at most it answered that it was not told to stop.
+-- A listener gave no link between two moments, wasn't told to stop, and wasn't asked to accept. It may have failed. Once at most it answered that it was not told
+-- to stop.
 pub record IsLike (l1 l2 : Listening) : Type 0 where
   pub accepted : l2.accepted ≡ l1.accepted
   pub faults : l1.faults ≤ l2.faults
   pub quiets : l2.quiets ≤ l1.quiets + 1
   pub same_told : l2.told ≡ l1.told
   pub same_ports : l2.ports ≡ l1.ports
+  pub waited : l2.accepts ≡ l1.accepts
 
 -- No more links are accepted.
 pub record IsHalted {I O T H C : Type 0} (read_half : I → ReadHalf) (write_half : O → WriteHalf) (given : T → Option (List ℕ)) (shown : H → WorkerState) (may : Invocation → Outcome → Type 0) (moves : States → Call → States → Type 0)
@@ -85,6 +95,7 @@ pub record IsHalted {I O T H C : Type 0} (read_half : I → ReadHalf) (write_hal
   pub faults : l0.faults ≤ l1.faults
   pub untold : halt.stop ≢ Told → l1.told ≡ l0.told
   pub same_ports : l1.ports ≡ l0.ports
+  pub waited : l1.accepts ≡ l0.accepts
 
 -- A step came to this: further links are accepted, or no more links are.
 abbrev pub GoesOn : {I O T H C : Type 0} → (I → ReadHalf) → (O → WriteHalf) → (T → Option (List ℕ)) → (H → WorkerState) → (Invocation → Outcome → Type 0) → (States → Call → States → Type 0)
@@ -111,15 +122,17 @@ pub record IsHosted {I O T H C : Type 0} (IsLink : ℕ → Accepted × Asked →
   pub back : AreGivenBack IsLost missed o.lost
   pub untold : o.stop ≢ Told → after.told ≡ before.told
   pub closed : after.closed ≡ true
+  pub waited : after.accepts ≡ before.accepts
 
 -- Links were served over a space that was opened so, until a cause named in `stop`. The one history that is left is legal
 -- and goes on from the opening, and its rows are what the collector of the space made of none at each of its events. Each link that was accepted has
 -- its Tick and its report, which the taker was given once, but the one, if any, for which there was no memory, which is given back.
 -- The server's own turns are those Ticks and the Ticks at looks at a clock, and there are no turns but these and the links'. A look had a Tick only where
--- something had ended by a history that has the server's turns so far, and none only where nothing had ended by such a one, or where the server counts that
--- it made none at this very look. The clock was looked at for each answer of the listener that no link came, or that it was not told to stop. It gave the
--- listener up only where that had failed more than MAX_IDLE_TRIES times. At the end the listener was closed, whatever the cause. The events that the taker
--- was given are the first after the opening's, in their order, and all of them where the server says so.
+-- something had ended by a history that has the server's turns so far, and none only where nothing had ended by such a one, or where something had and the
+-- server counts that it made none at this very look. The clock was looked at for each answer of the listener that no link came, or that it was not told to stop. It gave the
+-- listener up only where that had failed more than MAX_IDLE_TRIES times. Its links came by waits, and none by a call that accepts one
+-- however long that takes. At the end the listener was closed, whatever the cause. The events that the taker was given are the first after the opening's, in their order, and all
+-- of them where the server says so.
 pub record HostsLinks {I O T H C : Type 0} (IsLink : ℕ → Accepted × Asked → LinkReport I O T H → Type 0) (IsLost : Accepted → LostLink I O T → Type 0) (shown : H → WorkerState) (moves : States → Call → States → Type 0)
     (taken : C → Taken (LinkReport I O T H)) (opening : SpaceHistory) (count : ℕ) (before after : Listening) (gave_first gave_last : Option (List ℕ)) (h : Hosted I O T C H) : Type 0 where
   pub config : h.space.configuration ≡ opening.configuration
@@ -141,5 +154,6 @@ pub record HostsLinks {I O T H C : Type 0} (IsLink : ℕ → Accepted × Asked �
   pub back : AreGivenBack IsLost missed h.lost
   pub untold : h.stop ≢ Told → after.told ≡ before.told
   pub closed : after.closed ≡ true
+  pub waited : after.accepts ≡ before.accepts
   pub handed : StartsWith h.space.events (opening.events ++ (taken h.taker).events)
   pub all_handed : h.whole ≡ true → h.space.events ≡ opening.events ++ (taken h.taker).events

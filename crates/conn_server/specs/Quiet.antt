@@ -1,7 +1,7 @@
 -- Ticks that a server makes in seconds without a link.
-use Rattle.std.specs.Prelude.{◌≡◌, ◌⊎◌, ◌<◌, ◌≤◌, ◌+◌, ◌-◌, ◌^◌, min, ℕ, Bool, true, false, List, [], ◌∷◌, ◌++◌, length, Option, Some, None, IfSome, IfNone, option_to_list}
+use Rattle.std.specs.Prelude.{◌≡◌, ◌⊎◌, ◌<◌, ◌≤◌, ◌+◌, ◌-◌, ◌^◌, min, ℕ, Bool, true, false, List, [], ◌∷◌, ◌++◌, length, Option, Some, None}
 use Rattle.std.specs.List.{flat_map}
-use Rattle.wire_io.specs.Wire.{Gave, next_count}
+use Rattle.wire_io.specs.Wire.{Gave}
 use Rattle.history.specs.declared.asks.Ask.TheVariants.{Tick}
 use Rattle.space.specs.Built.{SpaceHistory}
 use Rattle.space.specs.Idle.{SomethingEnds, TickChangesNothing, untold_of}
@@ -9,9 +9,7 @@ use Rattle.space.specs.declared.asked.Asked.{Asked}
 use Rattle.call_dispatch.specs.Acts.{WorkerState, Call, States, TellsMore, LeadsStates}
 use Rattle.call_dispatch.specs.Hands.{IsUntold, IsUncounted}
 use Rattle.turn_lock.specs.Answers.{events_of}
-use Rattle.turn_lock.specs.NoTick.{NeedsTick}
-use Rattle.turn_lock.specs.Rule.{Events, HasOwn, SeesMore, StartsWith}
-use Rattle.turn_lock.specs.declared.view.View.{View}
+use Rattle.turn_lock.specs.Rule.{Events, HasOwn, StartsWith}
 use Rattle.conn_server.specs.Made.{IsTickEnd, told_of}
 
 -- The entry is that of a Tick that was made: it was taken, or refused since the history is full.
@@ -37,48 +35,48 @@ HaveTold shown moves entries (Some hand) = HasTold shown moves entries hand
 
 -- ---- the course of a server's own turns
 
--- A Tick before a link; a Tick at a look at the clock; a look at this moment at which no Tick was needed; or a look at this moment at which a Tick was
--- refused, since there was no memory for the hand, for the entry or for the Tick.
+-- A Tick before a link; a Tick at a look at the clock; a look at this moment at which no Tick was due; or a look at this moment at which a Tick was due and was
+-- missed, since there was no memory for the hand, for the entry or for the Tick.
 pub data Step : Type 0 where
   link_tick : Asked → Step
   quiet_tick : Asked → Step
   without_tick : ℕ → Step
-  refused_tick : ℕ → Step
+  missed_tick : ℕ → Step
 
 -- The entry of a step before a link.
 abbrev pub link_entry : Step → List Asked
 link_entry (link_tick entry) = entry ∷ []
 link_entry (quiet_tick entry) = []
 link_entry (without_tick moment) = []
-link_entry (refused_tick moment) = []
+link_entry (missed_tick moment) = []
 
 -- The entry of a step at a look.
 abbrev pub look_entry : Step → List Asked
 look_entry (link_tick entry) = []
 look_entry (quiet_tick entry) = entry ∷ []
 look_entry (without_tick moment) = []
-look_entry (refused_tick moment) = []
+look_entry (missed_tick moment) = []
 
 -- The entry of a step, of either kind.
 abbrev pub step_entry : Step → List Asked
 step_entry (link_tick entry) = entry ∷ []
 step_entry (quiet_tick entry) = entry ∷ []
 step_entry (without_tick moment) = []
-step_entry (refused_tick moment) = []
+step_entry (missed_tick moment) = []
 
 -- The moment of a look.
 abbrev pub look_moment : Step → List ℕ
 look_moment (link_tick entry) = []
 look_moment (quiet_tick entry) = entry.moment ∷ []
 look_moment (without_tick moment) = moment ∷ []
-look_moment (refused_tick moment) = moment ∷ []
+look_moment (missed_tick moment) = moment ∷ []
 
--- The moment of a look at which a Tick was refused.
-abbrev pub refused_moment : Step → List ℕ
-refused_moment (link_tick entry) = []
-refused_moment (quiet_tick entry) = []
-refused_moment (without_tick moment) = []
-refused_moment (refused_tick moment) = moment ∷ []
+-- The moment of a look at which a Tick was missed.
+abbrev pub missed_moment : Step → List ℕ
+missed_moment (link_tick entry) = []
+missed_moment (quiet_tick entry) = []
+missed_moment (without_tick moment) = []
+missed_moment (missed_tick moment) = moment ∷ []
 
 -- What holds of each step, and of the entries of the server's own turns before it, the first of which are these.
 abbrev pub EachBehind : (List Asked → Step → Type 0) → List Asked → List Step → Type 0
@@ -100,25 +98,16 @@ abbrev pub WasDue : SpaceHistory → Events → List Asked → ℕ → Type 0
 WasDue opening events made moment = (seen : Events) × WasSeen opening events made seen
     × (SomethingEnds opening.configuration seen moment ⊎ (0 < length (untold_of opening.configuration seen)))
 
--- A moment at which no Tick was made: nothing had ended then, unless a Tick was refused at this very moment.
-abbrev pub MayPass : SpaceHistory → Events → Bool → List Asked → ℕ → Type 0
-MayPass opening events missed made moment = (missed ≡ true) ⊎ WasIdle opening events made moment
-
--- A Tick at a look was made where something had ended. A look has none only where nothing had, or where one was refused at this very look.
+-- A Tick at a look was made, or missed, only where something had ended. A look has neither only where nothing had.
 abbrev pub IsStep : SpaceHistory → Events → List Asked → Step → Type 0
 IsStep opening events made (link_tick entry) = Unit {0}
 IsStep opening events made (quiet_tick entry) = IsTick entry × WasDue opening events made entry.moment
 IsStep opening events made (without_tick moment) = WasIdle opening events made moment
-IsStep opening events made (refused_tick moment) = Unit {0}
-
--- A count of looks at which a Tick was refused, after one more look, at which one was refused or not. It stands still at the greatest u64.
-abbrev pub missed_with : ℕ → Bool → ℕ
-missed_with count true = next_count count
-missed_with count false = count
+IsStep opening events made (missed_tick moment) = WasDue opening events made moment
 
 -- A server's own turns have these entries, in their order: those of the Ticks before its links, and those of its looks at a clock. The latter are Ticks at moments
--- of the clock at which something had ended. At the other moments that the clock gave no Tick was made: nothing had ended then, or a Tick was refused. The
--- server counts each look at which one was refused. The server's own hand, if it has one, was told what the Ticks at looks withdrew. For each answer of the
+-- of the clock at which something had ended. At the other moments that the clock gave no Tick was made: nothing had ended then, or something had and the Tick was
+-- missed. The server counts each look at which one was missed, and no other. The server's own hand, if it has one, was told what the Ticks at looks withdrew. For each answer of the
 -- listener that no link came, or that it was not told to stop, the clock was looked at: so often at least as the listener's count of these answers rose.
 pub record TicksQuietly {H : Type 0} (shown : H → WorkerState) (moves : States → Call → States → Type 0) (opening : SpaceHistory) (events : Events) (missed : ℕ) (gave_first gave_last : Option (List ℕ)) (quiets_first quiets_last : ℕ) (before_links ticks : List Asked) (hand : Option H) : Type 0 where
   pub course : List Step
@@ -128,28 +117,12 @@ pub record TicksQuietly {H : Type 0} (shown : H → WorkerState) (moves : States
   pub told : HaveTold shown moves (flat_map look_entry course) hand
   pub gave : Gave gave_first gave_last (flat_map look_moment course)
   pub asked : quiets_last ≤ quiets_first + length (flat_map look_moment course)
-  pub missed_are : missed ≡ min (length (flat_map refused_moment course)) (2 ^ 64 - 1)
+  pub missed_are : missed ≡ min (length (flat_map missed_moment course)) (2 ^ 64 - 1)
 
--- The clock was looked at once. One Tick was made at that moment, as connection 0, where something had ended, and the hand was told what it withdrew. Or none was
--- made, and the moment may pass. A Tick was missed only where none was made.
-pub record TicksOnce {H : Type 0} (shown : H → WorkerState) (moves : States → Call → States → Type 0) (opening : SpaceHistory) (events : Events) (missed : Bool) (gave_first gave_last : Option (List ℕ)) (ticks ticks_after : List Asked) (hand hand_after : H) : Type 0 where
-  pub entry : Option Asked
-  pub longer : ticks_after ≡ ticks ++ option_to_list entry
-  pub is_tick : IfSome entry IsTick
-  pub look : ℕ
-  pub gave : Gave gave_first gave_last (look ∷ [])
-  pub at_look : IfSome entry (λ e. e.moment ≡ look)
-  pub due : IfSome entry (λ e. WasDue opening events ticks e.moment)
-  pub passes : IfNone entry (MayPass opening events missed ticks look)
-  pub cause : missed ≡ true → entry ≡ None
-  pub seen : TellsMore (shown hand).seen (flat_map told_of (option_to_list entry)) (shown hand_after).seen
-  pub state : LeadsStates moves (shown hand).state (flat_map told_of (option_to_list entry)) (shown hand_after).state
-  pub same_calls : (shown hand_after).calls ≡ (shown hand).calls
-  pub same_number : (shown hand_after).number ≡ (shown hand).number
-
--- A root that knew v needed a Tick at this moment, by a history that it had seen then. It knows w now.
-pub record NeededThen (v : View) (moment : ℕ) (w : View) : Type 0 where
-  pub between : View
-  pub sees : SeesMore v between
-  pub needs : NeedsTick between moment
-  pub later : StartsWith w.seen between.seen
+-- A Tick was made at this moment, with this entry, and the hand of number 0 was told what it withdrew; or none was made, and the hand was told nothing.
+abbrev pub MakesTick : {H : Type 0} → (H → WorkerState) → (States → Call → States → Type 0) → ℕ → Bool → List Asked → List Asked → Option H → Option H → Type 0
+MakesTick shown moves moment true ticks ticks_after own own_after =
+    (entry : Asked) × IsTick entry × (entry.moment ≡ moment) × (ticks_after ≡ ticks ++ entry ∷ [])
+    × ((entries : List Asked) → HaveTold shown moves entries own → HaveTold shown moves (entries ++ entry ∷ []) own_after)
+MakesTick shown moves moment false ticks ticks_after own own_after =
+    (ticks_after ≡ ticks) × ((entries : List Asked) → HaveTold shown moves entries own → HaveTold shown moves entries own_after)

@@ -15,9 +15,9 @@ Stopped AcceptFault count served lost = (served < count) × (lost ≡ [])
 Stopped OutOfMemory count served lost = (served < count) × (length lost ≡ 1)
 Stopped Told count served lost = ⊥
 
--- The same of a server that stops where its listener was told to, too. Then none was accepted and not served.
+-- The same of a server that stops where its listener was told to, too, before as many were served as were to be. Then none was accepted and not served.
 abbrev pub HostStopped : Stop → Bool → ℕ → ℕ → List Accepted → Type 0
-HostStopped Told told count served lost = (told ≡ true) × (served ≤ count) × (lost ≡ [])
+HostStopped Told told count served lost = (told ≡ true) × (served < count) × (lost ≡ [])
 HostStopped All told count served lost = Stopped All count served lost
 HostStopped AcceptFault told count served lost = Stopped AcceptFault count served lost
 HostStopped OutOfMemory told count served lost = Stopped OutOfMemory count served lost

@@ -5,6 +5,7 @@ ghost use Rattle.wire_io.specs.Links.{accepted_as};
 ghost use Rattle.wire_io.specs.Wire.{AreNewHalves, Gave, ShutsRead, ShutsWrite};
 ghost use Rattle.wire_io.specs.declared.limits.TheConstants.{MAX_HOST_BYTES};
 ghost use Rattle.history.specs.declared.asks.Ask.TheVariants.{Tick};
+ghost use Rattle.history.specs.declared.limits.TheConstants.{END_OF_TIME};
 ghost use Rattle.space.specs.Entries.{end_of};
 ghost use Rattle.ports.specs.Ports.{entries_of};
 ghost use Rattle.call_dispatch.specs.Acts.{unreferenced, TellsMore, LeadsStates};
@@ -16,8 +17,9 @@ ghost use Rattle.turn_lock.specs.PassPorts.{PassWent};
 ghost use Rattle.conn_server.specs.Accepts.{Follows, HasRoom, HasSameLinks, IsAccepting, IsNext, IsSame, TicksOn, shown_all, links_of, ticks_of};
 ghost use Rattle.conn_server.specs.Taken.{Keeps, SameReports};
 ghost use Rattle.call_dispatch.specs.Hands.{IsUntold, IsUncounted};
-ghost use Rattle.conn_server.specs.Made.{gone_with, told_of, shown_admitted, IsMadeFor, IsHandFor, IsTakenBelow, IsTickEnd};
+ghost use Rattle.conn_server.specs.Made.{gone_with, told_of, shown_admitted, IsMadeFor, IsHandFor, IsTakenBelow};
 ghost use Rattle.conn_server.specs.Plans.{link_terms};
+ghost use Rattle.conn_server.specs.Quiet.{IsTick};
 ghost use Rattle.conn_server.specs.Stops.{IsLostLink};
 ghost use Rattle.conn_server.specs.Talks.{TalksOver};
 ghost use Rattle.conn_server.specs.declared.plan.TheConstants.{LAST_NUMBER};
@@ -91,7 +93,7 @@ fn has_room<X>(items: &mut Vec<X>, more: usize) -> bool
 }
 
 /// Tells a hand what an answer tells as withdrawn.
-pub(crate) fn tell_answer<H: Worker>(hand: &mut H, answer: &Result<Turn, Refused>)
+fn tell_answer<H: Worker>(hand: &mut H, answer: &Result<Turn, Refused>)
     ensures seen { TellsMore (H.shown hand.old).seen
         (map unreferenced (gone_with (end_of answer.now))) (H.shown hand.new).seen }
     ensures state { LeadsStates H.moves (H.shown hand.old).state
@@ -106,7 +108,7 @@ pub(crate) fn tell_answer<H: Worker>(hand: &mut H, answer: &Result<Turn, Refused
 }
 
 /// The entry of a Tick that was made at this moment and answered so: none where there was no memory for the Tick.
-pub(crate) fn tick_entry(moment: u64, answer: Result<Turn, Refused>) -> Option<Asked>
+fn tick_entry(moment: u64, answer: Result<Turn, Refused>) -> Option<Asked>
     ensures { option_to_list result ≡ entries_of moment Tick answer }
 {
     match answer {
@@ -124,33 +126,35 @@ pub(crate) fn tick_entry(moment: u64, answer: Result<Turn, Refused>) -> Option<A
     }
 }
 
-/// Makes a Tick at the clock's moment, as connection 0, and tells the hand what is gone. Its entry is answered: none where there was no
-/// memory for it.
-fn tick<'s, R: Wait, T: Clock, H: Worker>(
+/// Makes a Tick at this moment, as connection 0, and tells the hand what is gone. Its entry is answered: none where there was no memory
+/// for it.
+fn tick_at<'s, R: Wait, H: Worker>(
     shared: &Shared<'s, R>,
     root: &mut Root,
-    clock: &mut T,
+    moment: u64,
     hand: &mut H,
 ) -> Option<Asked>
     requires own { IsRootOf shared.now.lock.now root.old }
+    requires moment { moment < END_OF_TIME }
     ensures root { IsRootOf shared.now.lock.now root.new }
     ensures counts { (root.new.made ≡ root.old.made) × (root.new.out ≡ root.old.out) }
     ensures went { PassWent root.old.pass root.new.pass (option_to_list result) }
-    ensures asked { IfSome result (λ entry. entry.ask ≡ Tick) }
-    ensures end { IfSome result (λ entry. IsTickEnd entry.end) }
+    ensures is_tick { IfSome result IsTick }
     ensures place { IfSome result (λ entry. IsTakenBelow (length (view_of root.new.pass).seen)
         entry.end) }
-    ensures given { IfSome result (λ entry. Gave (T.given clock.old) (T.given clock.new)
-        (entry.moment ∷ [])) }
-    ensures moment { (moment : ℕ) × Gave (T.given clock.old) (T.given clock.new) (moment ∷ []) }
-    ensures seen { IfSome result (λ entry. TellsMore (H.shown hand.old).seen (told_of entry)
-        (H.shown hand.new).seen) }
-    ensures state { IfSome result (λ entry. LeadsStates H.moves (H.shown hand.old).state
-        (told_of entry) (H.shown hand.new).state) }
+    ensures at_moment { IfSome result (λ entry. entry.moment ≡ moment) }
+
+    // The hand is told what the Tick withdrew, and nothing where there is none.
+    ensures seen { MatchOption result
+        (TellsMore (H.shown hand.old).seen [] (H.shown hand.new).seen)
+        (λ entry. TellsMore (H.shown hand.old).seen (told_of entry) (H.shown hand.new).seen) }
+    ensures state { MatchOption result
+        (LeadsStates H.moves (H.shown hand.old).state [] (H.shown hand.new).state)
+        (λ entry. LeadsStates H.moves (H.shown hand.old).state (told_of entry)
+        (H.shown hand.new).state) }
     ensures calls { (H.shown hand.new).calls ≡ (H.shown hand.old).calls }
     ensures number { (H.shown hand.new).number ≡ (H.shown hand.old).number }
 {
-    let moment = clock.now();
     let (answer, _entries) = root.turn(shared.rt, shared.alloc, shared.lock, moment, Ask::Tick);
     tell_answer(hand, &answer);
     tick_entry(moment, answer)
@@ -189,10 +193,7 @@ fn hand_and_setup<G: Crew, I, O, T>(
 }
 
 /// Hands an entry on, if there is one.
-pub(crate) fn hand_entry<R, C: ReportTaker<R>>(
-    taker: &mut C,
-    entry: Option<Asked>,
-) -> Option<Snapshot<Asked>>
+fn hand_entry<R, C: ReportTaker<R>>(taker: &mut C, entry: Option<Asked>) -> Option<Snapshot<Asked>>
     requires { length (C.taken taker.old).ticks < (C.taken taker.old).tick_limit }
     ensures keeps { Keeps C.holds C.stays taker.old taker.new }
     ensures items { (C.taken taker.new).ticks
@@ -286,11 +287,11 @@ impl<I: Source, O: Sink, T: Clock, H: Worker, C: ReportTaker<LinkReport<I, O, T,
         self.taker.reserve(count + 1)
     }
 
-    /// Makes a Tick, for whose entry there is room, and keeps the entry. None where there was no memory for the Tick.
-    fn with_tick<'s, R: Wait>(
+    /// Makes a Tick at this moment, for whose entry there is room, and hands the entry on. None where there was no memory for the Tick.
+    pub(crate) fn with_tick<'s, R: Wait>(
         &mut self,
         shared: &Shared<'s, R>,
-        clock: &mut T,
+        moment: u64,
         hand: &mut H,
     ) -> Option<Snapshot<Asked>>
         requires accepting { IsAccepting
@@ -299,6 +300,7 @@ impl<I: Source, O: Sink, T: Clock, H: Worker, C: ReportTaker<LinkReport<I, O, T,
             H.shown C.taken C.expects shared.now.lock.now shared.now.book.now self.old }
         requires room { length (C.taken self.old.taker).ticks
             < (C.taken self.old.taker).tick_limit }
+        requires moment { moment < END_OF_TIME }
         ensures keeps { Keeps C.holds C.stays self.old.taker self.new.taker }
         ensures accepting { IsAccepting
             (TalksOver I.half O.half T.given H.shown H.may H.moves shared.now.book.now)
@@ -310,21 +312,22 @@ impl<I: Source, O: Sink, T: Clock, H: Worker, C: ReportTaker<LinkReport<I, O, T,
             ((C.taken self.new.taker).ticks ≡ (C.taken self.old.taker).ticks)
             (λ entry. (C.taken self.new.taker).ticks
             ≡ (C.taken self.old.taker).ticks ++ entry.value ∷ []) }
-        ensures asked { IfSome result (λ entry. entry.value.ask ≡ Tick) }
-        ensures end { IfSome result (λ entry. IsTickEnd entry.value.end) }
+        ensures is_tick { IfSome result (λ entry. IsTick entry.value) }
         ensures place { IfSome result (λ entry. IsTakenBelow
             (length (view_of self.new.root.pass).seen) entry.value.end) }
-        ensures given { IfSome result (λ entry. Gave (T.given clock.old) (T.given clock.new)
-            (entry.value.moment ∷ [])) }
-        ensures moment { (moment : ℕ) × Gave (T.given clock.old) (T.given clock.new) (moment ∷ []) }
-        ensures seen { IfSome result (λ entry. TellsMore (H.shown hand.old).seen
-            (told_of entry.value) (H.shown hand.new).seen) }
-        ensures state { IfSome result (λ entry. LeadsStates H.moves (H.shown hand.old).state
-            (told_of entry.value) (H.shown hand.new).state) }
+        ensures at_moment { IfSome result (λ entry. entry.value.moment ≡ moment) }
+        ensures seen { MatchOption result
+            (TellsMore (H.shown hand.old).seen [] (H.shown hand.new).seen)
+            (λ entry. TellsMore (H.shown hand.old).seen (told_of entry.value)
+            (H.shown hand.new).seen) }
+        ensures state { MatchOption result
+            (LeadsStates H.moves (H.shown hand.old).state [] (H.shown hand.new).state)
+            (λ entry. LeadsStates H.moves (H.shown hand.old).state (told_of entry.value)
+            (H.shown hand.new).state) }
         ensures calls { (H.shown hand.new).calls ≡ (H.shown hand.old).calls }
         ensures number { (H.shown hand.new).number ≡ (H.shown hand.old).number }
     {
-        let entry = tick(shared, &mut self.root, clock, hand);
+        let entry = tick_at(shared, &mut self.root, moment, hand);
         hand_entry(&mut self.taker, entry)
     }
 }
@@ -409,7 +412,8 @@ impl<
         } = link;
         let peer = Peer { host, port };
         let HandAndSetup { mut hand, setup } = ready;
-        let entry = self.with_tick(shared, &mut clock, &mut hand);
+        let moment = clock.now();
+        let entry = self.with_tick(shared, moment, &mut hand);
         let Some(tick) = entry else {
             return Err(shut_link(source, sink, clock));
         };

@@ -1,5 +1,5 @@
 //! Accepting links until the listener is told to stop.
-ghost use Rattle.std.specs.Prelude.{◌≡◌, ◌≢◌, ◌≤◌, ◌<◌, ◌+◌, ℕ, List, [], length, IfSome, Option, None, Ok, false, true};
+ghost use Rattle.std.specs.Prelude.{◌≡◌, ◌≢◌, ◌≤◌, ◌<◌, ◌+◌, ℕ, List, [], length, vec_len, IfSome, Option, None, Ok, false, true};
 ghost use Rattle.mod_utf.specs.Utf.{utf};
 ghost use Rattle.wire_io.specs.Links.{Listening, Waits, IfCame, accepted_as};
 ghost use Rattle.wire_io.specs.Wire.{AreNewHalves};
@@ -7,7 +7,7 @@ ghost use Rattle.wire_io.specs.declared.limits.TheConstants.{MAX_HOST_BYTES};
 ghost use Rattle.wire_io.specs.declared.source.Failed.{Failed};
 ghost use Rattle.conn_server.specs.Accepts.{IsAccepting};
 ghost use Rattle.conn_server.specs.Taken.{Keeps};
-ghost use Rattle.conn_server.specs.Hosts.{FailedSince, GoesOn, IsHalted, IsHosting, IsLike};
+ghost use Rattle.conn_server.specs.Hosts.{ClosedLast, FailedSince, GoesOn, IsHalted, IsHosting, IsLike};
 ghost use Rattle.conn_server.specs.Made.{IsMadeFor};
 ghost use Rattle.conn_server.specs.Talks.{TalksOver};
 ghost use Rattle.conn_server.specs.declared.plan.TheConstants.{LAST_NUMBER};
@@ -131,16 +131,20 @@ impl<
         }
     }
 
-    /// Notes that the listener failed, and says whether it is given up.
+    /// Notes that the listener failed, and says whether it is given up. While a link is live it is not, and that failure isn't counted.
     fn gives_up(&mut self) -> bool
         ensures acceptor { self.new.acceptor ≡ self.old.acceptor }
         ensures own { self.new.own ≡ self.old.own }
         ensures raised { self.new.idle_tries ≤ self.old.idle_tries + 1 }
         ensures many { result ≡ true → MAX_IDLE_TRIES < self.new.idle_tries }
+        ensures idle { result ≡ true → vec_len self.new.acceptor.live ≡ 0 }
+        ensures busy { 0 < vec_len self.old.acceptor.live
+            → self.new.idle_tries ≡ self.old.idle_tries }
     {
-        if self.acceptor.live.is_empty() {
-            self.idle_tries = self.idle_tries.saturating_add(1);
+        if !self.acceptor.live.is_empty() {
+            return false;
         }
+        self.idle_tries = self.idle_tries.saturating_add(1);
         self.idle_tries > MAX_IDLE_TRIES
     }
 
@@ -292,6 +296,13 @@ impl<
             → FailedSince L.listening self.new.idle_tries first (L.listening listener.new) }
         ensures given_up { IfSome result (λ halt. halt.stop ≡ Stop.AcceptFault
             → MAX_IDLE_TRIES < self.new.idle_tries) }
+        ensures idle { IfSome result (λ halt. halt.stop ≡ Stop.AcceptFault
+            → vec_len self.new.acceptor.live ≡ 0) }
+        ensures busy { 0 < vec_len self.new.acceptor.live
+            → self.new.idle_tries ≤ self.old.idle_tries }
+
+        // It does not close the listener.
+        ensures still_open { (L.listening listener.new).closed ≡ (L.listening listener.old).closed }
     {
         if self.acceptor.begun >= count_of(shared.plan) {
             return Some(Halt {
@@ -363,9 +374,12 @@ impl<
             (L.listening listener.old) (L.listening listener.new) (Q.given ticks.old)
             (Q.given ticks.new) self.new.acceptor self.new.own result }
         ensures closed { (L.listening listener.new).closed ≡ true }
+        ensures closed_last { ClosedLast L.listening
+            (L.listening listener.old) (L.listening listener.new) }
         ensures fault { result.stop ≡ Stop.AcceptFault
             → FailedSince L.listening (MAX_IDLE_TRIES + 1)
             (L.listening listener.old) (L.listening listener.new) }
+        ensures idle { result.stop ≡ Stop.AcceptFault → vec_len self.new.acceptor.live ≡ 0 }
     {
         for _ in shared.rt.forever() {
             match self.step(scope, shared, crew, listener, ticks) {

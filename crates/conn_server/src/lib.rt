@@ -18,26 +18,28 @@
 //!   once at least for `serve`, and more than 60 times since its last answer for `host` (`fault`).
 //! - `given` of `serve_with`: the same, and the taker is given each report once.
 //! - `hosts` of `host` (`specs/Hosts`, `specs/Quiet`): the same. The server also makes Ticks in seconds
-//!   without a link. At each moment of its clock there is a Tick only if something had ended, and none
-//!   only if nothing had, or if the result counts it as one without memory (`ticks_missed`). It
+//!   without a link. A look at its clock has a Tick only if something had ended. It has none only if
+//!   nothing had, or if something had and the result counts the Tick as missed (`ticks_missed`). It
 //!   looks at its clock for each answer of the listener that no link came, or that it was not told to
 //!   stop (`asked`). The hand of number 0 is told each object that these Ticks withdraw once (`told`).
-//!   The stop is `Told` only if the listener was told. A host that records gives its taker the events
-//!   after the opening's in order (`handed`), and all of them if it says `whole`. At the end the
-//!   listener is closed, whatever the cause (`closed`).
+//!   The stop is `Told` only if the listener was told, before its close. Links come by `wait`, never
+//!   by `accept` (`waited`). A host that records gives its taker the events after the opening's in
+//!   order (`handed`), and all of them if it says `whole`. Whatever the cause, the listener is closed
+//!   at the end, and not before (`closed`, `closed_last`). While a link is live it is not given up
+//!   (`idle` of `run`).
 //!
 //! # What is not
 //!
 //! - When a link begins, how long it waits, or how long a stop takes. That a host asks its listener,
 //!   or looks at its clock while the listener fails. That memory grows with live links alone, or that
 //!   no more than `most_live` are live. `test_server` tests most of these.
-//! - By which history a look at the clock judges: it is one that has the server's own turns so far,
-//!   and may lack turns of links. Listener, clock and taker share no list. So no clause says that a
-//!   look, a report or a part comes before the stop. `test_server` tests it.
-//! - That memory lacked where a Tick or a thread was missed: no contract sees that. So a body that
-//!   counts each look as missed, or serves each link by the accepting thread, is not refused.
-//! - When a host closes its listener: `closed` says that it is at the end. `test_server` tests that
-//!   links are still live then.
+//! - How fresh the history is by which a look judges: it has the server's own turns so far, and may
+//!   lack turns of links. Listener, clock and taker share no list. So no clause says that a look, a
+//!   report or a part comes before the stop. `test_server` tests it.
+//! - That memory lacked where a Tick or a thread was missed, a link was lost, or `whole` is false: no
+//!   contract sees that. So a body that counts each due Tick as missed, or serves each link by the
+//!   accepting thread, is not refused.
+//! - That links are still live when a host closes its listener. `test_server` tests it.
 //! - Who is told of objects that the end of a call withdraws after its link has ended: the next turn
 //!   tells them. If there is none, nobody does.
 //!

@@ -5,10 +5,10 @@ ghost use Rattle.wire_io.specs.Wire.{Rose};
 ghost use Rattle.wire_io.specs.declared.limits.TheConstants.{MAX_HOST_BYTES};
 ghost use Rattle.turn_lock.specs.Handles.{IsFresh, IsRootOf, opening_of, view_of};
 ghost use Rattle.turn_lock.specs.Rule.{Settled, StartsWith};
-ghost use Rattle.conn_server.specs.Begins.{LeavesListener, MayHost, MayServe, RoseBetween};
+ghost use Rattle.conn_server.specs.Begins.{LeavesHost, LeavesListener, MayHost, MayServe, RoseBetween};
 ghost use Rattle.conn_server.specs.Taken.{IsEmpty, ExpectsLinks, Keeps, SameReports};
 ghost use Rattle.conn_server.specs.Handed.{AreHanded};
-ghost use Rattle.conn_server.specs.Hosts.{FailedSince, HostsLinks, IsHosted};
+ghost use Rattle.conn_server.specs.Hosts.{ClosedLast, FailedSince, HostsLinks, IsHosted};
 ghost use Rattle.conn_server.specs.Reports.{GivesReports, IsLinkOf, IsServed, ServesLinks};
 ghost use Rattle.conn_server.specs.Stops.{IsLostLink};
 ghost use Rattle.conn_server.specs.declared.host_loop.TheConstants.{MAX_IDLE_TRIES};
@@ -87,9 +87,11 @@ pub struct Hosted<I, O, T, C, H> {
     /// True where the taker was given all events of the space after the opening's. False means that there was no memory
     /// to hand them on, or that the host or its lock doesn't record.
     pub whole: bool,
+    /// True where the beginning asked that the taker be given events.
+    pub recorded: bool,
     /// The hand of number 0, which was told what the Ticks at looks at the host's clock withdrew, where there was one.
     pub hand: Option<H>,
-    /// True where there was no memory, when the host looked at its clock, for that hand, for the entry of a Tick or for a Tick that was due.
+    /// True where a Tick was due at a look at the host's clock, and there was no memory for it, for its entry or for that hand.
     pub tick_missed: bool,
     /// The number of looks at which that was so. It stands still at [`u64::MAX`].
     pub ticks_missed: u64,
@@ -318,6 +320,8 @@ where
     ensures fault { result.stop ≡ Stop.AcceptFault
         → FailedSince L.listening (MAX_IDLE_TRIES + 1)
         (L.listening listener.old) (L.listening listener.new) }
+    ensures closed_last { ClosedLast L.listening
+        (L.listening listener.old) (L.listening listener.new) }
     ensures faults { (L.listening listener.old).faults ≤ (L.listening listener.new).faults }
     ensures ports { (L.listening listener.new).ports ≡ (L.listening listener.old).ports }
 {
@@ -384,7 +388,7 @@ fn host_scoped<
         C.taken shared.entry.lock.now shared.entry.plan.now.count
         (L.listening listener.old) (L.listening listener.new)
         (Q.given ticks.old) (Q.given ticks.new) result }
-    ensures heard { LeavesListener (FailedSince L.listening (MAX_IDLE_TRIES + 1)) result.stop
+    ensures heard { LeavesHost L.listening (MAX_IDLE_TRIES + 1) result.stop
         (L.listening listener.old) (L.listening listener.new) }
 {
     let rt = shared.rt;
@@ -412,7 +416,7 @@ fn host_scoped<
                 C.taken shared.entry.lock.now shared.entry.plan.now.count
                 (L.listening listener.entry.now) (L.listening result.0.now)
                 (Q.given ticks.entry.now) (Q.given result.1.now) result.2 }
-            ensures heard { LeavesListener (FailedSince L.listening (MAX_IDLE_TRIES + 1))
+            ensures heard { LeavesHost L.listening (MAX_IDLE_TRIES + 1)
                 result.2.stop (L.listening listener.entry.now) (L.listening result.0.now) }
         {
             let outcome = host_within(scope, &shared, listener, ticks, begun);
@@ -441,6 +445,7 @@ fn close_host<I, O, T, H, C: ReportTaker<LinkReport<I, O, T, H>>>(
     ensures whole { result.whole ≡ true → result.space.events
         ≡ (opening_of lock).events ++ (C.taken result.taker).events }
     ensures unrecorded { records ≡ false → result.whole ≡ false }
+    ensures recorded { result.recorded ≡ records }
     ensures ticks { (C.taken result.taker).ticks ≡ (C.taken joined.taker).ticks }
     ensures reports { SameReports C.taken C.expects joined.taker result.taker }
     ensures stop { result.stop ≡ joined.stop }
@@ -465,6 +470,7 @@ fn close_host<I, O, T, H, C: ReportTaker<LinkReport<I, O, T, H>>>(
         lost,
         space,
         whole: records && whole,
+        recorded: records,
         hand,
         tick_missed: missed > 0,
         ticks_missed: missed,
@@ -623,8 +629,9 @@ impl<'s, R: Threads + Wait + Sync, G: Crew> Server<'s, R, G> {
     /// ended. Links in all are at most the plan's count, and at most `most_live` of the beginning are live at once.
     ///
     /// In each second without a link, threads of links that have ended are joined. Where a lease or a wait for an acknowledgement has ended at a
-    /// moment of `ticks`, a Tick is made as connection 0. The hand of number 0 is told of each object that it withdraws; it is made at the first look
-    /// at which there is memory for it. Where there is no memory for that hand or for the Tick, the look passes without one, and the result counts it.
+    /// moment of `ticks`, a Tick is made as connection 0. The hand of number 0 is told of each object that it withdraws; it is made
+    /// where the first of these Ticks is due. Where there is no memory for that hand, for the Tick or for its entry, none is made, and the result
+    /// counts that.
     ///
     /// While as many links are live as may be, none is accepted. Every 50 milliseconds, or as a link ends, the host
     /// then looks whether the listener was told to stop, and does what it does in a second without a link. It does the
@@ -671,9 +678,9 @@ impl<'s, R: Threads + Wait + Sync, G: Crew> Server<'s, R, G> {
 
         // As `serve_with`, where the server's own turns are the Ticks before links and those at looks at `ticks`, whose
         // hand was told what they withdrew. A look has a Tick only where something had ended. It has none only where
-        // nothing had ended, or where a Tick was missed at this very look, which the result counts. There is a look for
-        // each answer of the listener that no link came, or that it was not told to stop. The events that the taker was given are the
-        // first after the opening's, and all where the result says so.
+        // nothing had ended, or where something had and the Tick was missed, which the result counts. There is a look for
+        // each answer of the listener that no link came, or that it was not told to stop. Links came by `wait`, and none by
+        // `accept`. The events that the taker was given are the first after the opening's, and all where the result says so.
         ensures hosts { HostsLinks
             (IsLinkOf L.In.half L.Out.half L.Ticks.given G.Hand.shown G.Hand.may G.Hand.moves
             self.now.book.now plan.now)
@@ -684,10 +691,13 @@ impl<'s, R: Threads + Wait + Sync, G: Crew> Server<'s, R, G> {
 
         ensures keeps { Keeps C.holds C.stays begin.taker result.taker }
         ensures unrecorded { begin.record ≡ false → result.whole ≡ false }
+        ensures recorded { result.recorded ≡ begin.record }
 
         // The listener.
         ensures fault { result.stop ≡ Stop.AcceptFault
             → FailedSince L.listening (MAX_IDLE_TRIES + 1)
+            (L.listening listener.old) (L.listening listener.new) }
+        ensures closed_last { ClosedLast L.listening
             (L.listening listener.old) (L.listening listener.new) }
         ensures faults { (L.listening listener.old).faults ≤ (L.listening listener.new).faults }
         ensures ports { (L.listening listener.new).ports ≡ (L.listening listener.old).ports }
@@ -745,6 +755,8 @@ impl<'s, R: Threads + Wait + Sync, G: Crew> Server<'s, R, G> {
             (Q.given ticks.old) (Q.given ticks.new) result }
         ensures fault { result.stop ≡ Stop.AcceptFault
             → FailedSince L.listening (MAX_IDLE_TRIES + 1)
+            (L.listening listener.old) (L.listening listener.new) }
+        ensures closed_last { ClosedLast L.listening
             (L.listening listener.old) (L.listening listener.new) }
         ensures faults { (L.listening listener.old).faults ≤ (L.listening listener.new).faults }
         ensures ports { (L.listening listener.new).ports ≡ (L.listening listener.old).ports }

@@ -12,15 +12,16 @@ use Rattle.input_end.specs.declared.watch.Readiness.{Readiness}
 use Rattle.input_end.specs.declared.watch.Readiness.TheVariants.{WouldWait, WouldAnswer, HungUp}
 
 -- what a listener shows that is told to stop at the end of an input too: what the listener inside shows, with its own count of faults
--- added, told where that end was seen, and closed where it was itself
-abbrev pub listening_until : Bool → ℕ → Bool → Listening → Listening
-listening_until seen faults closed inner = record {
+-- added, told where that end was seen, and closed and asked to accept a link as it was itself
+abbrev pub listening_until : Bool → ℕ → Bool → ℕ → Listening → Listening
+listening_until seen faults closed accepts inner = record {
   ports = inner.ports;
   accepted = inner.accepted;
   faults = inner.faults + faults;
   told = seen || inner.told;
   quiets = inner.quiets;
   closed = closed;
+  accepts = accepts;
 }
 
 -- an end in memory: the index of the first look that sees it, if any does, how many looks there were, which is the index of the next one,

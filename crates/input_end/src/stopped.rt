@@ -18,6 +18,7 @@ pub struct StoppedByInput<L, E> {
     input: E,
     faults: u64,
     closed: bool,
+    accepts: u64,
 }
 
 impl<L, E> StoppedByInput<L, E> {
@@ -27,12 +28,14 @@ impl<L, E> StoppedByInput<L, E> {
         ensures input { result.input ≡ input }
         ensures faults { result.faults ≡ 0 }
         ensures closed { result.closed ≡ false }
+        ensures accepts { result.accepts ≡ 0 }
     {
         StoppedByInput {
             listener,
             input,
             faults: 0,
             closed: false,
+            accepts: 0,
         }
     }
 
@@ -61,14 +64,15 @@ impl<L: Listener, E: InputEnd> Listener for StoppedByInput<L, E> {
     ghost use Rattle.input_end.specs.Ends.{listening_until};
 
     ghost listening = { λ s.
-        listening_until (E.seen s.input) s.faults s.closed (L.listening s.listener) };
+        listening_until (E.seen s.input) s.faults s.closed s.accepts
+        (L.listening s.listener) };
 
     /// Has the listener inside listen. It does not look at the input.
     fn listen(&mut self, address: &str, port: u16) -> Result<(), Failed>
         ensures listens { Listens
-            (listening_until (E.seen self.old.input) self.old.faults self.old.closed
+            (listening_until (E.seen self.old.input) self.old.faults self.old.closed self.old.accepts
             (L.listening self.old.listener))
-            (listening_until (E.seen self.new.input) self.new.faults self.new.closed
+            (listening_until (E.seen self.new.input) self.new.faults self.new.closed self.new.accepts
             (L.listening self.new.listener)) address.now port result }
         ensures accepted { (L.listening self.new.listener).accepted
             ≡ (L.listening self.old.listener).accepted }
@@ -86,9 +90,9 @@ impl<L: Listener, E: InputEnd> Listener for StoppedByInput<L, E> {
     /// Has the listener inside accept, unless a look has seen the end of the input.
     fn accept(&mut self) -> Result<Link<L::In, L::Out, L::Ticks>, Failed>
         ensures accepts { Accepts (accepted_as L.In.half L.Out.half L.Ticks.given)
-            (listening_until (E.seen self.old.input) self.old.faults self.old.closed
+            (listening_until (E.seen self.old.input) self.old.faults self.old.closed self.old.accepts
             (L.listening self.old.listener))
-            (listening_until (E.seen self.new.input) self.new.faults self.new.closed
+            (listening_until (E.seen self.new.input) self.new.faults self.new.closed self.new.accepts
             (L.listening self.new.listener)) result }
         ensures halves { IfOk result
             (λ link. AreNewHalves (L.In.half link.source) (L.Out.half link.sink)) }
@@ -108,6 +112,7 @@ impl<L: Listener, E: InputEnd> Listener for StoppedByInput<L, E> {
             → Accepts (accepted_as L.In.half L.Out.half L.Ticks.given)
             (L.listening self.old.listener) (L.listening self.new.listener) result }
     {
+        self.accepts = self.accepts.saturating_add(1);
         if self.input.was_seen() {
             self.faults = self.faults.saturating_add(1);
             return Err(Failed);
@@ -118,9 +123,9 @@ impl<L: Listener, E: InputEnd> Listener for StoppedByInput<L, E> {
     /// Looks for the end of the input, once. At the end it closes the listener inside and answers Told. Else it has that listener wait.
     fn wait(&mut self) -> Result<Waited<Link<L::In, L::Out, L::Ticks>>, Failed>
         ensures waits { Waits (accepted_as L.In.half L.Out.half L.Ticks.given)
-            (listening_until (E.seen self.old.input) self.old.faults self.old.closed
+            (listening_until (E.seen self.old.input) self.old.faults self.old.closed self.old.accepts
             (L.listening self.old.listener))
-            (listening_until (E.seen self.new.input) self.new.faults self.new.closed
+            (listening_until (E.seen self.new.input) self.new.faults self.new.closed self.new.accepts
             (L.listening self.new.listener)) result }
         ensures halves { IfOk result (λ waited. IfCame waited
             (λ link. AreNewHalves (L.In.half link.source) (L.Out.half link.sink))) }
@@ -145,9 +150,9 @@ impl<L: Listener, E: InputEnd> Listener for StoppedByInput<L, E> {
     /// Looks for the end of the input, once. At the end it closes the listener inside. Else it has that listener look.
     fn is_told(&mut self) -> bool
         ensures looks { Looks
-            (listening_until (E.seen self.old.input) self.old.faults self.old.closed
+            (listening_until (E.seen self.old.input) self.old.faults self.old.closed self.old.accepts
             (L.listening self.old.listener))
-            (listening_until (E.seen self.new.input) self.new.faults self.new.closed
+            (listening_until (E.seen self.new.input) self.new.faults self.new.closed self.new.accepts
             (L.listening self.new.listener)) result }
         ensures looks_once { E.looked self.old.input self.new.input (E.seen self.new.input) }
         ensures faults { self.new.faults ≡ self.old.faults }
@@ -166,9 +171,9 @@ impl<L: Listener, E: InputEnd> Listener for StoppedByInput<L, E> {
 
     /// Closes the listener inside too.
     fn close(&mut self)
-        ensures closed { listening_until (E.seen self.new.input) self.new.faults self.new.closed
+        ensures closed { listening_until (E.seen self.new.input) self.new.faults self.new.closed self.new.accepts
             (L.listening self.new.listener)
-            ≡ record (listening_until (E.seen self.old.input) self.old.faults self.old.closed
+            ≡ record (listening_until (E.seen self.old.input) self.old.faults self.old.closed self.old.accepts
             (L.listening self.old.listener)) { closed = true } }
         ensures input { self.new.input ≡ self.old.input }
         ensures faults { self.new.faults ≡ self.old.faults }

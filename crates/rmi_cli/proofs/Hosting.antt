@@ -43,7 +43,7 @@ use Rattle.rmi_cli.specs.Line.{status_of_run}
 use Rattle.rmi_cli.specs.LinkLine.{listening_line}
 use Rattle.rmi_cli.specs.Opening.{hosted_opening}
 use Rattle.rmi_cli.specs.ServedLinks.{Printed, end_after}
-use Rattle.rmi_cli.specs.Hosted.{AreHostTimed, ArePartsOf, AreReady, HostEnds, HostPrinted, HostServed, HostSide, Hosting, Hosts, HostsFrom, HostsTelling, IsClosed, TellsHost, after_ticks, end_of_record, first_text, hand_shown, host_lines, host_plan, host_side, journal_lines}
+use Rattle.rmi_cli.specs.Hosted.{AreHostTimed, ArePartsOf, AreReady, HostEnds, HostPrinted, HostServed, HostSide, Hosting, Hosts, HostsFrom, HostsTelling, IsClosed, TellsHost, after_ticks, end_of_record, first_text, hand_shown, host_lines, host_plan, host_side, journal_lines, is_recorded}
 use Rattle.rmi_cli.specs.Sinks.{Goes, Wrote, WroteLess, joined}
 use Rattle.rmi_cli.specs.Told.{Reported, TellsEnd, TellsExactly, Took, told_line, told_of_halves}
 use Rattle.rmi_cli.specs.declared.end.RunEnd.{RunEnd}
@@ -314,7 +314,7 @@ host_told told lines end (inr tells) served unread unwritten = inr tells.status
 module _ {I O T : Type 0} (R : Type 0) (read_half : I → ReadHalf) (write_half : O → WriteHalf) (given : T → Option (List ℕ)) (seed : List ℕ) where
   -- Nothing was served.
   pub hosts_none : (host : HostWords) (side : HostSide) (end : RunEnd) → (end ≡ ListenFault) ⊎ (end ≡ OutOfMemory) → Hosts R read_half write_half given seed host side side end
-  hosts_none host side end is = record { served = None; alone = (inl refl, refl); links = tt; times = tt; ends = (is, refl) }
+  hosts_none host side end is = record { served = None; alone = (inl refl, refl); links = tt; times = tt; recorded = tt; ends = (is, refl) }
 
   pub telling_none : (host : HostWords) (side : HostSide) (errors : WriteHalf) (end : RunEnd) → (end ≡ ListenFault) ⊎ (end ≡ OutOfMemory)
       → HostsTelling R read_half write_half given seed host side side errors errors Whole end
@@ -366,7 +366,7 @@ module _ {I O T : Type 0} (R : Type 0) (read_half : I → ReadHalf) (write_half 
   -- What a server that was given a desk hosted is what its desk was given.
   pub hosts_given : {C : Type 0} (taken : C → Taken (LinkReport I O T (SampleHand R))) (IsLink : ℕ → Accepted × Asked → LinkReport I O T (SampleHand R) → Type 0) (opening : SpaceHistory) (count : ℕ)
       (before after : Listening) (gave_first gave_last : Option (List ℕ)) (h : Hosted I O T C (SampleHand R)) (served : HostServed I O T R)
-      → taken h.taker ≡ taken_of served.taker → (served.stop ≡ h.stop) × (served.lost ≡ h.lost) × (served.space ≡ h.space) × (served.whole ≡ h.whole) × (served.hand ≡ h.hand) × (served.tick_missed ≡ h.tick_missed) × (served.ticks_missed ≡ h.ticks_missed)
+      → taken h.taker ≡ taken_of served.taker → (served.stop ≡ h.stop) × (served.lost ≡ h.lost) × (served.space ≡ h.space) × (served.whole ≡ h.whole) × (served.hand ≡ h.hand) × (served.tick_missed ≡ h.tick_missed) × (served.ticks_missed ≡ h.ticks_missed) × (served.recorded ≡ h.recorded)
       → HostsLinks IsLink (IsLostLink read_half write_half given) hand_shown Moves taken opening count before after gave_first gave_last h
       → HostsLinks IsLink (IsLostLink read_half write_half given) hand_shown Moves taken_of opening count before after gave_first gave_last served
   hosts_given taken IsLink opening count before after gave_first gave_last h served same rest x =
@@ -397,6 +397,7 @@ module _ {I O T : Type 0} (R : Type 0) (read_half : I → ReadHalf) (write_half 
         back = subst (λ (l : Option (LostLink I O T)). AreGivenBack IsLost x.missed l) (sym rest.1) x.back;
         untold = subst (λ (s : Stop). s ≢ stops.Told → after.told ≡ before.told) (sym rest.0) x.untold;
         closed = x.closed;
+        waited = x.waited;
         handed = subst (λ (s : SpaceHistory). StartsWith s.events (opening.events ++ (taken_of served.taker).events)) space
             (subst (λ (c : Taken (LinkReport I O T (SampleHand R))). StartsWith h.space.events (opening.events ++ c.events)) same x.handed);
         all_handed = λ all. subst (λ (s : SpaceHistory). s.events ≡ opening.events ++ (taken_of served.taker).events) space
@@ -421,21 +422,22 @@ module _ {I O T : Type 0} (R : Type 0) (read_half : I → ReadHalf) (write_half 
   -- Links were served once the listener listened, and all was told.
   pub hosts_heard : (host : HostWords) (address : List ℕ) (port : ℕ) (old heard new : Listening) (given_old given_new : Option (List ℕ)) (output output2 : WriteHalf) (served : HostServed I O T R) (end : RunEnd)
       (errors errors_mid errors2 : WriteHalf) (told told2 : SinkState)
-      → address ≡ host.address → port ≡ host.port → heard.ports ≡ with_next old.ports (address, port) → heard.accepted ≡ old.accepted → heard.faults ≡ old.faults → heard.told ≡ old.told → heard.quiets ≡ old.quiets
+      → address ≡ host.address → port ≡ host.port → heard.ports ≡ with_next old.ports (address, port) → heard.accepted ≡ old.accepted → heard.faults ≡ old.faults → heard.told ≡ old.told → heard.quiets ≡ old.quiets → heard.accepts ≡ old.accepts
       → new.ports ≡ heard.ports
       → HostsFrom read_half write_half given seed host heard new given_old given_new served
-      → AreHostTimed given served
+      → AreHostTimed given served → served.recorded ≡ is_recorded host.output
       → HostEnds host.output (hosted_opening seed host.options) output output2 (Some served) end
       → Goes errors errors_mid (listening_line address port ∷ []) Whole told → Goes errors_mid errors2 (told_lines served.taker.reports) told told2
       → HostsTelling R read_half write_half given seed host (host_side old given_old output) (host_side new given_new output2) errors errors2 told2 end
-  hosts_heard host address port old heard new given_old given_new output output2 served end errors errors_mid errors2 told told2 is_address is_port listens same unfailed same_told same_quiets same_ports links times ends line lines =
+  hosts_heard host address port old heard new given_old given_new output output2 served end errors errors_mid errors2 told told2 is_address is_port listens same unfailed same_told same_quiets same_accepts same_ports links times recorded ends line lines =
       let heard_at : heard.ports ≡ with_next old.ports (host.address, host.port) = listens ∙ ap₂ (λ (a : List ℕ) (n : ℕ). with_next old.ports (a, n)) is_address is_port in
       let at = ap₂ (λ (a : List ℕ) (n : ℕ). listening_line a n) is_address is_port in (
         record {
           served = Some served;
           alone = same_ports ∙ heard_at;
-          links = (heard, record { ports = heard_at; accepted = same; faults = unfailed; same_told = same_told; quiets = same_quiets }, links);
+          links = (heard, record { ports = heard_at; accepted = same; faults = unfailed; same_told = same_told; quiets = same_quiets; accepts = same_accepts }, links);
           times = times;
+          recorded = recorded;
           ends = ends;
         },
         goes_on errors errors_mid errors2 (listening_line host.address host.port ∷ []) (told_lines served.taker.reports) Whole told told2
@@ -446,4 +448,4 @@ module _ {I O T : Type 0} (R : Type 0) (read_half : I → ReadHalf) (write_half 
   pub hosts_deaf : (host : HostWords) (old heard : Listening) (given_old : Option (List ℕ)) (output errors : WriteHalf) → heard.ports ≡ old.ports → heard.accepted ≡ old.accepted
       → HostsTelling R read_half write_half given seed host (host_side old given_old output) (host_side heard given_old output) errors errors Whole ListenFault
   hosts_deaf host old heard given_old output errors ports same =
-      (record { served = None; alone = (inl ports, same); links = tt; times = tt; ends = (inl refl, refl) }, goes_nothing errors Whole)
+      (record { served = None; alone = (inl ports, same); links = tt; times = tt; recorded = tt; ends = (inl refl, refl) }, goes_nothing errors Whole)

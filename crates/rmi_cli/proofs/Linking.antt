@@ -64,6 +64,16 @@ pub listened_quietly : {T E : Type 0} (old new : Listening) (address : List ℕ)
 listened_quietly old new address port (Ok done) is = is.2
 listened_quietly old new address port (Err failed) is = is.2
 
+-- It closes nothing.
+pub listened_open : {T E : Type 0} (old new : Listening) (address : List ℕ) (port : ℕ) (result : Result T E) → Listens old new address port result → new.closed ≡ old.closed
+listened_open old new address port (Ok done) is = is.3
+listened_open old new address port (Err failed) is = is.3
+
+-- It accepts no link.
+pub listened_unasked : {T E : Type 0} (old new : Listening) (address : List ℕ) (port : ℕ) (result : Result T E) → Listens old new address port result → new.accepts ≡ old.accepts
+listened_unasked old new address port (Ok done) is = is.4
+listened_unasked old new address port (Err failed) is = is.4
+
 -- Where it does not listen, it tells no port more.
 pub deaf : {T E : Type 0} (old new : Listening) (address : List ℕ) (port : ℕ) (result : Result T E) → is_err result ≡ true → Listens old new address port result → new.ports ≡ old.ports
 deaf old new address port (Ok done) bad is = absurd (cc)

@@ -10,12 +10,12 @@ use Rattle.history.specs.declared.asks.SpaceConfig.{SpaceConfig}
 use Rattle.journal.specs.Written.{config_text, event_line, journal_text, with_line_end}
 use Rattle.space.specs.Built.{SpaceHistory}
 use Rattle.space.specs.Standing.{standing}
-use Rattle.turn_lock.specs.Handles.{IsFresh, opening_of}
+use Rattle.turn_lock.specs.Handles.{IsFresh, keeps_events, opening_of}
 use Rattle.call_dispatch.specs.Acts.{WorkerState}
 use Rattle.sample_app.specs.Does.{Moves}
 use Rattle.sample_app.specs.Kinds.{sample_kinds}
 use Rattle.sample_app.specs.declared.crew.SampleHand.{SampleHand}
-use Rattle.conn_server.specs.Hosts.{HostsLinks}
+use Rattle.conn_server.specs.Hosts.{ClosedLast, HostsLinks}
 use Rattle.conn_server.specs.Stops.{IsLostLink}
 use Rattle.conn_server.specs.declared.link_task.LinkReport.{LinkReport}
 use Rattle.conn_server.specs.declared.plan.TheConstants.{LAST_NUMBER}
@@ -49,7 +49,12 @@ abbrev pub first_text : Record → SpaceHistory → List ℕ
 first_text Silent opening = []
 first_text Journal opening = journal_text opening.configuration opening.events
 
--- The parts are those that the seed and the words give.
+-- Whether events are printed as they are made.
+abbrev pub is_recorded : Record → Bool
+is_recorded Silent = false
+is_recorded Journal = true
+
+-- The parts are those that the seed and the words give. The lock keeps events for the output exactly where they are printed.
 pub record ArePartsOf {R : Type 0} (seed : List ℕ) (host : HostWords) (parts : HostParts R) : Type 0 where
   pub address : parts.address ≡ host.address
   pub port : parts.port ≡ host.port
@@ -58,6 +63,7 @@ pub record ArePartsOf {R : Type 0} (seed : List ℕ) (host : HostWords) (parts :
   pub recording : parts.recording ≡ host.output
   pub space : parts.space ≡ (hosted_space seed host.options).uid
   pub first : parts.first ≡ first_text host.output (hosted_opening seed host.options)
+  pub records : keeps_events parts.lock ≡ is_recorded host.output
 
 -- The lock is fresh, the book is the sample's, and the plan's host is one that references can name.
 pub record AreReady {R : Type 0} (parts : HostParts R) : Type 0 where
@@ -91,13 +97,14 @@ HostsFrom read_half write_half given seed host before after gave_first gave_last
     HostsLinks (IsSampleLink read_half write_half given (host_plan seed host)) (IsLostLink read_half write_half given) hand_shown Moves taken_of
     (hosted_opening seed host.options) LAST_NUMBER before after gave_first gave_last served
 
--- A listener listens at the words' address and port, and nowhere else besides. It gave no link meanwhile, and did not fail.
+-- A listener listens at the words' address and port, and nowhere else besides. It gave no link meanwhile, was not asked to, and did not fail.
 pub record Listened (host : HostWords) (old heard : Listening) : Type 0 where
   pub ports : heard.ports ≡ with_next old.ports (host.address, host.port)
   pub accepted : heard.accepted ≡ old.accepted
   pub faults : heard.faults ≡ old.faults
   pub same_told : heard.told ≡ old.told
   pub quiets : heard.quiets ≡ old.quiets
+  pub accepts : heard.accepts ≡ old.accepts
 
 -- The same from one side to the other, once the listener listens.
 abbrev pub HostsSample : {I O T R : Type 0} → (I → ReadHalf) → (O → WriteHalf) → (T → Option (List ℕ)) → List ℕ → HostWords → HostSide → HostSide → HostServed I O T R → Type 0
@@ -151,13 +158,19 @@ IsClosed Journal old new state served end =
 abbrev pub AreHostTimed : {I O T R : Type 0} → (T → Option (List ℕ)) → HostServed I O T R → Type 0
 AreHostTimed given served = AllByRecursion (IsTimed given served.taker.ticks) served.taker.reports
 
--- A run of `host` by its seed and words, from one side to the other, by what its links' sources, sinks and clocks show.
+-- A run of `host` by its seed and words, from one side to the other, by what its links' sources, sinks and clocks show. Events were recorded exactly where they
+-- are printed.
 pub record Hosts {I O T : Type 0} (R : Type 0) (read_half : I → ReadHalf) (write_half : O → WriteHalf) (given : T → Option (List ℕ)) (seed : List ℕ) (host : HostWords) (old new : HostSide) (end : RunEnd) : Type 0 where
   pub served : Option (HostServed I O T R)
   pub alone : ListensAt host.address host.port old.listening new.listening served
   pub links : IfSome served (HostsSample read_half write_half given seed host old new)
   pub times : IfSome served (AreHostTimed given)
+  pub recorded : IfSome served (λ s. s.recorded ≡ is_recorded host.output)
   pub ends : HostEnds host.output (hosted_opening seed host.options) old.output new.output served end
+
+-- The listener was closed last, or was left as open as it was.
+abbrev pub ClosesLast : {L : Type 0} → (L → Listening) → L → L → Type 0
+ClosesLast listening old new = ((listening new).closed ≡ (listening old).closed) ⊎ ClosedLast listening (listening old) (listening new)
 
 -- ---- what is told
 

@@ -72,7 +72,7 @@ pub struct HostDesk<'s, K, E, R, S> {
     /// The state of the errors' sink.
     pub told: SinkState,
     pub alloc: Global,
-    /// What is printed.
+    /// The choice of what `host` prints. The desk writes the lines of events only for `Record::Journal`.
     pub recording: Record,
     /// The identifier of the space of which events are recorded.
     pub space: Uid,

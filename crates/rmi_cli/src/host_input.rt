@@ -1,8 +1,9 @@
 //! `host` over the program's listener, clock, output and errors' sink.
 ghost use Rattle.std.specs.Prelude.{◌≡◌, ◌≢◌, ◌≤◌, ◌∷◌, [], ℕ, List, IfOk, true};
 ghost use Rattle.space.specs.Standing.{standing};
+ghost use Rattle.conn_server.specs.Hosts.{ClosedLast};
 ghost use Rattle.rmi_cli.specs.Desk.{recorded_lines, told_lines};
-ghost use Rattle.rmi_cli.specs.Hosted.{AreHostTimed, ArePartsOf, AreReady, HostsFrom, HostsTelling, IsClosed, after_ticks, end_of_record, host_side};
+ghost use Rattle.rmi_cli.specs.Hosted.{AreHostTimed, ArePartsOf, AreReady, ClosesLast, HostsFrom, HostsTelling, IsClosed, after_ticks, end_of_record, host_side, is_recorded};
 ghost use Rattle.rmi_cli.specs.Line.{status_of_run};
 ghost use Rattle.rmi_cli.specs.LinkLine.{listening_line};
 ghost use Rattle.rmi_cli.specs.ServedLinks.{PrintedOn, end_after};
@@ -63,7 +64,7 @@ pub(crate) struct HostLeft<'t, R: Wait + Sync, I, O, T> {
     pub(crate) states: SinkStates,
 }
 
-/// What serving begins with: the runtime, the parts, and the states of the sinks after the first text and line.
+/// The arguments for serving links: the runtime, the parts of the server, and the states of the sinks after the first text and line.
 #[derive(Drop)]
 pub(crate) struct HostBegun<'t, R: Wait + Sync> {
     pub(crate) rt: &'t R,
@@ -95,6 +96,7 @@ pub(crate) fn host_input<
         (host_side (L.listening host.new.listener) (T.given host.new.ticks)
         (O.half host.new.output))
         (E.half host.old.errors) (E.half host.new.errors) result.told result.end }
+    ensures closes { ClosesLast L.listening host.old.listener host.new.listener }
     ensures known { status_of_run result.end ≢ 1 }
     ensures fault { status_of_run result.end ≡ 3
         → ListenerFailed L.listening host.old.listener host.new.listener }
@@ -138,6 +140,7 @@ fn host_on<
         (host_side (L.listening host.new.listener) (T.given host.new.ticks)
         (O.half host.new.output))
         (E.half host.old.errors) (E.half host.new.errors) result.told result.end }
+    ensures closes { ClosesLast L.listening host.old.listener host.new.listener }
     ensures known { status_of_run result.end ≢ 1 }
     ensures fault { status_of_run result.end ≡ 3
         → ListenerFailed L.listening host.old.listener host.new.listener }
@@ -210,7 +213,10 @@ fn host_links<
     ensures told { Goes (E.half host.old.errors) (E.half host.new.errors)
         (told_lines result.hosted.taker.reports) first.told result.states.told }
     ensures times { AreHostTimed L.Ticks.given result.hosted }
+    ensures recorded { result.hosted.recorded ≡ is_recorded parts.entry.recording }
     ensures ports { (L.listening host.new.listener).ports ≡ (L.listening host.old.listener).ports }
+    ensures closed_last { ClosedLast L.listening (L.listening host.old.listener)
+        (L.listening host.new.listener) }
     ensures fault { result.hosted.stop ≡ Stop.AcceptFault
         → ListenerFailed L.listening host.old.listener host.new.listener }
     ensures faults { (L.listening host.old.listener).faults
@@ -259,7 +265,10 @@ fn serve_at_desk<'s, 't, R: Threads + Wait + Sync, K: Sink, E: Sink, T: Clock, L
         (L.listening listener.old) (L.listening listener.new)
         (T.given ticks.old) (T.given ticks.new) result.2.hosted }
     ensures times { AreHostTimed L.Ticks.given result.2.hosted }
+    ensures recorded { result.2.hosted.recorded ≡ is_recorded begun.entry.parts.recording }
     ensures ports { (L.listening listener.new).ports ≡ (L.listening listener.old).ports }
+    ensures closed_last { ClosedLast L.listening (L.listening listener.old)
+        (L.listening listener.new) }
     ensures fault { result.2.hosted.stop ≡ Stop.AcceptFault
         → ListenerFailed L.listening listener.old listener.new }
     ensures faults { (L.listening listener.old).faults ≤ (L.listening listener.new).faults }
@@ -298,11 +307,21 @@ fn serve_at_desk<'s, 't, R: Threads + Wait + Sync, K: Sink, E: Sink, T: Clock, L
     let begin = HostBegin {
         root,
         taker: sinks.into_desk(alloc, recording, space),
-        record: recording == Record::Journal,
+        record: is_recorded(recording),
         most_live: MAX_LIVE,
     };
     let served = server.host(listener, ticks, lock, begin, &plan);
     take_apart(served)
+}
+
+/// Returns whether events are printed as they are made.
+fn is_recorded(recording: Record) -> bool
+    ensures { result ≡ is_recorded recording }
+{
+    match recording {
+        Record::Silent => false,
+        Record::Journal => true,
+    }
 }
 
 /// Takes the desk of a host apart. Returns its sinks, and what is left of the host.
@@ -322,7 +341,8 @@ fn take_apart<'s, 't, R: Wait + Sync, K, E, I, O, T>(
         × (result.2.hosted.whole ≡ served.entry.whole)
         × (result.2.hosted.hand ≡ served.entry.hand)
         × (result.2.hosted.tick_missed ≡ served.entry.tick_missed)
-        × (result.2.hosted.ticks_missed ≡ served.entry.ticks_missed) }
+        × (result.2.hosted.ticks_missed ≡ served.entry.ticks_missed)
+        × (result.2.hosted.recorded ≡ served.entry.recorded) }
 {
     let Hosted {
         taker,
@@ -330,6 +350,7 @@ fn take_apart<'s, 't, R: Wait + Sync, K, E, I, O, T>(
         lost,
         space,
         whole,
+        recorded,
         hand,
         tick_missed,
         ticks_missed,
@@ -341,6 +362,7 @@ fn take_apart<'s, 't, R: Wait + Sync, K, E, I, O, T>(
         lost,
         space,
         whole,
+        recorded,
         hand,
         tick_missed,
         ticks_missed,

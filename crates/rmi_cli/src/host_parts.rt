@@ -1,7 +1,7 @@
 //! All that `host` begins with.
 ghost use Rattle.std.specs.Prelude.{◌≡◌, IfOk, MatchResult};
-ghost use Rattle.turn_lock.specs.Handles.{IsFresh, opening_of};
-ghost use Rattle.rmi_cli.specs.Hosted.{ArePartsOf, AreReady, first_text, host_plan};
+ghost use Rattle.turn_lock.specs.Handles.{IsFresh, keeps_events, opening_of};
+ghost use Rattle.rmi_cli.specs.Hosted.{ArePartsOf, AreReady, first_text, host_plan, is_recorded};
 ghost use Rattle.rmi_cli.specs.Opening.{hosted_opening};
 ghost use Rattle.rmi_words.specs.HostWords.{IsHostInRange};
 ghost use Rattle.rmi_words.specs.Options.{IsInRange};
@@ -38,7 +38,7 @@ pub struct HostParts<'t, R: Wait + Sync> {
     pub address: Address,
     /// The port that is listened on.
     pub port: u16,
-    /// What is printed.
+    /// The choice of what `host` prints: what is exported at the end, or a journal of all events.
     pub recording: Record,
     /// The identifier of the space.
     pub space: Uid,
@@ -121,6 +121,7 @@ fn host_lock(
     requires { IsInRange options }
     ensures fresh { IfOk result (λ t. IsFresh t.0 t.1) }
     ensures opening { IfOk result (λ t. opening_of t.0 ≡ hosted_opening seed.now options) }
+    ensures records { IfOk result (λ t. keeps_events t.0 ≡ is_recorded output) }
 {
     let space = erased_space(alloc, seed, options)?;
     match lock_round(alloc, space, output) {
@@ -133,6 +134,7 @@ fn host_lock(
 fn lock_round(alloc: Global, space: Space, output: Record) -> Result<(TurnLock, Root), Space>
     ensures fresh { MatchResult result (λ t. IsFresh t.0 t.1 × (opening_of t.0 ≡ space))
         (λ s. s ≡ space) }
+    ensures records { IfOk result (λ t. keeps_events t.0 ≡ is_recorded output) }
 {
     match output {
         Record::Silent => TurnLock::around(alloc, space),

@@ -34,7 +34,8 @@
 //!   and the status is 5. The milliseconds of a link run from the moment of one of the server's own
 //!   turns to the moment that the link's clock gave next (`IsTimed`). If memory lacked for a Tick
 //!   that was due (`tick_missed`), the status is 5 at the end, unless the output or the listener
-//!   failed. The host's own input is not read (`host_unread`). With `journal` and status 0 the whole
+//!   failed. The host's own input is not read (`host_unread`), and its listener is closed last
+//!   (`host_closes`). Events are recorded exactly with `journal`; with it and status 0 the whole
 //!   journal was written. If its numbers are within their ranges and its units within the limit of a
 //!   kept history, `replay` prints what stands, and then the withdrawals (`host_journal`:
 //!   `hosts` with the law `laws::journals_replay`).
@@ -68,6 +69,7 @@
 //! - At `host`, that a link's time begins at the turn before that link, and not at another of the
 //!   server's own turns or, as for lack of memory, at its end: `ReportTaker` is told which link
 //!   begins by no clause. The test `a_link_takes_the_time_of_its_own_clock` shows it.
+//! - That memory lacked where the status is 5, and that a `host` lets any link be live at once.
 //! - At `host`, when a link is accepted, and when a line is written, before the stop or at it. That
 //!   the numbers of its events are within their types' ranges (`CanBeRead`): `interop/run` replays
 //!   journals of Java's clients.
@@ -97,9 +99,11 @@ pub mod laws;
 mod limits;
 mod link_line;
 mod loopback;
+mod obey;
 mod opening;
 mod outlines;
 mod program;
+mod report;
 mod serve_input;
 mod sink_state;
 mod stream_input;

@@ -1,5 +1,6 @@
 //! Hosting a service: serving it until its listener is told to stop.
 ghost use Rattle.std.specs.Prelude.{◌≡◌, ◌≤◌, false, IfOk, IfErr, OnOk, OnErr};
+ghost use Rattle.conn_server.specs.Hosts.{ClosedLast};
 ghost use Rattle.rmi_server.specs.Served.{GaveUpLate, IsHostedBy, RanToItsEnd, door_shown};
 ghost use Rattle.rmi_server.specs.SiteFaults.{IsSound, RefusesSite};
 
@@ -56,6 +57,8 @@ pub fn host<'t, R: Threads + Wait + Sync, L: Listener, Q: Clock, S: Service + Se
     ensures err { OnErr result (door.new ≡ door.old) }
     ensures fault { IfOk result (GaveUpLate L.listening door.old.listener door.new.listener) }
     ensures all { IfOk result (RanToItsEnd L.listening door.old.listener door.new.listener) }
+    ensures closed_last { OnOk result (ClosedLast L.listening
+        (L.listening door.old.listener) (L.listening door.new.listener)) }
     ensures ports { (L.listening door.new.listener).ports
         ≡ (L.listening door.old.listener).ports }
     ensures faults { (L.listening door.old.listener).faults

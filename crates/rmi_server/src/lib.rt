@@ -31,6 +31,8 @@
 //!   are gone. `example_ledger` tests these.
 //! - If a site has several faults, no clause says which comes.
 //! - What sockets do under `serve_tcp` and `host_tcp`, and that the end of its input stops `host_tcp`.
+//!   A socket tells contracts nothing, so a body of these two that serves nobody is not refused;
+//!   `interop/run` tests them. A body of `serve` or `host` is.
 //!
 //! The hands' calls, and what serves or hosts, wait for the service's lock, for links and for
 //! threads.

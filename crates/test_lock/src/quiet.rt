@@ -1,4 +1,4 @@
-//! Ticks of the root, which it makes only where a wait has ended.
+//! Ticks of the root, which are wanted only where a wait has ended.
 ghost use Rattle.std.specs.Prelude.{◌≡◌, ◌<◌, ◌^◌};
 ghost use Rattle.turn_lock.specs.Handles.{IsRootOf};
 
@@ -39,17 +39,18 @@ fn call_and_return<R: Wait>(rt: &R, alloc: Global, lock: &TurnLock, root: &mut R
     begun.is_ok() && ended.is_ok()
 }
 
-/// Returns whether the root made a Tick at this moment.
+/// Makes a Tick at this moment if one would do anything. Returns whether it was made.
 fn ticks_at<R: Wait>(rt: &R, alloc: Global, lock: &TurnLock, root: &mut Root, moment: u64) -> bool
     requires own { IsRootOf lock.now root.old }
     requires moment { moment < 2 ^ 61 }
     ensures root { IsRootOf lock.now root.new }
     ensures out { root.new.out ≡ root.old.out }
 {
-    match root.tick_if_ended(rt, alloc, lock, moment) {
-        Some((answer, _entries)) => answer.is_ok(),
-        None => false,
+    if !root.wants_tick(rt, lock, moment) {
+        return false;
     }
+    let (answer, _entries) = root.turn(rt, alloc, lock, moment, Ask::Tick);
+    answer.is_ok()
 }
 
 /// Whether Ticks were made before the wait ended, then, and after that; and the space.

@@ -13,6 +13,7 @@ struct Deaf {
     faults: u64,
     quiets: u64,
     closed: bool,
+    accepts: u64,
 }
 
 impl Listener for Deaf {
@@ -25,7 +26,7 @@ impl Listener for Deaf {
 
     type Ticks = MemClock;
 
-    ghost listening = { λ d. untold_listener d.faults false d.quiets d.closed };
+    ghost listening = { λ d. untold_listener d.faults false d.quiets d.closed d.accepts };
 
     fn listen(&mut self, _address: &str, _port: u16) -> Result<(), Failed> {
         self.faults = self.faults.saturating_add(1);
@@ -33,6 +34,7 @@ impl Listener for Deaf {
     }
 
     fn accept(&mut self) -> Result<Link<MemSource, MemSink, MemClock>, Failed> {
+        self.accepts = self.accepts.saturating_add(1);
         self.faults = self.faults.saturating_add(1);
         Err(Failed)
     }
@@ -64,6 +66,7 @@ fn check_deaf(rt: &impl Runs, alloc: Global, line: &str) {
             faults: 0,
             quiets: 0,
             closed: false,
+            accepts: 0,
         },
         dialer: unlinked(alloc),
         seed: SEED,

@@ -110,6 +110,7 @@ pub(crate) struct Gated {
     ended: Ended,
     calls: u32,
     faults: u64,
+    accepts: u64,
 }
 
 impl Gated {
@@ -128,6 +129,7 @@ impl Gated {
             ended,
             calls: 0,
             faults: 0,
+            accepts: 0,
         })
     }
 
@@ -139,6 +141,7 @@ impl Gated {
     /// Returns whether this call for a link fails, and counts the call.
     fn fails(&mut self) -> bool
         ensures faults { self.new.faults ≡ self.old.faults }
+        ensures accepts { self.new.accepts ≡ self.old.accepts }
         ensures links { self.new.links ≡ self.old.links }
     {
         let call = self.calls;
@@ -161,6 +164,7 @@ impl Gated {
         ensures told { self.new.links.told ≡ self.old.links.told }
         ensures quiets { self.new.links.quiets ≡ self.old.links.quiets }
         ensures closed { self.new.links.closed ≡ self.old.links.closed }
+        ensures accepts { self.new.accepts ≡ self.old.accepts }
         ensures untold { IfSome result (λ link. self.old.links.told ≡ false) }
     {
         if self.fails() {
@@ -214,13 +218,14 @@ impl Listener for Gated {
 
     type Ticks = MemClock;
 
-    ghost listening = { λ g. untold_listener g.faults g.links.told g.links.quiets g.links.closed };
+    ghost listening = { λ g. untold_listener g.faults g.links.told g.links.quiets g.links.closed g.accepts };
 
     fn listen(&mut self, _address: &str, _port: u16) -> Result<(), Failed> {
         Ok(())
     }
 
     fn accept(&mut self) -> Result<Link<GatedSource, GatedSink, MemClock>, Failed> {
+        self.accepts = self.accepts.saturating_add(1);
         match self.next() {
             Some(link) => Ok(link),
             None => {

@@ -126,6 +126,7 @@ struct Noting {
     gone: Gone,
     faults: u64,
     quiets: u64,
+    accepts: u64,
 }
 
 impl Noting {
@@ -135,6 +136,7 @@ impl Noting {
         ensures faults { self.new.faults ≡ self.old.faults }
         ensures quiets { self.new.quiets ≡ self.old.quiets }
         ensures closed { self.new.links.links.closed ≡ self.old.links.links.closed }
+        ensures accepts { self.new.accepts ≡ self.old.accepts }
     {
         let gone = Arc::try_clone(&self.gone).ok()?;
         let Link {
@@ -170,13 +172,14 @@ impl Listener for Noting {
 
     type Ticks = MemClock;
 
-    ghost listening = { λ g. untold_listener g.faults false g.quiets g.links.links.closed };
+    ghost listening = { λ g. untold_listener g.faults false g.quiets g.links.links.closed g.accepts };
 
     fn listen(&mut self, _address: &str, _port: u16) -> Result<(), Failed> {
         Ok(())
     }
 
     fn accept(&mut self) -> Result<Link<NotingSource, GatedSink, MemClock>, Failed> {
+        self.accepts = self.accepts.saturating_add(1);
         match self.next() {
             Some(link) => Ok(link),
             None => {
@@ -187,9 +190,12 @@ impl Listener for Noting {
     }
 
     fn wait(&mut self) -> Result<Waited<Link<NotingSource, GatedSink, MemClock>>, Failed> {
-        match self.accept() {
-            Ok(link) => Ok(Waited::Came(link)),
-            Err(failed) => Err(failed),
+        match self.next() {
+            Some(link) => Ok(Waited::Came(link)),
+            None => {
+                self.faults = self.faults.saturating_add(1);
+                Err(Failed)
+            }
         }
     }
 
@@ -231,6 +237,7 @@ fn noting_of(rt: &impl Abort, alloc: Global, gone: &Gone) -> Option<Noting> {
         gone,
         faults: 0,
         quiets: 0,
+        accepts: 0,
     })
 }
 

@@ -1,13 +1,9 @@
 -- What a pass sees that makes no turn.
-use Rattle.std.proofs.Common.{◌≡◌, ℕ, ◌<◌, [], ◌∷◌, ◌++◌, refl, sym, ap, ◌∙◌, subst, append_assoc, inl, inr, None}
-use Rattle.std.specs.Prelude.{Result, Ok, Err, IfOk}
-use Rattle.history.specs.Collector.{TableCollects}
-use Rattle.history.specs.declared.asks.Ask.{Ask}
+use Rattle.std.proofs.Common.{◌≡◌, ℕ, ◌<◌, [], ◌∷◌, refl, sym, ap, ◌∙◌, subst, inr, None}
+use Rattle.std.specs.Prelude.{Err}
 use Rattle.history.specs.declared.asks.Ask.TheVariants.{Tick}
 use Rattle.history.specs.declared.asks.Event.{Event}
-use Rattle.history.specs.declared.replies.Refused.{Refused}
 use Rattle.history.specs.declared.replies.Refused.TheVariants.{OutOfMemory}
-use Rattle.history.specs.declared.replies.Turn.{Turn}
 use Rattle.space.specs.Acts.{event_of}
 use Rattle.space.specs.Built.{SpaceHistory}
 use Rattle.turn_lock.specs.declared.view.View.{View}
@@ -15,10 +11,9 @@ use Rattle.turn_lock.specs.declared.view.SeatState.TheVariants.{Idle, Called}
 use Rattle.turn_lock.specs.declared.handles.Pass.{Pass}
 use Rattle.turn_lock.specs.declared.handles.TurnLock.{TurnLock}
 use Rattle.turn_lock.specs.Handles.{IsPassOf, view_of}
-use Rattle.turn_lock.specs.Orders.{TurnCollects}
 use Rattle.turn_lock.specs.PassPorts.{PassWent}
-use Rattle.turn_lock.specs.PortLaws.{others_on, went_all}
-use Rattle.turn_lock.specs.Rule.{Events, MayComeTo, Sat, SeesMore, TurnedAt, TurnedBy, TurnedWithEntry, in_state, some_event, space_with}
+use Rattle.turn_lock.specs.PortLaws.{went_all}
+use Rattle.turn_lock.specs.Rule.{Events, MayComeTo, Sat, SeesMore, TurnedAt, in_state, some_event, space_with}
 use Rattle.turn_lock.proofs.Passes.{pass_after}
 use Rattle.turn_lock.proofs.PortSteps.{went_unentered}
 
@@ -65,35 +60,3 @@ pass_sees l p q is table empty number s =
 
 pub went_sees : (p q : Pass) → q.seat.id ≡ p.seat.id → SeesMore (view_of p) (view_of q) → PassWent p q []
 went_sees p q id s = went_all p q [] (went_unentered p q [] [] s.0 some_event (unturned (view_of p) (view_of q) some_event s) refl id)
-
--- ---- a turn after that
-
-comes_on : (v : View) (h before : Events) → MayComeTo v h → MayComeTo (record v { seen = h }) before → MayComeTo v before
-comes_on v h before a b = record {
-  others = a.others ++ b.others;
-  after = b.after ∙ (ap (λ l. l ++ b.others) a.after ∙ append_assoc v.seen a.others b.others);
-  apart = others_on v.number a.others b.others a.apart b.apart;
-  legal = b.legal;
-  has_own = b.has_own;
-}
-
-turned_on : (v w : View) (h : Events) (by m : ℕ) (a : Ask) (answer : Result Turn Refused) → MayComeTo v h → TurnedWithEntry (record v { seen = h }) by m a answer w → TurnedBy v by m a answer w
-turned_on v w h by m a answer came (inl t) = (t.0, record { came = comes_on v h t.0 came t.1.came; step = t.1.step; after = t.1.after }, t.2)
-turned_on v w h by m a answer came (inr t) = subst (λ (x : Result Turn Refused). TurnedBy v by m a x w) (sym t.0) (h, unturned v w (event_of by m a) (h, came, t.1), tt)
-
--- A pass that had seen more makes a turn, by what it had seen before.
-pub turned_from : (u v w : View) (by m : ℕ) (a : Ask) (answer : Result Turn Refused) → SeesMore u v → TurnedWithEntry v by m a answer w → TurnedBy u by m a answer w
-turned_from u v w by m a answer s t = turned_on u w s.0 by m a answer s.1 (subst (λ (y : View). TurnedWithEntry y by m a answer w) s.2 t)
-
-collects_on : (v w : View) (h : Events) (m : ℕ) (a : Ask) → MayComeTo v h → TurnCollects (record v { seen = h }) m a w → TurnCollects v m a w
-collects_on v w h m a came t = (
-  came.others ++ t.0,
-  t.1,
-  t.2,
-  subst (λ (l : Events). TableCollects v.config l (event_of v.number m a) t.1) (ap (λ l. l ++ t.0) came.after ∙ append_assoc v.seen came.others t.0) t.3,
-  t.4,
-)
-
-pub collects_from : (u v w : View) (m : ℕ) (a : Ask) (answer : Result Turn Refused) → SeesMore u v → IfOk answer (λ _. TurnCollects v m a w) → IfOk answer (λ _. TurnCollects u m a w)
-collects_from u v w m a (Ok turn) s t = collects_on u w s.0 m a s.1 (subst (λ (y : View). TurnCollects y m a w) s.2 t)
-collects_from u v w m a (Err refused) s t = tt

@@ -1,5 +1,5 @@
 -- The lock's handles, as its contracts see them.
-use Rattle.std.specs.Prelude.{◌≡◌, ◌+◌, ◌<◌, ◌≤◌, []}
+use Rattle.std.specs.Prelude.{◌≡◌, ◌+◌, ◌<◌, ◌≤◌, Bool, []}
 use Rattle.history.specs.Steps.{IsLegal}
 use Rattle.space.specs.Built.{SpaceHistory}
 use Rattle.turn_lock.specs.declared.view.View.{View}
@@ -12,6 +12,10 @@ use Rattle.turn_lock.specs.Rule.{InOrder, most_passes, root, space_with}
 -- The space round which the lock was made.
 abbrev pub opening_of : TurnLock → SpaceHistory
 opening_of l = l.board.shared.key.value
+
+-- Whether the lock keeps further events until they are handed out.
+abbrev pub keeps_events : TurnLock → Bool
+keeps_events l = l.records
 
 -- What the pass knows.
 abbrev pub view_of : Pass → View

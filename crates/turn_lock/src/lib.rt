@@ -5,8 +5,8 @@
 //! takes it back, `close` gives the space. A pass knows a prefix of the one history and its own
 //! events there. `SeatPort` is the port of a pass; `ToldSeatPort` keeps no entries at run time. A
 //! lock made by `recording` keeps each further event until `take_recent` of the root hands it out.
-//! `tick_if_ended` makes a Tick only if a lease or a wait has ended, or if objects are still to be
-//! reported as gone.
+//! `wants_tick` says whether a Tick would do anything: whether a lease or a wait has ended, or
+//! objects are still to be reported as gone.
 //!
 //! # What is proved
 //!
@@ -30,8 +30,9 @@
 //!
 //! That memory is really lacking where a turn, `take_recent` or `close_recording` answers
 //! OutOfMemory. So a lock that records might keep no event, and say so whenever it is asked;
-//! `test_lock` tests that it keeps them. When `take_recent` hands an event out: it may lag behind
-//! the turns of other passes, and `close_recording` gives the rest. What `is_crowded` answers.
+//! `test_lock` tests that it keeps them. That a lock which does not record keeps none: `bench/soak`
+//! measures a host's memory. When `take_recent` hands an event out: it may lag behind the turns of
+//! other passes, and `close_recording` gives the rest. What `is_crowded` answers.
 //!
 //! # Choices
 //!

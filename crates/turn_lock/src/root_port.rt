@@ -119,7 +119,7 @@ impl Root {
 
 /// One turn of a pass, and its entries.
 #[tactic(auto, using(crate::proofs::OrderLaws::turn_collects))]
-pub(crate) fn turn_of_pass<R: Wait>(
+fn turn_of_pass<R: Wait>(
     rt: &R,
     alloc: Global,
     lock: &TurnLock,

@@ -32,7 +32,7 @@ with_next (Some told) next = Some (told ++ next ∷ [])
 
 -- what a listener shows: the addresses and ports that it was told to listen on and the links that it gave, in their order, where it
 -- tells them, how often it failed, whether it was told to stop, how often it answered that no link came or that it was not told to
--- stop, and whether it was closed
+-- stop, whether it was closed, and how often it was asked to accept a link however long that takes
 pub record Listening : Type 0 where
   pub ports : Option (List (List ℕ × ℕ))
   pub accepted : Option (List Accepted)
@@ -40,54 +40,56 @@ pub record Listening : Type 0 where
   pub told : Bool
   pub quiets : ℕ
   pub closed : Bool
+  pub accepts : ℕ
 
 -- A close was noted, and nothing else.
 abbrev pub IsClosedLike : Listening → Listening → Type 0
 IsClosedLike old new = new ≡ record old { closed = true }
 
 -- a listener that tells no content, by how often it failed, whether it was told to stop, how often it answered that no link came or
--- that it was not told to stop, and whether it was closed
-abbrev pub untold_listener : ℕ → Bool → ℕ → Bool → Listening
-untold_listener faults told quiets closed = record {
+-- that it was not told to stop, whether it was closed, and how often it was asked to accept a link
+abbrev pub untold_listener : ℕ → Bool → ℕ → Bool → ℕ → Listening
+untold_listener faults told quiets closed accepts = record {
   ports = None;
   accepted = None;
   faults = faults;
   told = told;
   quiets = quiets;
   closed = closed;
+  accepts = accepts;
 }
 
 -- What a call did that listens on a port of an address. It counts a fault only where it failed, and then leaves what is told.
 abbrev pub Listens : {T E : Type 0} → Listening → Listening → List ℕ → ℕ → Result T E → Type 0
 Listens old new address port (Ok _) =
     (new.ports ≡ with_next old.ports (address, port)) × (new.faults ≡ old.faults) × (new.quiets ≡ old.quiets)
-    × (new.closed ≡ old.closed)
+    × (new.closed ≡ old.closed) × (new.accepts ≡ old.accepts)
 Listens old new address port (Err _) =
-    (new.ports ≡ old.ports) × Rose old.faults new.faults × (new.quiets ≡ old.quiets) × (new.closed ≡ old.closed)
+    (new.ports ≡ old.ports) × Rose old.faults new.faults × (new.quiets ≡ old.quiets) × (new.closed ≡ old.closed) × (new.accepts ≡ old.accepts)
 
--- What a call did that accepts a link, which is shown so. It counts a fault only where it failed, and then gave none.
+-- What a call did that accepts a link, which is shown so. It is counted. It counts a fault only where it failed, and then gave none.
 abbrev pub Accepts : {L E : Type 0} → (L → Accepted) → Listening → Listening → Result L E → Type 0
 Accepts shown old new (Ok link) =
     (new.accepted ≡ with_next old.accepted (shown link)) × (new.faults ≡ old.faults) × (new.quiets ≡ old.quiets)
-    × (new.closed ≡ old.closed)
+    × (new.closed ≡ old.closed) × (new.accepts ≡ next_count old.accepts)
 Accepts shown old new (Err _) =
-    (new.accepted ≡ old.accepted) × Rose old.faults new.faults × (new.quiets ≡ old.quiets) × (new.closed ≡ old.closed)
+    (new.accepted ≡ old.accepted) × Rose old.faults new.faults × (new.quiets ≡ old.quiets) × (new.closed ≡ old.closed) × (new.accepts ≡ next_count old.accepts)
 
 -- What a call did that waits for a link, which is shown so. It gave one, or none came, which is counted, or the listener was told to stop.
 -- It counts a fault only where it failed, and then gave none. A listener that was told before answers that again, and nothing else.
 abbrev pub Waits : {L E : Type 0} → (L → Accepted) → Listening → Listening → Result (Waited L) E → Type 0
 Waits shown old new (Ok (Came link)) =
     (new.accepted ≡ with_next old.accepted (shown link)) × (new.faults ≡ old.faults) × (new.told ≡ old.told) × (old.told ≡ false)
-    × (new.quiets ≡ old.quiets) × (new.closed ≡ old.closed)
+    × (new.quiets ≡ old.quiets) × (new.closed ≡ old.closed) × (new.accepts ≡ old.accepts)
 Waits shown old new (Ok Quiet) =
     (new.accepted ≡ old.accepted) × (new.faults ≡ old.faults) × (new.told ≡ old.told) × (old.told ≡ false)
-    × (new.quiets ≡ next_count old.quiets) × (new.closed ≡ old.closed)
+    × (new.quiets ≡ next_count old.quiets) × (new.closed ≡ old.closed) × (new.accepts ≡ old.accepts)
 Waits shown old new (Ok Told) =
     (new.accepted ≡ old.accepted) × (new.faults ≡ old.faults) × (new.told ≡ true) × (new.quiets ≡ old.quiets)
-    × (new.closed ≡ old.closed)
+    × (new.closed ≡ old.closed) × (new.accepts ≡ old.accepts)
 Waits shown old new (Err _) =
     (new.accepted ≡ old.accepted) × Rose old.faults new.faults × (new.told ≡ old.told) × (old.told ≡ false)
-    × (new.quiets ≡ old.quiets) × (new.closed ≡ old.closed)
+    × (new.quiets ≡ old.quiets) × (new.closed ≡ old.closed) × (new.accepts ≡ old.accepts)
 
 -- the count of answers without a link and without a stop after a look with this answer
 abbrev pub quiets_after : ℕ → Bool → ℕ
@@ -100,6 +102,7 @@ abbrev pub Looks : Listening → Listening → Bool → Type 0
 Looks old new answer =
     (new.ports ≡ old.ports) × (new.accepted ≡ old.accepted) × (new.faults ≡ old.faults) × (new.told ≡ answer)
     × (new.quiets ≡ quiets_after old.quiets answer) × (old.told ≡ true → answer ≡ true) × (new.closed ≡ old.closed)
+    × (new.accepts ≡ old.accepts)
 
 -- what holds of the link that came, if one did
 abbrev pub IfCame : {L : Type 0} → Waited L → (L → Type 0) → Type 0
@@ -146,7 +149,7 @@ IsNew link = AreNewHalves (source_half link.source) (sink_half link.sink)
 -- a listener in memory: the links that it has still to give, those that it gave, the addresses and ports that it was told to listen
 -- on, how often it failed, the indices of the waits to which no link comes, the index of the wait from which on it is told to stop, if
 -- any, how many waits there were, which is the index of the next one, whether it was told to stop, how often it answered that no link
--- came or that it was not told to stop, and whether it was closed
+-- came or that it was not told to stop, whether it was closed, and how often it was asked to accept a link
 pub record ListenerState : Type 0 where
   pub links : List (Link SourceState SinkState ClockState)
   pub accepted : List (Link SourceState SinkState ClockState)
@@ -158,6 +161,7 @@ pub record ListenerState : Type 0 where
   pub told : Bool
   pub quiets : ℕ
   pub closed : Bool
+  pub accepts : ℕ
 
 -- what a listener in memory shows
 abbrev pub listening_in_memory : ListenerState → Listening
@@ -168,6 +172,7 @@ listening_in_memory l = record {
   told = l.told;
   quiets = l.quiets;
   closed = l.closed;
+  accepts = l.accepts;
 }
 
 -- a dialer in memory: the links that it has still to give, those that it gave with what was asked for, and how often it failed

@@ -41,7 +41,8 @@ pub trait Listener {
 
     // The addresses and ports that it was told to listen on and the links that it gave, each as it was then, in their order, where the
     // listener tells them, how often it failed, whether it was told to stop, how often it answered that no link came or that it was
-    // not told to stop, and whether it was closed. The counts never fall, and stand still at the greatest u64.
+    // not told to stop, whether it was closed, and how often it was asked to accept a link. The counts never fall, and stand still at
+    // the greatest u64.
     ghost listening: { Self → Listening };
 
     /// Listens on a port of an address from now on. The address is a name or the numbers of one, as `127.0.0.1`.
@@ -53,7 +54,7 @@ pub trait Listener {
         ensures accepted { (listening self.new).accepted ≡ (listening self.old).accepted }
         ensures told { (listening self.new).told ≡ (listening self.old).told };
 
-    /// The next connection. Neither of its halves failed or was shut yet.
+    /// The next connection, however long that takes. Neither of its halves failed or was shut yet.
     ///
     /// `Failed` comes only where the count of faults rose. A listener that was told to stop fails.
     fn accept(&mut self) -> Result<Link<Self::In, Self::Out, Self::Ticks>, Failed>
@@ -114,6 +115,7 @@ pub struct MemListener {
     told: bool,
     quiets: u64,
     closed: bool,
+    accepts: u64,
 }
 
 // Written out, so that whoever owns one has one call at each exit, and not the drop of each field.
@@ -131,6 +133,7 @@ impl Drop for MemListener {
             told: _,
             quiets: _,
             closed: _,
+            accepts: _,
         } = self;
         drop(links);
         drop(accepted);
@@ -158,6 +161,7 @@ impl Model for MemListener {
       told = l.told;
       quiets = l.quiets;
       closed = l.closed;
+      accepts = l.accepts;
     } };
 
     ghost invariant = { λ l. AllByRecursion IsNew (into_iter_items l.links)
@@ -179,6 +183,7 @@ impl MemListener {
         ensures told { result.told ≡ false }
         ensures quiets { result.quiets ≡ 0 }
         ensures closed { result.closed ≡ false }
+        ensures accepts { result.accepts ≡ 0 }
     {
         MemListener::with_script(alloc, links, Kinds::new(alloc), None)
     }
@@ -202,6 +207,7 @@ impl MemListener {
         ensures told { result.told ≡ false }
         ensures quiets { result.quiets ≡ 0 }
         ensures closed { result.closed ≡ false }
+        ensures accepts { result.accepts ≡ 0 }
     {
         MemListener {
             alloc,
@@ -215,6 +221,7 @@ impl MemListener {
             told: false,
             quiets: 0,
             closed: false,
+            accepts: 0,
         }
     }
 
@@ -244,6 +251,35 @@ impl MemListener {
         ensures { result ≡ self.now.closed }
     {
         self.closed
+    }
+
+    /// Gives the link at the front of the list. It fails where none is left, where no memory is found, and after the listener was told to stop.
+    fn take_link(&mut self) -> Result<MemLink, Failed>
+        ensures halves { IfOk result
+            (λ link. AreNewHalves (source_half link.source) (sink_half link.sink)) }
+        ensures untold { OnOk result (self.old.told ≡ false) }
+        ensures next { IfOk result (λ link. self.old.links ≡ link ∷ self.new.links) }
+        ensures gave { IfOk result (λ link. self.new ≡ record self.old {
+          links = self.new.links;
+          accepted = self.old.accepted ++ link ∷ [];
+        }) }
+        ensures failed { OnErr result
+            (self.new ≡ record self.old { faults = next_count self.old.faults }) }
+    {
+        if self.told || self.accepted.reserve(1).is_err() {
+            self.faults = self.faults.saturating_add(1);
+            return Err(Failed);
+        }
+        match self.links.next() {
+            Some(link) => {
+                self.accepted.push_reserved(Snapshot::of(&link));
+                Ok(link)
+            }
+            None => {
+                self.faults = self.faults.saturating_add(1);
+                Err(Failed)
+            }
+        }
     }
 }
 
@@ -327,20 +363,8 @@ impl Listener for MemListener {
         ensures kept { OnErr result (self.new.links ≡ self.old.links) }
         ensures counted { OnErr result (self.new.faults ≡ next_count self.old.faults) }
     {
-        if self.told || self.accepted.reserve(1).is_err() {
-            self.faults = self.faults.saturating_add(1);
-            return Err(Failed);
-        }
-        match self.links.next() {
-            Some(link) => {
-                self.accepted.push_reserved(Snapshot::of(&link));
-                Ok(link)
-            }
-            None => {
-                self.faults = self.faults.saturating_add(1);
-                Err(Failed)
-            }
-        }
+        self.accepts = self.accepts.saturating_add(1);
+        self.take_link()
     }
 
     /// It is told to stop, gives no link or does what `accept` does, by the wait's index.
@@ -374,7 +398,7 @@ impl Listener for MemListener {
             self.quiets = self.quiets.saturating_add(1);
             return Ok(Waited::Quiet);
         }
-        match self.accept() {
+        match self.take_link() {
             Ok(link) => Ok(Waited::Came(link)),
             Err(failed) => Err(failed),
         }

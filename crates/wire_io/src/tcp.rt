@@ -1,5 +1,5 @@
-//! Connections over TCP. They tell no content. Contracts see each half as its count of faults and whether it was shut, a listener as its count
-//! of faults and whether it was told to stop, and a dialer as its count of faults.
+//! Connections over TCP. They tell no content. Contracts see each half as its count of faults and whether it was shut, and a dialer as its
+//! count of faults. Of a listener they see its counts (`untold_listener` of `specs/Links`), and whether it was told to stop or closed.
 
 mod dial;
 mod link;

@@ -26,7 +26,7 @@ const MAX_ACCEPT_WAITS: u32 = u32::MAX;
 /// Accepts connections over TCP.
 ///
 /// Each error of the system is a fault, and so is an `accept` or a `wait` before `listen`. A connection that its peer gave up while it waited is
-/// passed over. It is told to stop where someone sets its flag and the next `wait` sees it, which gives the socket back to the system. From then on
+/// passed over. It is told to stop where someone sets its flag and the next `wait` or `is_told` sees it, which gives the socket back to the system. From then on
 /// nothing more is read of the links that it gave: a read ends within [`LOOK_SECONDS`], as if the peer sent nothing more.
 #[derive(Drop)]
 pub struct TcpListen<R> {
@@ -38,6 +38,7 @@ pub struct TcpListen<R> {
     faults: u64,
     quiets: u64,
     closed: bool,
+    accepts: u64,
 }
 
 impl<R> Model for TcpListen<R> {
@@ -45,13 +46,13 @@ impl<R> Model for TcpListen<R> {
 
     ghost Value = { Listening };
 
-    ghost view = { λ l. untold_listener l.faults l.told l.quiets l.closed };
+    ghost view = { λ l. untold_listener l.faults l.told l.quiets l.closed l.accepts };
 }
 
 impl<R> TcpListen<R> {
     /// The listener over this runtime's sockets, which does not listen yet. It is never told to stop. It takes no memory.
     pub fn new(alloc: Global, rt: R) -> TcpListen<R>
-        ensures { result ≡ untold_listener 0 false 0 false }
+        ensures { result ≡ untold_listener 0 false 0 false 0 }
     {
         TcpListen {
             rt,
@@ -62,12 +63,13 @@ impl<R> TcpListen<R> {
             faults: 0,
             quiets: 0,
             closed: false,
+            accepts: 0,
         }
     }
 
     /// The listener over this runtime's sockets, which does not listen yet. It is told to stop where this flag is set. It takes no memory.
     pub fn with_flag(alloc: Global, rt: R, flag: Arc<AtomicBool>) -> TcpListen<R>
-        ensures { result ≡ untold_listener 0 false 0 false }
+        ensures { result ≡ untold_listener 0 false 0 false 0 }
     {
         TcpListen {
             rt,
@@ -78,6 +80,7 @@ impl<R> TcpListen<R> {
             faults: 0,
             quiets: 0,
             closed: false,
+            accepts: 0,
         }
     }
 
@@ -263,9 +266,12 @@ where
         ensures ports { self.new.ports ≡ self.old.ports }
         ensures told { self.new.told ≡ self.old.told }
         ensures untold { OnOk result (self.old.told ≡ false) }
-        ensures counted { OnErr result
-            (self.new ≡ record self.old { faults = next_count self.old.faults }) }
+        ensures counted { OnErr result (self.new ≡ record self.old {
+          faults = next_count self.old.faults;
+          accepts = next_count self.old.accepts;
+        }) }
     {
+        self.accepts = self.accepts.saturating_add(1);
         if !self.told {
             if let Ok(link) = self.next_link() {
                 return Ok(link);

@@ -17,6 +17,7 @@ returns-clause-hosted g c =
       back = s.back;
       untold = search rules;
       closed = search rules;
+      waited = search rules;
     }
 
 pub returns-clause-heard : goal.returns-clause-heard

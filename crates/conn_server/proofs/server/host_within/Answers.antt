@@ -60,6 +60,7 @@ returns-clause-hosted g c =
       back = e.back;
       untold = e.untold;
       closed = a.ensures.closed;
+      waited = e.waited;
     }
 
 pub returns-clause-fault : goal.returns-clause-fault

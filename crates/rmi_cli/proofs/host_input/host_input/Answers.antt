@@ -1,4 +1,4 @@
-use Rattle.std.proofs.Common.{inr, refl}
+use Rattle.std.proofs.Common.{inl, inr, refl}
 use Rattle.rmi_cli.specs.declared.end.RunEnd.TheVariants.{OutOfMemory}
 use Rattle.rmi_cli.proofs.Hosting.{telling_none}
 use Rattle.rmi_cli.proofs.host_input.host_input.Goals as goal
@@ -8,3 +8,6 @@ returns-in-Ok-clause-hosts g c seed asked are = c.host_on.ensures.hosts seed ask
 
 pub returns-in-Err-clause-hosts : goal.returns-in-Err-clause-hosts
 returns-in-Err-clause-hosts g c seed asked are = telling_none _ _ _ _ seed asked _ _ OutOfMemory (inr refl)
+
+pub returns-in-Err-clause-closes : goal.returns-in-Err-clause-closes
+returns-in-Err-clause-closes g c = inl refl

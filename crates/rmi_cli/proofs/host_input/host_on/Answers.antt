@@ -1,12 +1,13 @@
-use Rattle.std.proofs.Common.{◌∙◌, ℕ, List, [], ◌∷◌, ap, arith, sym, subst}
+use Rattle.std.proofs.Common.{◌∙◌, ℕ, List, [], ◌∷◌, ap, arith, inl, inr, sym, subst}
 use Rattle.wire_io.specs.Links.{with_next}
 use Rattle.rmi_cli.specs.Desk.{recorded_lines, told_lines}
+use Rattle.rmi_cli.specs.Hosted.{is_recorded}
 use Rattle.rmi_cli.specs.LinkLine.{listening_line}
 use Rattle.rmi_cli.specs.Sinks.{Goes}
 use Rattle.rmi_cli.specs.declared.sink_state.SinkState.{SinkState}
 use Rattle.rmi_cli.specs.declared.sink_state.SinkState.TheVariants.{Whole}
 use Rattle.rmi_cli.proofs.Hosting.{closed_printed, deaf_end, failed_end, hosts_deaf, hosts_heard, known_end, one_text, prints_all}
-use Rattle.rmi_cli.proofs.Linking.{added, deaf, listened, listened_quietly, unfailed}
+use Rattle.rmi_cli.proofs.Linking.{added, deaf, listened, listened_open, listened_quietly, listened_unasked, unfailed}
 use Rattle.rmi_cli.proofs.Sinking.{goes_shut}
 use Rattle.rmi_cli.proofs.host_input.host_on.Goals as goal
 
@@ -19,8 +20,8 @@ returns-clause-hosts g c seed asked are =
     let listens = added before heard _ _ _ well c.listen.ensures.listens in
     hosts_heard _ _ _ _ seed asked c.args.parts.address port before heard _ _ _ _ _ c.host_links-hosted.result.hosted _ _ _ _ _ _ are.address are.port
     (listens ∙ ap (λ (a : List ℕ). with_next before.ports (a, port)) c.as_str.ensures) c.listen.ensures.accepted (unfailed before heard _ _ _ well c.listen.ensures.listens) c.listen.ensures.told
-    (listened_quietly before heard _ _ _ c.listen.ensures.listens) c.host_links-hosted.ensures.ports
-    (c.host_links-hosted.ensures.links seed asked are) c.host_links-hosted.ensures.times
+    (listened_quietly before heard _ _ _ c.listen.ensures.listens) (listened_unasked before heard _ _ _ c.listen.ensures.listens) c.host_links-hosted.ensures.ports
+    (c.host_links-hosted.ensures.links seed asked are) c.host_links-hosted.ensures.times (c.host_links-hosted.ensures.recorded ∙ ap is_recorded are.recording)
     (prints_all c.args.parts.recording asked.output _ c.args.parts.space c.args.parts.first _ _ _ _ _ _ c.host_links-hosted.result.hosted _ are.recording are.space are.first
     c.open_sinks-first.ensures.printed c.host_links-hosted.ensures.printed c.close_output.ensures.ends)
     c.open_sinks-first.ensures.told
@@ -77,3 +78,18 @@ returns-clause-errors_open g c =
     let left = c.host_links-hosted.result in
     goes_shut mid new (told_lines left.hosted.taker.reports) c.open_sinks-first.result.told left.states.told c.host_links-hosted.ensures.told
     ∙ goes_shut old mid (listening_line c.args.parts.address c.args.parts.port ∷ []) Whole c.open_sinks-first.result.told c.open_sinks-first.ensures.told
+
+-- ---- the listener is closed last
+
+pub returns-then-is_err-clause-closes : goal.returns-then-is_err-clause-closes
+returns-then-is_err-clause-closes g c =
+    inl (listened_open (g.L.Listener.listening c.args.host.now.listener) (g.L.Listener.listening c.listen.new.self) _ _ _ c.listen.ensures.listens)
+
+pub returns-clause-closes : goal.returns-clause-closes
+returns-clause-closes g c =
+    let last = c.host_links-hosted.ensures.closed_last in
+    inr (record {
+      before = last.before;
+      still_open = last.still_open ∙ listened_open (g.L.Listener.listening c.args.host.now.listener) (g.L.Listener.listening c.listen.new.self) _ _ _ c.listen.ensures.listens;
+      closes = last.closes;
+    })

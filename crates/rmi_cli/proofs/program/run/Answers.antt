@@ -198,6 +198,9 @@ returns-in-Ok-clause-hosts g c asked is = c.obey.ensures.hosts asked (asked_once
 pub returns-in-Ok-clause-host_unread : goal.returns-in-Ok-clause-host_unread
 returns-in-Ok-clause-host_unread g c asked is = c.obey.ensures.host_unread asked (asked_once _ _ (Host asked) c.in-Ok.ensures.asked is)
 
+pub returns-in-Ok-clause-host_closes : goal.returns-in-Ok-clause-host_closes
+returns-in-Ok-clause-host_closes g c asked is = c.obey.ensures.host_closes asked (asked_once _ _ (Host asked) c.in-Ok.ensures.asked is)
+
 pub returns-in-Ok-clause-host_fault : goal.returns-in-Ok-clause-host_fault
 returns-in-Ok-clause-host_fault g c asked is = c.obey.ensures.host_fault asked (asked_once _ _ (Host asked) c.in-Ok.ensures.asked is)
 

@@ -1,10 +1,10 @@
-use Rattle.std.proofs.Common.{◌∙◌, ◌+◌, ◌++◌, [], ap, append-nil, arith, refl, subst, sym}
+use Rattle.std.proofs.Common.{◌∙◌, ◌+◌, ◌++◌, [], ap, append-nil, refl, subst, sym}
 use Rattle.std.specs.Prelude.{ℕ, Option}
 use Rattle.turn_lock.specs.Handles.{view_of}
 use Rattle.conn_server.specs.Handed.{AreHanded}
 use Rattle.conn_server.proofs.Ending.{begins_gained, learns_gained}
 use Rattle.conn_server.proofs.Recording.{handed_more, place_same}
-use Rattle.conn_server.proofs.Taking.{handed_at_turn, tick_accepting}
+use Rattle.conn_server.proofs.Taking.{looked_accepting, tick_accepting}
 use Rattle.conn_server.proofs.admission.Acceptor.hand_on.Goals as goal
 
 pub returns-in-Ok-clause-accepting : goal.returns-in-Ok-clause-accepting
@@ -22,10 +22,7 @@ returns-in-Ok-clause-accepting g c =
 pub returns-in-Err-clause-accepting : goal.returns-in-Err-clause-accepting
 returns-in-Err-clause-accepting g c =
     let t = c.take_recent.ensures in
-    let shared = c.args.shared.now in
-    let a = c.args.self.now in
-    tick_accepting _ _ _ _ _ shared.lock.now shared.book.now a _ [] c.requires.accepting t.root t.counts.0 t.counts.1 t.went.views (sym (append-nil _)) (record { reports = refl; room = omega arith; still = λ report e. e }) refl refl refl
-    (handed_at_turn _ _ _ _ _ shared.lock.now shared.book.now a _ [] _ _ c.requires.accepting t.went.views refl refl)
+    looked_accepting _ _ _ _ _ _ _ c.args.self.now c.take_recent.new.self c.requires.accepting t.root t.counts.0 t.counts.1 t.went.views
 
 pub returns-in-Ok-clause-follows : goal.returns-in-Ok-clause-follows
 returns-in-Ok-clause-follows g c = (begins_gained (view_of c.args.self.now.root.pass) (view_of c.take_recent.new.self.pass) [] c.take_recent.ensures.went.views, refl)

@@ -1,4 +1,4 @@
-use Rattle.std.proofs.Common.{◌∙◌, ◌+◌, ◌∷◌, [], ap, subst, sym, refl, arith, length, rules}
+use Rattle.std.proofs.Common.{ℕ, ◌∙◌, ◌+◌, ◌∷◌, [], ap, subst, sym, refl, arith, length, rules}
 use Rattle.std.specs.Prelude.{FitsSigned, vec_len, vec_capacity}
 use Rattle.std.specs.Int.{w32}
 use Rattle.std.proofs.lemmas.Int.{to_z-of_z}
@@ -27,7 +27,8 @@ returns-clause-next g c =
       can = record { told = t.calls ∙ ready.told; peer_host = ready.peer_host; host = ready.host; time = ready.time; drawn = ready.drawn };
       made = made_for g.I.Source.half g.O.Sink.half g.T.Clock.given g.H.Worker.shown g.H.Worker.moves c.args.shared.now.plan.now _ _ c.args.link _ c.of-first.ensures
           (ap (λ n. n + 1) (sym count)) refl refl c.requires.halves refl (to_z-of_z w32 c.args.link.port fits) ready.terms
-          (rw c.in-Some.is at t.asked) (rw c.in-Some.is at t.end) (rw c.in-Some.is at t.given)
+          (rw c.in-Some.is at t.is_tick).0 (rw c.in-Some.is at t.is_tick).1
+          (subst (λ (m : ℕ). Gave (g.T.Clock.given c.args.link.clock) (g.T.Clock.given c.now-moment.new.self) (m ∷ [])) (sym (rw c.in-Some.is at t.at_moment)) c.now-moment.ensures.given)
           (t.number ∙ ready.hand)
           ((g.H.Worker.shown hand).seen, (g.H.Worker.shown hand).state, ready.untold, ready.uncounted, rw c.in-Some.is at t.seen, rw c.in-Some.is at t.state);
       after_tick = rw c.in-Some.is at t.place;
@@ -39,6 +40,6 @@ pub returns-in_default-clause-lost : goal.returns-in_default-clause-lost
 returns-in_default-clause-lost g c =
     let given = g.T.Clock.given in
     let s = c.shut_link.ensures in
-    let (moment, gave) = c.with_tick-entry.ensures.moment in
+    let moment = c.now-moment.result in
     lost_link g.I.Source.half g.O.Sink.half given c.args.link c.shut_link.result (moment ∷ []) c.requires.halves s.source s.sink (omega arith)
-    (subst (λ t. Gave (given c.args.link.clock) (given t) (moment ∷ [])) (sym s.clock) gave)
+    (subst (λ t. Gave (given c.args.link.clock) (given t) (moment ∷ [])) (sym s.clock) c.now-moment.ensures.given)

@@ -23,7 +23,7 @@ returns-in-Some-clause-goes_on g c l0 l1 l2 gave_first h w ports =
     let lost = c.in-Some.ensures in
     halted_lost _ _ _ _ _ _ _ _ _ _ _ l0 gave_first l1 l2 (accepted_as g.I.Source.half g.O.Sink.half g.T.Clock.given c.in-Came.link) _ c.catch_up.new.self _ _ c.in-Some.lost
     (hosting_joined _ _ _ _ _ _ _ _ _ _ _ l0 gave_first l1 _ _ _ _ h joined.accepting joined.follows joined.ticks joined.links joined.begun)
-    (omega (arith, few, begun)) (record { accepted = came.0; faults = omega (arith, same); quiets = came.4; same_told = came.2; same_ports = ports })
+    (omega (arith, few, begun)) (record { accepted = came.0; faults = omega (arith, same); quiets = came.4; same_told = came.2; same_ports = ports; waited = came.6 })
     lost.accepting lost.follows lost.tied.0 lost.tied.1 lost.links lost.count lost.lost
 
 pub returns-in-None-clause-keeps : goal.returns-in-None-clause-keeps
@@ -39,7 +39,7 @@ returns-in-None-clause-goes_on g c l0 l1 l2 gave_first h w ports =
     let admitted = c.in-None.ensures in
     hosting_link _ _ _ _ _ _ _ _ _ _ _ l0 gave_first l1 l2 (accepted_as g.I.Source.half g.O.Sink.half g.T.Clock.given c.in-Came.link) _ c.catch_up.new.self _ _
     (hosting_joined _ _ _ _ _ _ _ _ _ _ _ l0 gave_first l1 _ _ _ _ h joined.accepting joined.follows joined.ticks joined.links joined.begun)
-    (omega (arith, few, begun)) (record { accepted = came.0; faults = omega (arith, same); quiets = came.4; same_told = came.2; same_ports = ports })
+    (omega (arith, few, begun)) (record { accepted = came.0; faults = omega (arith, same); quiets = came.4; same_told = came.2; same_ports = ports; waited = came.6 })
     admitted.accepting admitted.follows admitted.tied admitted.links admitted.count
 
 pub returns-in-Quiet-clause-keeps : goal.returns-in-Quiet-clause-keeps
@@ -54,7 +54,7 @@ returns-in-Quiet-clause-goes_on g c l0 l1 l2 gave_first h w ports =
     let counted = none.4 in
     hosting_quiet _ _ _ _ _ _ _ _ _ _ _ l0 gave_first l1 l2 _ _ c.catch_up.new.self _ _ _
     (hosting_joined _ _ _ _ _ _ _ _ _ _ _ l0 gave_first l1 _ _ _ _ h joined.accepting joined.follows joined.ticks joined.links joined.begun)
-    (record { accepted = none.0; faults = omega (arith, same); quiets = omega (arith, counted); same_told = none.2; same_ports = ports })
+    (record { accepted = none.0; faults = omega (arith, same); quiets = omega (arith, counted); same_told = none.2; same_ports = ports; waited = none.6 })
     quiet.accepting quiet.follows quiet.all quiet.begun (λ t. quiet.quiet gave_first l0.quiets l1.quiets _ t)
 
 pub returns-in-Told-clause-keeps : goal.returns-in-Told-clause-keeps
@@ -65,4 +65,4 @@ returns-in-Told-clause-goes_on g c l0 l1 l2 gave_first h w ports =
     let joined = c.catch_up.ensures in
     let told = rw c.in-Told.is at w in
     let same = told.1 in
-    halted_told _ _ _ _ _ _ _ _ _ _ _ l0 gave_first l1 l2 _ _ _ _ h joined.accepting joined.follows joined.ticks joined.links joined.begun told.0 (omega (arith, same)) told.2 ports told.3
+    halted_told _ _ _ _ _ _ _ _ _ _ _ l0 gave_first l1 l2 _ _ _ _ h c.requires.few joined.accepting joined.follows joined.ticks joined.links joined.begun told.0 (omega (arith, same)) told.2 ports told.3 told.5

@@ -41,6 +41,7 @@ returns-clause-hosts g c =
       back = rw closed.ensures.lost s.back;
       untold = rw closed.ensures.stop s.untold;
       closed = s.closed;
+      waited = s.waited;
       handed = closed.ensures.handed;
       all_handed = closed.ensures.whole;
     }
